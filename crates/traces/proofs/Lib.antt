@@ -1,0 +1,2 @@
+-- Laws on ticks and comparisons.
+pub mod Laws

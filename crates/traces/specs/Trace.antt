@@ -1,0 +1,40 @@
+-- Ticks and traces: what the numbers of a tick mean. Definitions only.
+use mathlib.Core.Bool.{Bool, true, false}
+use mathlib.Core.List.{List}
+use Prim.Native.Nat.{ℕ, zero, suc, _/_, _%_, _^_}
+use lib.ListN.{getD}
+use Rattle.traces.specs.declared.Tick.{Tick}
+
+-- "A flow is a boolean (0, 1)": a truth value as a number.
+abbrev pub truth : Bool → ℕ
+truth true = 1
+truth false = 0
+
+-- "any number but 0 is yes"
+abbrev pub nonzero : ℕ → Bool
+nonzero zero = false
+nonzero (suc n) = true
+
+-- Bit j of a number.
+abbrev pub bit : ℕ → ℕ → ℕ
+bit x j = x / 2 ^ j % 2
+
+-- "a signal its bit at the tick"
+abbrev pub signalAt : Tick → ℕ → Bool
+signalAt k j = nonzero (bit (k .signals) j)
+
+-- "A parameter is its value at these ticks."
+abbrev pub parameterAt : Tick → ℕ → ℕ
+parameterAt k j = getD (k .parameters) j 0
+
+-- "start (any number but 0 is yes)"
+abbrev pub starts : Tick → Bool
+starts k = nonzero (k .start)
+
+-- A trace gives the tick of each number, from 0 on.
+abbrev pub Trace : Type 0
+Trace = ℕ → Tick
+
+-- The trace of a list of ticks; past the list's end, ticks like d.
+abbrev pub traceOf : Tick → List Tick → Trace
+traceOf d ks i = getD ks i d
