@@ -1,0 +1,91 @@
+-- A tree as numbers: records of four, operands before what joins them. Reading a rule writes it, compiling reads it.
+-- Each constructor has a kind of its own, so that the numbers determine the tree. Definitions only.
+use mathlib.Core.List.{List, [], _∷_, _++_}
+use Prim.Native.Nat.{ℕ, _+_}
+use Rattle.traces.specs.Trace.{truth}
+use Rattle.traces.specs.Compare.{opNumber}
+use Rattle.formulas.specs.Formula.{Num, Test, Count}
+use Rattle.formulas.specs.Formula.Num.{literal, parameter}
+use Rattle.formulas.specs.Formula.Test.{begin, end, point, held, kept}
+use Rattle.formulas.specs.Formula.Count.{sum, age}
+use Rattle.formulas.specs.Tree.{Tree}
+use Rattle.formulas.specs.Tree.Tree.{constant, signal, neg, and, or, then, chop, exists, test, len, count}
+
+-- The kinds of records. `LEAD-END` stands between the two parts of a `then`; 15 is left for a whole rule.
+abbrev pub CONSTANT : ℕ
+CONSTANT = 0
+
+abbrev pub SIGNAL : ℕ
+SIGNAL = 1
+
+abbrev pub NOT : ℕ
+NOT = 2
+
+abbrev pub AND : ℕ
+AND = 3
+
+abbrev pub OR : ℕ
+OR = 4
+
+-- `begin`, and then the other tests
+abbrev pub TEST : ℕ
+TEST = 5
+
+abbrev pub LEN : ℕ
+LEN = 10
+
+-- `sum`, and then `age`
+abbrev pub COUNT : ℕ
+COUNT = 11
+
+abbrev pub LEAD-END : ℕ
+LEAD-END = 13
+
+abbrev pub THEN : ℕ
+THEN = 14
+
+abbrev pub CHOP : ℕ
+CHOP = 16
+
+abbrev pub EXISTS : ℕ
+EXISTS = 17
+
+-- The tests and the counts, numbered in document 01's order.
+abbrev pub testNumber : Test → ℕ
+testNumber begin = 0
+testNumber end = 1
+testNumber point = 2
+testNumber held = 3
+testNumber kept = 4
+
+abbrev pub countNumber : Count → ℕ
+countNumber sum = 0
+countNumber age = 1
+
+-- The equation kind that compares a count with n: 10 with a literal, 11 with a parameter.
+abbrev pub numKind : Num → ℕ
+numKind (literal n) = 10
+numKind (parameter n) = 11
+
+-- The literal itself, or which parameter.
+abbrev pub numValue : Num → ℕ
+numValue (literal n) = n
+numValue (parameter n) = n
+
+-- One record.
+abbrev pub row : ℕ → ℕ → ℕ → ℕ → List ℕ
+row k a b c = k ∷ a ∷ b ∷ c ∷ []
+
+-- A tree's records.
+abbrev pub flat : Tree → List ℕ
+flat (constant c) = row CONSTANT (truth c) 0 0
+flat (signal j) = row SIGNAL j 0 0
+flat (neg t) = flat t ++ row NOT 0 0 0
+flat (and a b) = flat a ++ (flat b ++ row AND 0 0 0)
+flat (or a b) = flat a ++ (flat b ++ row OR 0 0 0)
+flat (then a b) = flat a ++ (row LEAD-END 0 0 0 ++ (flat b ++ row THEN 0 0 0))
+flat (chop a b) = flat a ++ (flat b ++ row CHOP 0 0 0)
+flat (exists j t) = flat t ++ row EXISTS j 0 0
+flat (test k p) = flat p ++ row (TEST + testNumber k) 0 0 0
+flat (len o n) = row LEN (opNumber o) (numKind n) (numValue n)
+flat (count k p o n) = flat p ++ row (COUNT + countNumber k) (opNumber o) (numKind n) (numValue n)

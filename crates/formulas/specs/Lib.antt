@@ -1,0 +1,5 @@
+-- What a rule is and what it means: the part of the specification that speaks of neither texts nor tables.
+pub mod Formula
+pub mod Meaning
+pub mod Tree
+pub mod Arena

@@ -1,0 +1,87 @@
+-- The interval meaning of a formula on ticks b to e, b <= e, of a trace (document 01, "Interval meaning"). Definitions only.
+use mathlib.Core.Bool.{Bool, true, false, not, _&&_, _||_, cond}
+use mathlib.Core.Option.{Option, none, some}
+use Prim.Native.Nat.{ℕ, zero, suc, _-_}
+use lib.Dec.{eqb, ltb}
+use Rattle.traces.specs.declared.Tick.{Tick}
+use Rattle.traces.specs.Trace.{Trace, signalAt, parameterAt, starts, truth}
+use Rattle.traces.specs.Compare.{compares}
+use Rattle.formulas.specs.Formula.{Num, Prop, Formula}
+use Rattle.formulas.specs.Formula.Num.{literal, parameter}
+use Rattle.formulas.specs.Formula.Prop.{constant, signal, negP, andP, orP}
+use Rattle.formulas.specs.Formula.Test.{begin, end, point, held, kept}
+use Rattle.formulas.specs.Formula.Count.{sum, age}
+use Rattle.formulas.specs.Formula.Formula.{test, len, count, neg, and, or, then}
+
+-- "`!`, `&`, `|`: not, and, or, .. of P at a tick. In P, `0` is never, `1` always, a signal its bit at the tick."
+abbrev pub holds : Prop → Tick → Bool
+holds (constant c) k = c
+holds (signal j) k = signalAt k j
+holds (negP p) k = not (holds p k)
+holds (andP p q) k = holds p k && holds q k
+holds (orP p q) k = holds p k || holds q k
+
+-- The value of n: "A parameter is its value at these ticks."
+abbrev pub value : Num → Tick → ℕ
+value (literal n) k = n
+value (parameter j) k = parameterAt k j
+
+-- Of the n numbers from i on: each of them has p, some of them has p, how many of them have p.
+abbrev pub each : (ℕ → Bool) → ℕ → ℕ → Bool
+each p i zero = true
+each p i (suc n) = p i && each p (suc i) n
+
+abbrev pub any : (ℕ → Bool) → ℕ → ℕ → Bool
+any p i zero = false
+any p i (suc n) = p i || any p (suc i) n
+
+abbrev pub tally : (ℕ → Bool) → ℕ → ℕ → ℕ
+tally p i zero = 0
+tally p i (suc n) = cond (p i) (suc (tally p (suc i) n)) (tally p (suc i) n)
+
+-- How many numbers in a row up to and including e have p, of at most n + 1.
+abbrev pub streak : (ℕ → Bool) → ℕ → ℕ → ℕ
+streak p zero n = cond (p zero) 1 0
+streak p (suc e) zero = cond (p (suc e)) 1 0
+streak p (suc e) (suc n) = cond (p (suc e)) (suc (streak p e n)) 0
+
+module _ (trace : Trace) where
+  -- P at tick i
+  abbrev pub at : Prop → ℕ → Bool
+  at p i = holds p (trace i)
+
+  -- The formula on ticks b to e:
+  -- "`begin[P]`: P at b. `end[P]`: P at e. `point[P]`: b = e and P at b.
+  --  `kept[P]`: P at each i, b <= i < e. `held[P]`: that, and b < e.
+  --  `len`: e − b. `sum[P]`: how many i with b <= i < e have P.
+  --  `age[P]`: how many ticks in a row up to and including e, none before b, have P.
+  --  L `then` F: some m, b <= m < e, has L on b to m, not L on b to m+1, and F on m+1 to e.
+  --  `!`, `&`, `|`: not, and, or, of F on the interval"
+  abbrev pub meaning : Formula → ℕ → ℕ → Bool
+  meaning (test begin p) b e = at p b
+  meaning (test end p) b e = at p e
+  meaning (test point p) b e = eqb b e && at p b
+  meaning (test kept p) b e = each (at p) b (e - b)
+  meaning (test held p) b e = ltb b e && each (at p) b (e - b)
+  meaning (len o n) b e = compares o (e - b) (value n (trace e))
+  meaning (count sum p o n) b e = compares o (tally (at p) b (e - b)) (value n (trace e))
+  meaning (count age p o n) b e = compares o (streak (at p) e (e - b)) (value n (trace e))
+  meaning (neg f) b e = not (meaning f b e)
+  meaning (and f g) b e = meaning f b e && meaning g b e
+  meaning (or f g) b e = meaning f b e || meaning g b e
+  meaning (then l f) b e =
+      any (λ m. meaning l b m && (not (meaning l b (suc m)) && meaning f (suc m) e)) b (e - b)
+
+  -- "b is the latest tick with start set, e the present one."
+  abbrev pub latest : ℕ → Option ℕ
+  latest zero = cond (starts (trace zero)) (some zero) none
+  latest (suc e) = cond (starts (trace (suc e))) (some (suc e)) (latest e)
+
+  -- "Before the first start the verdict is 1."
+  abbrev pub since : (ℕ → Bool) → Option ℕ → ℕ
+  since on none = 1
+  since on (some b) = truth (on b)
+
+  -- The verdict at tick e: "1 if the rule holds on b to e and 0 if it doesn't".
+  abbrev pub verdict : Formula → ℕ → ℕ
+  verdict f e = since (λ b. meaning f b e) (latest e)

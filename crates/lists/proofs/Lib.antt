@@ -1,0 +1,3 @@
+-- Laws on lists and buffers.
+pub mod Buffers
+pub mod Same

@@ -1,0 +1,3 @@
+-- Definitions on lists that several crates cite.
+pub mod Text
+pub mod Same

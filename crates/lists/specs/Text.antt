@@ -1,0 +1,10 @@
+-- The bytes of a quoted text, so that specifications can write texts as document 01 does. Definitions only.
+use mathlib.Core.List.{List}
+use Prim.Native.Nat.{ℕ}
+use Prim.Native.Char.{Char, code}
+use Prim.Native.String.{String}
+
+-- The codes of a text's characters: for the characters of document 01, its bytes.
+abbrev pub bytes : String → List ℕ
+bytes String.[] = List.[]
+bytes (String._∷_ c s) = List._∷_ (code c) (bytes s)

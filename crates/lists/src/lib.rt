@@ -1,0 +1,1 @@
+// Lists and buffers: definitions and laws that several crates cite. No code.

@@ -1,0 +1,111 @@
+-- What splitting gives for texts at the corners of the rules: one table, and one statement over all its rows, which is
+-- computed. Assumes nothing.
+use mathlib.Core.List.{List, [], _∷_, _++_, map}
+use mathlib.Core.Path.{_≡_, refl}
+use Prim.Native.Nat.{ℕ, _+_}
+use lib.ListN.{replicate}
+use Rattle.lists.specs.Text.{bytes}
+use Rattle.words.specs.Word.{ROUND, ROUND-END, SQUARE, SQUARE-END, NOT, AND, OR, LE, LT, EQ, GT, GE}
+use Rattle.words.specs.Word.{BEGIN, KEPT, LEN, SUM, AGE, THEN, CHOP, EXISTS, PARAMETER, SIGNAL, LITERAL}
+use Rattle.words.specs.Split.{classOf, run, keywordAmong, keywordOf, digits, decimal, numberOf, runOf, wordOf}
+use Rattle.words.specs.Split.{Out, words, splitOf}
+use Rattle.words.specs.Split.Out.{refused, made}
+
+-- A text, and what splitting it gives.
+pub record Example : Type 0 where
+  pub text : List ℕ
+  pub out : Out
+
+abbrev splits : List ℕ → List ℕ → Example
+splits text ws = record { text = text; out = made ws }
+
+abbrev refuses : List ℕ → ℕ → Example
+refuses text n = record { text = text; out = refused n }
+
+-- n words `(`, and n spaces.
+abbrev rounds : ℕ → List ℕ
+rounds n = replicate n 40
+
+abbrev spaces : ℕ → List ℕ
+spaces n = replicate n 32
+
+-- Words with a number.
+abbrev signal : ℕ → ℕ
+signal n = SIGNAL + n
+
+abbrev parameter : ℕ → ℕ
+parameter n = PARAMETER + n
+
+abbrev literal : ℕ → ℕ
+literal n = LITERAL + n
+
+-- Keywords that the definitions give no name.
+abbrev END : ℕ
+END = BEGIN + 1
+
+abbrev POINT : ℕ
+POINT = BEGIN + 2
+
+abbrev HELD : ℕ
+HELD = BEGIN + 3
+
+unfoldable pub examples : List Example
+examples =
+    -- two rules of document 01
+    splits (bytes "kept[s0] then end[s1]")
+    (KEPT ∷ SQUARE ∷ signal 0 ∷ SQUARE-END ∷ THEN ∷ END ∷ SQUARE ∷ signal 1 ∷ SQUARE-END ∷ []) ∷
+    splits (bytes "!(len <= 1 then len <= 1)")
+    (NOT ∷ ROUND ∷ LEN ∷ LE ∷ literal 1 ∷ THEN ∷ LEN ∷ LE ∷ literal 1 ∷ ROUND-END ∷ []) ∷
+    -- all keywords and operators
+    splits (bytes "begin end point held kept len sum age then chop exists")
+    (BEGIN ∷ END ∷ POINT ∷ HELD ∷ KEPT ∷ LEN ∷ SUM ∷ AGE ∷ THEN ∷ CHOP ∷ EXISTS ∷ []) ∷
+    splits (bytes "()[]!&|< = > <=>=")
+    (ROUND ∷ ROUND-END ∷ SQUARE ∷ SQUARE-END ∷ NOT ∷ AND ∷ OR ∷ LT ∷ EQ ∷ GT ∷ LE ∷ GE ∷ []) ∷
+    -- how long a text is
+    refuses [] 1 ∷
+    refuses (spaces 2049) 1 ∷
+    splits (spaces 2048) [] ∷
+    splits (bytes "   ") [] ∷
+    -- numbers at the ends of their ranges
+    splits (bytes "s0") (signal 0 ∷ []) ∷
+    splits (bytes "s63") (signal 63 ∷ []) ∷
+    refuses (bytes "s64") 3 ∷
+    splits (bytes "k7") (parameter 7 ∷ []) ∷
+    refuses (bytes "k8") 3 ∷
+    splits (bytes "0") (literal 0 ∷ []) ∷
+    splits (bytes "999999") (literal 999999 ∷ []) ∷
+    refuses (bytes "1000000") 3 ∷
+    -- a needless 0, also where the number is above its range
+    refuses (bytes "s064") 2 ∷
+    refuses (bytes "k08") 2 ∷
+    refuses (bytes "00") 2 ∷
+    -- runs that are no word
+    refuses (bytes "s") 2 ∷
+    refuses (bytes "x") 2 ∷
+    refuses (bytes "1a") 2 ∷
+    refuses (bytes "s1s2") 2 ∷
+    refuses (bytes "beginend") 2 ∷
+    -- bytes of which no word can be made: `B`, tab and line end
+    refuses (bytes "Begin") 2 ∷
+    refuses (9 ∷ []) 2 ∷
+    refuses (10 ∷ []) 2 ∷
+    -- the longest match
+    splits (bytes "<=") (LE ∷ []) ∷
+    splits (bytes ">=") (GE ∷ []) ∷
+    splits (bytes "=<") (EQ ∷ LT ∷ []) ∷
+    splits (bytes "<==") (LE ∷ EQ ∷ []) ∷
+    splits (bytes "> =") (GT ∷ EQ ∷ []) ∷
+    splits (bytes "len<=3") (LEN ∷ LE ∷ literal 3 ∷ []) ∷
+    -- the earliest word counts
+    refuses (bytes "x 1000000") 2 ∷
+    refuses (bytes "1000000 x") 3 ∷
+    -- the 241st word, well made or not, and a bad word before it
+    splits (rounds 240) (replicate 240 ROUND) ∷
+    refuses (rounds 241) 4 ∷
+    refuses (rounds 240 ++ bytes "x") 4 ∷
+    refuses (rounds 239 ++ bytes "x(") 2 ∷
+    []
+
+pub examples-hold : map (λ e. splitOf (e .text)) examples ≡ map (λ e. e .out) examples
+unfolding examples classOf run keywordAmong keywordOf digits decimal numberOf runOf wordOf words splitOf
+examples-hold = refl

@@ -1,0 +1,142 @@
+-- What is known while a text is split, byte by byte, and what its answer is. Assumes nothing.
+use mathlib.Core.Bool.{true, false, cond}
+use mathlib.Core.List.{List, [], _∷_, _++_}
+use mathlib.Core.Path.{_≡_, refl, sym, ap, _∙_}
+use Prim.Native.Nat.{ℕ, _+_, _≤_, _<_}
+use native.Mathlib.Nat.{zero-add}
+use native.Mathlib.Numerals.{add-one}
+use native.Mathlib.Omega.{arith}
+use lib.Dec.{eqb}
+use lib.ListN.{length, getD, drop, set, drop-of-length-le, length-append}
+use lib.Seq.{sets, length-sets, drop-cons}
+use borrow.Author.Tests.{eq-eqb, ne-eqb, lt-ltb, le-ltb}
+use Rattle.lists.proofs.Buffers.{sets-append}
+use Rattle.words.specs.Split.{SPACE, classOf, begins, wordOf, add, words, splitOf}
+use Rattle.words.specs.Split.Out.{refused, made}
+use Rattle.words.specs.Answer.{answerOf, Splits}
+use Rattle.words.specs.declared.Word.the-variants.{Made, Bad}
+use Rattle.words.specs.declared.Split.the-variants.{Words, Refused}
+
+-- Refusal 1, or the words of the whole text.
+module _ (text : List ℕ) where
+  pub split-empty : length text ≡ 0 → splitOf text ≡ refused 1
+  unfolding splitOf
+  split-empty h = simp (eq-eqb (length text) 0 h)
+
+  pub split-long : (length text ≡ 0 → ⊥) → 2048 < length text → splitOf text ≡ refused 1
+  unfolding splitOf
+  split-long n h = simp (ne-eqb (length text) 0 n, lt-ltb 2048 (length text) h)
+
+  pub split-words : (length text ≡ 0 → ⊥) → length text ≤ 2048 → splitOf text ≡ words text SPACE []
+  unfolding splitOf
+  split-words n h = simp (ne-eqb (length text) 0 n, le-ltb 2048 (length text) h)
+
+-- A refusal promises nothing of the buffer.
+refused-made : {A : Type 0} {n : ℕ} {ws : List ℕ} → refused n ≡ made ws → A
+refused-made {n = n} {ws} e = let z : _≡_ {A = ℕ} 0 1 = cc in absurd (omega arith)
+
+pub refuses : (text before after : List ℕ) (n : ℕ) → splitOf text ≡ refused n → Splits text before (Refused n) after
+refuses text before after n e =
+    record {
+      result = ap answerOf (sym e);
+      filled = λ ws m. refused-made (sym e ∙ m);
+      few = λ ws m. refused-made (sym e ∙ m);
+    }
+
+-- At byte i, after a byte of class p: the first `count` words are stored, and what is left of the text gives the rest.
+pub record At (text before after : List ℕ) (p count i : ℕ) : Type 0 where
+  pub ws : List ℕ
+  pub rest : words text SPACE [] ≡ words (drop i text) p ws
+  pub counted : count ≡ length ws
+  pub few : count ≤ 240
+  pub in-text : i ≤ length text
+  pub stored : after ≡ sets before 0 ws
+
+pub at-start : (text before : List ℕ) → At text before before SPACE 0 0
+at-start text before =
+    record { ws = []; rest = refl; counted = refl; few = omega arith; in-text = omega arith; stored = refl }
+
+pub at-length : {text before after : List ℕ} {p count i : ℕ} → At text before after p count i
+    → length after ≡ length before
+at-length {before = before} h = ap length (h .stored) ∙ length-sets before 0 (h .ws)
+
+-- The definition at byte i.
+words-at : (text : List ℕ) (i p : ℕ) (ws : List ℕ) → i < length text
+    → words (drop i text) p ws
+    ≡ let c = classOf (getD text i 0) in
+    let one = add (wordOf c (drop i text)) ws (λ more. words (drop (i + 1) text) c more) in
+    cond (begins p c) (cond (eqb (length ws) 240) (refused 4) one) (words (drop (i + 1) text) c ws)
+unfolding words
+words-at text i p ws h = rw (add-one i, drop-cons text i 0 h)
+
+-- What the byte at i, of class c, does.
+module _ {text before after : List ℕ} {p count i : ℕ} (h : At text before after p count i) (l : i < length text)
+    (c : ℕ) (e : c ≡ classOf (getD text i 0)) where
+  turn : words text SPACE []
+      ≡ let one = add (wordOf c (drop i text)) (h .ws) (λ more. words (drop (i + 1) text) c more) in
+      cond (begins p c) (cond (eqb count 240) (refused 4) one) (words (drop (i + 1) text) c (h .ws))
+  turn = h .rest ∙ words-at text i p (h .ws) l ∙ rw (← e, ← (h .counted))
+
+  pub skips : begins p c ≡ false → At text before after c count (i + 1)
+  skips b =
+      record {
+        ws = h .ws;
+        rest = turn ∙ simp b;
+        counted = h .counted;
+        few = h .few;
+        in-text = omega arith;
+        stored = h .stored;
+      }
+
+  pub too-many : begins p c ≡ true → count ≡ 240 → words text SPACE [] ≡ refused 4
+  too-many b f = turn ∙ simp (b, eq-eqb count 240 f)
+
+  pub breaks : (n : ℕ) → begins p c ≡ true → (count ≡ 240 → ⊥) → wordOf c (drop i text) ≡ Bad n
+      → words text SPACE [] ≡ refused n
+  breaks n b f w = turn ∙ simp (b, ne-eqb count 240 f, w)
+
+  pub adds : (word : ℕ) → begins p c ≡ true → (count ≡ 240 → ⊥) → wordOf c (drop i text) ≡ Made word
+      → At text before (set after count word) c (count + 1) (i + 1)
+  adds word b f w =
+      record {
+        ws = h .ws ++ word ∷ [];
+        rest = turn ∙ simp (b, ne-eqb count 240 f, w);
+        counted = simp length-append (omega (arith, h .counted));
+        few = omega (arith, h .few);
+        in-text = omega arith;
+        stored =
+            ap (λ (o : List ℕ). set o count word) (h .stored)
+            ∙ ap (λ (n : ℕ). set (sets before 0 (h .ws)) n word) (h .counted ∙ sym (zero-add _))
+            ∙ sets-append before 0 (h .ws) (word ∷ []);
+      }
+
+-- The same at equal values.
+pub at-moved : {text before o₁ o₂ : List ℕ} {p n₁ n₂ i : ℕ}
+    → At text before o₁ p n₁ i → o₂ ≡ o₁ → n₂ ≡ n₁ → At text before o₂ p n₂ i
+at-moved h a b =
+    record {
+      ws = h .ws;
+      rest = h .rest;
+      counted = b ∙ h .counted;
+      few = omega (arith, h .few);
+      in-text = h .in-text;
+      stored = a ∙ h .stored;
+    }
+
+-- At the end of the text.
+module _ {text before after : List ℕ} {p count i : ℕ} (h : At text before after p count i)
+    (by-words : splitOf text ≡ words text SPACE []) (l : length text ≤ i) where
+  all-words : splitOf text ≡ made (h .ws)
+  unfolding words
+  all-words = by-words ∙ h .rest ∙ ap (λ (r : List ℕ). words r p (h .ws)) (drop-of-length-le text l)
+
+  same-words : (ws : List ℕ) → splitOf text ≡ made ws → h .ws ≡ ws
+  same-words ws m = let both : made (h .ws) ≡ made ws = sym all-words ∙ m in cc
+
+  pub at-end : Splits text before (Words count) after
+  at-end =
+      record {
+        result = ap Words (h .counted) ∙ ap answerOf (sym all-words);
+        filled = λ ws m. h .stored ∙ ap (λ (x : List ℕ). sets before 0 x) (same-words ws m);
+        few = λ ws m. omega (arith, ap length (same-words ws m), h .counted, h .few);
+      }

@@ -1,0 +1,15 @@
+-- `words::is_count` meets its contract: the range is the definition's. Assumes nothing.
+use borrow.Author.Needs.{needs}
+use Rattle.words.specs.Word.{isCount}
+use Rattle.words.proofs.is_count.Statement.{statement}
+use Rattle.words.proofs.is_count.Tie as tie
+
+is-within-requires : tie.Need-is-within-requires
+is-within-requires c κs = search needs
+
+returns : tie.Need-returns
+unfolding isCount
+returns c = c .is-within .ensures
+
+pub is-count-spec : {M : Type 1} → statement M
+is-count-spec = tie.close (tie.spec is-within-requires returns)

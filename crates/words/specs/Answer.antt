@@ -1,0 +1,21 @@
+-- What the function that splits a text answers, and what it leaves in the buffer of words. Definitions only.
+use mathlib.Core.Path.{_≡_}
+use mathlib.Core.List.{List}
+use Prim.Native.Nat.{ℕ, _≤_}
+use lib.ListN.{length}
+use lib.Seq.{sets}
+use Rattle.words.specs.Split.{Out, splitOf}
+use Rattle.words.specs.Split.Out.{refused, made}
+use Rattle.words.specs.declared.Split.{Split}
+use Rattle.words.specs.declared.Split.the-variants.{Words, Refused}
+
+-- How many words there are, or the refusal's number.
+abbrev pub answerOf : Out → Split
+answerOf (refused n) = Refused n
+answerOf (made ws) = Words (length ws)
+
+-- The answer r for a text, and the buffer before and after: at its front stand the words, all else is kept.
+pub record Splits (text before : List ℕ) (r : Split) (after : List ℕ) : Type 0 where
+  pub result : r ≡ answerOf (splitOf text)
+  pub filled : (ws : List ℕ) → splitOf text ≡ made ws → after ≡ sets before 0 ws
+  pub few : (ws : List ℕ) → splitOf text ≡ made ws → length ws ≤ 240

@@ -1,0 +1,123 @@
+-- How a text is split into words, and refusals 1 to 4 (document 01, "Rule text" and "Read a rule"). Definitions only.
+use mathlib.Core.Bool.{Bool, true, false, not, _&&_, _||_, cond}
+use mathlib.Core.List.{List, [], _∷_, _++_}
+use Prim.Native.Nat.{ℕ, zero, suc, _+_, _-_, _*_}
+use lib.Dec.{eqb, leb, ltb}
+use lib.ListN.{length, getD, drop}
+use Rattle.lists.specs.Same.{same}
+use Rattle.words.specs.Word.{ROUND, ROUND-END, SQUARE, SQUARE-END, NOT, AND, OR, LE, LT, EQ, GT, GE, BEGIN, PARAMETER, SIGNAL, LITERAL, keywords, within}
+use Rattle.words.specs.declared.Word.{Word}
+use Rattle.words.specs.declared.Word.the-variants.{Made, Bad}
+
+-- What class of byte stands in a text. "Space (byte 32) only separates"; a letter or a digit belongs to a run; an
+-- operator byte is the number of the word that it is by itself; of any other byte no word can be made.
+abbrev pub SPACE : ℕ
+SPACE = 0
+
+abbrev pub RUN : ℕ
+RUN = 40
+
+abbrev pub OTHER : ℕ
+OTHER = 50
+
+-- The operator bytes, each with its word.
+pub record Operator : Type 0 where
+  pub byte : ℕ
+  pub word : ℕ
+
+abbrev pub operator : ℕ → ℕ → Operator
+operator b w = record { byte = b; word = w }
+
+abbrev pub operators : List Operator
+operators =
+    operator 40 ROUND ∷ operator 41 ROUND-END ∷ operator 91 SQUARE ∷ operator 93 SQUARE-END ∷ operator 33 NOT ∷
+    operator 38 AND ∷ operator 124 OR ∷ operator 60 LT ∷ operator 61 EQ ∷ operator 62 GT ∷ []
+
+abbrev pub wordAmong : List Operator → ℕ → ℕ
+wordAmong [] b = OTHER
+wordAmong (o ∷ os) b = cond (eqb b (o .byte)) (o .word) (wordAmong os b)
+
+-- "a longest run of `a` to `z` and `0` to `9`"
+unfoldable pub classOf : ℕ → ℕ
+classOf b = cond (within 97 122 b || within 48 57 b) RUN (cond (eqb b 32) SPACE (wordAmong operators b))
+
+-- A byte of class c goes on with the word of the byte before it, of class p: a run goes on, and `=` after `<` or `>`.
+abbrev pub goesOn : ℕ → ℕ → Bool
+goesOn p c = (eqb p RUN && eqb c RUN) || ((eqb p LT || eqb p GT) && eqb c EQ)
+
+-- A word begins at a byte that is no space and goes on with no word.
+abbrev pub begins : ℕ → ℕ → Bool
+begins p c = not (eqb c SPACE) && not (goesOn p c)
+
+-- The longest run at the front of a text.
+unfoldable pub run : List ℕ → List ℕ
+run [] = []
+run (b ∷ l) = let r = b ∷ run l in cond (eqb (classOf b) RUN) r []
+
+-- Which keyword a run is, numbered from n on; 0 if it is none.
+unfoldable pub keywordAmong : List (List ℕ) → ℕ → List ℕ → ℕ
+keywordAmong [] n r = 0
+keywordAmong (k ∷ ks) n r = let other = keywordAmong ks (suc n) r in cond (same r k) n other
+
+unfoldable pub keywordOf : List ℕ → ℕ
+keywordOf r = keywordAmong keywords BEGIN r
+
+-- All bytes are `0` to `9`.
+unfoldable pub digits : List ℕ → Bool
+digits [] = true
+digits (b ∷ l) = within 48 57 b && digits l
+
+-- Their decimal number, after the number v.
+unfoldable pub decimal : ℕ → List ℕ → ℕ
+decimal v [] = v
+decimal v (b ∷ l) = decimal (v * 10 + (b - 48)) l
+
+-- "Only the number 0 itself begins with 0."
+abbrev pub needless : List ℕ → Bool
+needless l = eqb (getD l 0 0) 48 && ltb 1 (length l)
+
+-- A number up to max, as the word base + n: "2 where no word can be made or a number begins with a needless 0; 3 where a
+-- number is above its range".
+unfoldable pub numberOf : ℕ → ℕ → List ℕ → Word
+numberOf base max l =
+    cond (eqb (length l) 0 || not (digits l)) (Bad 2)
+    (cond (needless l) (Bad 2) (cond (leb (decimal 0 l) max) (Made (base + decimal 0 l)) (Bad 3)))
+
+-- "Such a run is [a keyword], a literal, `s` with a number (signal 0 to 63) or `k` with a number (parameter 0 to 7)."
+unfoldable pub runOf : List ℕ → Word
+runOf r =
+    cond (ltb 0 (keywordOf r)) (Made (keywordOf r))
+    (cond (eqb (getD r 0 0) 115) (numberOf SIGNAL 63 (drop 1 r))
+    (cond (eqb (getD r 0 0) 107) (numberOf PARAMETER 7 (drop 1 r)) (numberOf LITERAL 999999 r)))
+
+-- "by longest match": `<` and `>` with a `=` behind them.
+abbrev pub longest : ℕ → ℕ → Word
+longest c next =
+    Made (cond (eqb c LT && eqb next 61) LE (cond (eqb c GT && eqb next 61) GE c))
+
+-- The word at the front of a text whose first byte is of class c.
+unfoldable pub wordOf : ℕ → List ℕ → Word
+wordOf c l = cond (eqb c RUN) (runOf (run l)) (cond (eqb c OTHER) (Bad 2) (longest c (getD l 1 0)))
+
+-- What splitting a text gives: its words, or the first refusal.
+pub data Out : Type 0 where
+  refused : ℕ → Out
+  made : List ℕ → Out
+
+-- The words so far and one more.
+abbrev pub add : Word → List ℕ → (List ℕ → Out) → Out
+add (Made w) ws rest = rest (ws ++ w ∷ [])
+add (Bad n) ws rest = refused n
+
+-- "Then word by word, whichever word is earliest: 4 at the 241st word, well made or not; 2 ..; 3 ..".
+-- p is the class of the byte before, ws the words so far.
+unfoldable pub words : List ℕ → ℕ → List ℕ → Out
+words [] p ws = made ws
+words (b ∷ l) p ws =
+    let one = add (wordOf (classOf b) (b ∷ l)) ws (λ more. words l (classOf b) more) in
+    let none = words l (classOf b) ws in
+    cond (begins p (classOf b)) (cond (eqb (length ws) 240) (refused 4) one) none
+
+-- "1: the text is empty or over 2,048 bytes."
+unfoldable pub splitOf : List ℕ → Out
+splitOf text = cond (eqb (length text) 0 || ltb 2048 (length text)) (refused 1) (words text SPACE [])

@@ -1,0 +1,355 @@
+// The words of a rule text, as numbers (document 01, "Rule text"). specs/Word.antt says which number is which word,
+// specs/Split.antt how a text is split.
+ghost use mathlib.Core.Path.{_≡_};
+ghost use Prim.Native.Nat.{_+_, _≤_, _<_};
+ghost use lib.ListN.{length, getD, drop};
+ghost use Rattle.words.specs.Word.{within, isOp, isSignal, isNum, isBit, isTest, isCount};
+ghost use Rattle.lists.specs.Same.{same};
+ghost use Rattle.words.specs.Split.{classOf, begins, run, keywordOf, needless, numberOf, runOf};
+ghost use Rattle.words.specs.Split.{longest, wordOf};
+ghost use Rattle.words.specs.Answer.{Splits};
+
+pub const ROUND: u32 = 1;
+
+pub const ROUND_END: u32 = 2;
+
+pub const SQUARE: u32 = 3;
+
+pub const SQUARE_END: u32 = 4;
+
+pub const NOT: u32 = 5;
+
+pub const AND: u32 = 6;
+
+pub const OR: u32 = 7;
+
+pub const LE: u32 = 8;
+
+pub const LT: u32 = 9;
+
+pub const EQ: u32 = 10;
+
+pub const GT: u32 = 11;
+
+pub const GE: u32 = 12;
+
+pub const BEGIN: u32 = 13;
+
+pub const KEPT: u32 = 17;
+
+pub const LEN: u32 = 18;
+
+pub const SUM: u32 = 19;
+
+pub const AGE: u32 = 20;
+
+pub const THEN: u32 = 21;
+
+pub const CHOP: u32 = 22;
+
+pub const EXISTS: u32 = 23;
+
+pub const PARAMETER: u32 = 32;
+
+pub const SIGNAL: u32 = 64;
+
+pub const LITERAL: u32 = 1000000;
+
+// Classes of bytes beside the operators, whose class is their word.
+const SPACE: u32 = 0;
+
+const RUN: u32 = 40;
+
+const OTHER: u32 = 50;
+
+// How long the keywords' spellings are, in the order of their numbers.
+const LENGTHS: [usize; 11] = [5, 3, 5, 4, 4, 3, 3, 3, 4, 4, 6];
+
+// One word: its number, or refusal 2 or 3.
+pub enum Word {
+    Made(u32),
+    Bad(u32),
+}
+
+// A text's words, or the refusal's number.
+pub enum Split {
+    Words(usize),
+    Refused(u32),
+}
+
+// The class of a byte: it decides which words it can be part of.
+fn class(b: u8) -> u32
+    ensures { λ r. ⌜ r ≡ classOf b ⌝ }
+{
+    match b {
+        b'a'..=b'z' | b'0'..=b'9' => RUN,
+        b' ' => SPACE,
+        b'(' => ROUND,
+        b')' => ROUND_END,
+        b'[' => SQUARE,
+        b']' => SQUARE_END,
+        b'!' => NOT,
+        b'&' => AND,
+        b'|' => OR,
+        b'<' => LT,
+        b'=' => EQ,
+        b'>' => GT,
+        _ => OTHER,
+    }
+}
+
+// Whether a byte of class c begins a word after a byte of class p.
+fn begins_word(p: u32, c: u32) -> bool
+    ensures { λ r. ⌜ r ≡ begins p c ⌝ }
+{
+    if c == SPACE {
+        return false;
+    }
+    match p {
+        RUN => c != RUN,
+        LT | GT => c != EQ,
+        _ => true,
+    }
+}
+
+// The end of the run that starts at i.
+fn run_end(text: &[u8], i: usize) -> usize
+    requires { ⌜ i ≤ length (now text) ⌝ }
+    ensures { λ r. ⌜ r ≡ i + length (run (drop i (now (text .entry)))) ⌝ }
+{
+    let mut end = i;
+    while end < text.len() {
+        if class(text[end]) != RUN {
+            return end;
+        }
+        end += 1;
+    }
+    end
+}
+
+// Whether two slices hold the same bytes.
+fn same_bytes(a: &[u8], b: &[u8]) -> bool
+    ensures { λ r. ⌜ r ≡ same (now (a .entry)) (now (b .entry)) ⌝ }
+{
+    if a.len() != b.len() {
+        return false;
+    }
+    let mut i = 0;
+    while i < a.len() {
+        if a[i] != b[i] {
+            return false;
+        }
+        i += 1;
+    }
+    true
+}
+
+// The keyword that a run spells, 0 if it is none.
+fn keyword(run: &[u8]) -> u32
+    ensures { λ r. ⌜ r ≡ keywordOf (now (run .entry)) ⌝ }
+{
+    let spellings: &[u8] = b"beginendpointheldkeptlensumagethenchopexists";
+    let mut from = 0;
+    let mut k = 0;
+    while k < 11 {
+        let to = from + LENGTHS[k];
+        if same_bytes(run, &spellings[from..to]) {
+            return BEGIN + k as u32;
+        }
+        from = to;
+        k += 1;
+    }
+    0
+}
+
+// A byte as a wider number.
+fn wide(b: u8) -> u32
+    ensures { λ r. ⌜ r ≡ b ⌝ }
+{
+    b as u32
+}
+
+// Whether digits begin with a 0 that is not the number 0 itself.
+fn needless_zero(digits: &[u8]) -> bool
+    ensures { λ r. ⌜ r ≡ needless (now (digits .entry)) ⌝ }
+{
+    if digits.len() < 2 {
+        return false;
+    }
+    digits[0] == b'0'
+}
+
+// A number up to max, as the word base + n. Once the value is above 999,999 it is held, so that nothing overflows.
+fn number(digits: &[u8], base: u32, max: u32) -> Word
+    requires { ⌜ (base ≤ 1000000) × (max ≤ 999999) ⌝ }
+    ensures { λ r. ⌜ r ≡ numberOf base max (now (digits .entry)) ⌝ }
+{
+    if digits.len() == 0 {
+        return Word::Bad(2);
+    }
+    if needless_zero(digits) {
+        return Word::Bad(2);
+    }
+    let mut value: u32 = 0;
+    let mut i = 0;
+    while i < digits.len() {
+        let digit = digits[i];
+        if digit < b'0' {
+            return Word::Bad(2);
+        }
+        if digit > b'9' {
+            return Word::Bad(2);
+        }
+        if value <= 999999 {
+            value = value * 10 + wide(digit - b'0');
+        }
+        i += 1;
+    }
+    if value <= max {
+        return Word::Made(base + value);
+    }
+    Word::Bad(3)
+}
+
+// The word that a run is.
+fn run_word(run: &[u8]) -> Word
+    requires { ⌜ 0 < length (now run) ⌝ }
+    ensures { λ r. ⌜ r ≡ runOf (now (run .entry)) ⌝ }
+{
+    let word = keyword(run);
+    if word > 0 {
+        return Word::Made(word);
+    }
+    match run[0] {
+        b's' => number(&run[1..], SIGNAL, 63),
+        b'k' => number(&run[1..], PARAMETER, 7),
+        _ => number(run, LITERAL, 999999),
+    }
+}
+
+// The word of an operator byte of class c before the byte next.
+fn longest_word(c: u32, next: u8) -> Word
+    ensures { λ r. ⌜ r ≡ longest c next ⌝ }
+{
+    if next != b'=' {
+        return Word::Made(c);
+    }
+    match c {
+        LT => Word::Made(LE),
+        GT => Word::Made(GE),
+        _ => Word::Made(c),
+    }
+}
+
+// The byte at i, 0 past the end.
+fn byte_at(text: &[u8], i: usize) -> u8
+    ensures { λ r. ⌜ r ≡ getD (now (text .entry)) i 0 ⌝ }
+{
+    if i < text.len() { text[i] } else { 0 }
+}
+
+// The word that begins at i with a byte of class c.
+fn word_at(text: &[u8], i: usize, c: u32) -> Word
+    requires { ⌜ (i < length (now text)) × (c ≡ classOf (getD (now text) i 0)) ⌝ }
+    ensures { λ r. ⌜ r ≡ wordOf c (drop i (now (text .entry))) ⌝ }
+{
+    if c == RUN {
+        let end = run_end(text, i);
+        return run_word(&text[i..end]);
+    }
+    if c == OTHER {
+        return Word::Bad(2);
+    }
+    longest_word(c, byte_at(text, i + 1))
+}
+
+// The words of a text, stored at the front of out.
+pub fn split_text(text: &[u8], out: &mut [u32]) -> Split
+    requires { ⌜ 240 ≤ length (now out) ⌝ }
+    ensures { λ r. ⌜ Splits (now (text .entry)) (now (out .entry)) r (now (out .exit)) ⌝ }
+{
+    if text.len() == 0 {
+        return Split::Refused(1);
+    }
+    if text.len() > 2048 {
+        return Split::Refused(1);
+    }
+    let mut previous = SPACE;
+    let mut count: usize = 0;
+    let mut i: usize = 0;
+    while i < text.len() {
+        let c = class(text[i]);
+        if begins_word(previous, c) {
+            if count == 240 {
+                return Split::Refused(4);
+            }
+            match word_at(text, i, c) {
+                Word::Made(word) => {
+                    out[count] = word;
+                    count += 1;
+                }
+                Word::Bad(n) => {
+                    return Split::Refused(n);
+                }
+            }
+        }
+        previous = c;
+        i += 1;
+    }
+    Split::Words(count)
+}
+
+// Whether w is a number from lo to hi.
+fn is_within(lo: u32, hi: u32, w: u32) -> bool
+    ensures { λ r. ⌜ r ≡ within lo hi w ⌝ }
+{
+    if w < lo {
+        return false;
+    }
+    w <= hi
+}
+
+// A comparison.
+pub fn is_op(w: u32) -> bool
+    ensures { λ r. ⌜ r ≡ isOp w ⌝ }
+{
+    is_within(LE, GE, w)
+}
+
+// A signal.
+pub fn is_signal(w: u32) -> bool
+    ensures { λ r. ⌜ r ≡ isSignal w ⌝ }
+{
+    is_within(SIGNAL, SIGNAL + 63, w)
+}
+
+// A parameter or a literal.
+pub fn is_num(w: u32) -> bool
+    ensures { λ r. ⌜ r ≡ isNum w ⌝ }
+{
+    if is_within(PARAMETER, PARAMETER + 7, w) {
+        return true;
+    }
+    w >= LITERAL
+}
+
+// The literal 0 or 1.
+pub fn is_bit(w: u32) -> bool
+    ensures { λ r. ⌜ r ≡ isBit w ⌝ }
+{
+    is_within(LITERAL, LITERAL + 1, w)
+}
+
+// `begin`, `end`, `point`, `held` or `kept`.
+pub fn is_test(w: u32) -> bool
+    ensures { λ r. ⌜ r ≡ isTest w ⌝ }
+{
+    is_within(BEGIN, KEPT, w)
+}
+
+// `sum` or `age`.
+pub fn is_count(w: u32) -> bool
+    ensures { λ r. ⌜ r ≡ isCount w ⌝ }
+{
+    is_within(SUM, AGE, w)
+}
