@@ -2,4 +2,5 @@
 pub mod Formula
 pub mod Meaning
 pub mod Tree
+pub mod Bounds
 pub mod Arena

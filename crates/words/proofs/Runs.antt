@@ -89,18 +89,3 @@ module _ (l : List ℕ) (c : ℕ) where
   pub word-operator : (c ≡ RUN → ⊥) → (c ≡ OTHER → ⊥) → wordOf c l ≡ longest c (getD l 1 0)
   unfolding wordOf
   word-operator r o = simp (ne-eqb c RUN r, ne-eqb c OTHER o)
-
--- Lists of different lengths are not the same.
-pub same-not : (x y : List ℕ) → (length x ≡ length y → ⊥) → same x y ≡ false
-same-not [] [] h = absurd (h refl)
-same-not [] (b ∷ y) h = refl
-same-not (a ∷ x) [] h = refl
-same-not (a ∷ x) (b ∷ y) h = simp (same-not x y (λ e. h (ap suc e)), and-false)
-
--- One byte of each, and none left.
-pub same-step : (x y : List ℕ) (i : ℕ) → i < length x → i < length y
-    → same (drop i x) (drop i y) ≡ (eqb (getD x i 0) (getD y i 0) && same (drop (i + 1) x) (drop (i + 1) y))
-same-step x y i p q = rw (add-one, drop-cons x i 0 p, drop-cons y i 0 q)
-
-pub same-done : (x y : List ℕ) (i : ℕ) → length x ≤ i → length y ≤ i → same (drop i x) (drop i y) ≡ true
-same-done x y i p q = rw (drop-of-length-le x p, drop-of-length-le y q)

@@ -6,7 +6,7 @@ use native.Mathlib.Omega.{arith}
 use borrow.Author.Tests.{eq-eqb, ne-eqb}
 use lib.ListN.{length, drop}
 use Rattle.lists.specs.Same.{same}
-use Rattle.words.proofs.Runs.{same-not, same-step, same-done}
+use Rattle.lists.proofs.Same.{same-not, same-step, same-done}
 use Rattle.words.proofs.same_bytes.Statement.{statement}
 use Rattle.words.proofs.same_bytes.Tie as tie
 

@@ -1,0 +1,31 @@
+-- The numbers that a rule can name: "`s` with a number (signal 0 to 63) or `k` with a number (parameter 0 to 7).
+-- A literal is 0 to 999,999." Literals are below a limit, which is 1,000,000 where a text is read. Definitions only.
+use mathlib.Core.Bool.{Bool, true, _&&_}
+use Prim.Native.Nat.{ℕ}
+use lib.Dec.{ltb}
+use Rattle.formulas.specs.Formula.{Num}
+use Rattle.formulas.specs.Formula.Num.{literal, parameter}
+use Rattle.formulas.specs.Tree.{Tree}
+use Rattle.formulas.specs.Tree.Tree.{constant, signal, neg, and, or, then, chop, exists, test, len, count}
+
+abbrev pub signalBound : ℕ → Bool
+signalBound j = ltb j 64
+
+module _ (limit : ℕ) where
+  abbrev pub numBound : Num → Bool
+  numBound (literal n) = ltb n limit
+  numBound (parameter j) = ltb j 8
+
+  -- Every number in the tree is such a number.
+  abbrev pub bounded : Tree → Bool
+  bounded (constant c) = true
+  bounded (signal j) = signalBound j
+  bounded (neg t) = bounded t
+  bounded (and a b) = bounded a && bounded b
+  bounded (or a b) = bounded a && bounded b
+  bounded (then a b) = bounded a && bounded b
+  bounded (chop a b) = bounded a && bounded b
+  bounded (exists j t) = signalBound j && bounded t
+  bounded (test k p) = bounded p
+  bounded (len o n) = numBound n
+  bounded (count k p o n) = bounded p && numBound n

@@ -1,0 +1,231 @@
+-- What the grammar over positions has, the parser reads; so there is one reading at most. Assumes nothing.
+use mathlib.Core.Path.{_≡_, refl, ap, _∙_}
+use mathlib.Core.Bool.{Bool, true, false, _&&_, cond}
+use mathlib.Core.List.{List}
+use Prim.Native.Nat.{ℕ, _+_, _≤_, _<_}
+use native.Mathlib.Omega.{arith}
+use native.Mathlib.Nat.{le-refl}
+use lib.Dec.{leb}
+use lib.ListN.{length, List·getD-eq-default}
+use borrow.Author.Tests.{eq-eqb, ne-eqb, lt-leb}
+use Rattle.traces.specs.Compare.{Op}
+use Rattle.formulas.specs.Formula.{Num}
+use Rattle.formulas.specs.Tree.{Tree}
+use Rattle.formulas.specs.Tree.Tree.{constant, signal, and, or, len, count}
+use Rattle.words.specs.Word.{ROUND, ROUND-END, SQUARE, SQUARE-END, NOT, AND, OR, LEN, BEGIN, KEPT, SUM, AGE}
+use Rattle.words.specs.Word.{THEN, CHOP, EXISTS, SIGNAL}
+use Rattle.words.specs.Word.{within, isOp, isSignal, isNum, isBit, isTest, isCount}
+use Rattle.grammar.specs.Grammar.{Symbol, bitWord, signalWord, opWord, numWord, countWord}
+use Rattle.grammar.specs.Grammar.Symbol.{F, D, C, U, B}
+use Rattle.grammar.specs.Parse.{Result, Join, Unit as First, Atom, word, bind, joinOf, unitOf, atomOf}
+use Rattle.grammar.specs.Parse.{leafAt, compared, closed, stepF, stepD, stepC, stepExists, stepU, stepA, stepB}
+use Rattle.grammar.specs.Parse.{read}
+use Rattle.grammar.specs.Parse.Result.{no-rule, ok}
+use Rattle.grammar.specs.Parse.Goal.{goF, goD, goDs, goC, goCs, goU, goA, goB}
+use Rattle.grammar.specs.Parse.Join.{join-then, join-chop, join-none}
+use Rattle.grammar.specs.Parse.Unit.{unit-not, unit-round, unit-leaf, unit-exists, unit-atom}
+use Rattle.grammar.specs.Parse.Atom.{atom-test, atom-len, atom-count}
+use Rattle.grammar.proofs.Position.{Reads, within-high, signal-pos, bit-pos, test-pos, count-pos}
+use Rattle.grammar.proofs.Position.Reads.{f-one, f-then, f-chop, d-one, d-or, c-one, c-and}
+use Rattle.grammar.proofs.Position.Reads.{u-not, u-exists, u-round, u-constant, u-signal}
+use Rattle.grammar.proofs.Position.Reads.{u-test, u-len, u-count, b-square}
+use Rattle.grammar.proofs.Sound.{read-eq, read-holds}
+
+-- ---- classes of words
+
+-- A number above the upper bound is not between the bounds.
+not-within : (lo hi w : ℕ) → hi < w → within lo hi w ≡ false
+not-within lo hi w h = ap (λ (x : Bool). leb lo w && x) (lt-leb w hi h) ∙ go (leb lo w)
+  where
+    go : (x : Bool) → x && false ≡ false
+    go true = refl
+    go false = refl
+
+-- Words that are not `!` nor a round bracket: a leaf's inside square brackets,
+pub signal-leaf : (w : ℕ) → isSignal w ≡ true → unitOf true w ≡ unit-leaf
+signal-leaf w h =
+    let p = signal-pos w h in
+    simp (ne-eqb w NOT (λ e. omega arith), ne-eqb w ROUND (λ e. omega arith))
+
+pub bit-leaf : (w : ℕ) → isBit w ≡ true → unitOf true w ≡ unit-leaf
+bit-leaf w h =
+    let p = bit-pos w h in
+    simp (ne-eqb w NOT (λ e. omega arith), ne-eqb w ROUND (λ e. omega arith))
+
+-- and an atom's outside, which are not `exists` either.
+pub unit-of-atom : (w : ℕ) → BEGIN ≤ w → w ≤ AGE → unitOf false w ≡ unit-atom
+unit-of-atom w p q =
+    simp (ne-eqb w NOT (λ e. omega arith), ne-eqb w ROUND (λ e. omega arith), ne-eqb w EXISTS (λ e. omega arith))
+
+-- Which atom it is: a test,
+pub test-unit : (w : ℕ) → isTest w ≡ true → unitOf false w ≡ unit-atom
+unfolding isTest
+test-unit w h = unit-of-atom w (test-pos w h) (omega (arith, within-high BEGIN KEPT w h))
+
+pub test-atom : (w : ℕ) → isTest w ≡ true → atomOf w ≡ atom-test
+test-atom w h = rw h
+
+-- `len`,
+pub len-atom : (w : ℕ) → w ≡ LEN → atomOf w ≡ atom-len
+unfolding isTest
+len-atom w e = ap atomOf e
+
+-- a count.
+pub count-unit : (w : ℕ) → isCount w ≡ true → unitOf false w ≡ unit-atom
+unfolding isCount
+count-unit w h = unit-of-atom w (omega (arith, count-pos w h)) (within-high SUM AGE w h)
+
+pub count-atom : (w : ℕ) → isCount w ≡ true → atomOf w ≡ atom-count
+unfolding isTest
+count-atom w h =
+    let p = count-pos w h in
+    simp (not-within BEGIN KEPT w (omega arith), ne-eqb w LEN (λ e. omega arith), h)
+
+-- A bit is no signal.
+pub bit-signal : (w : ℕ) → isBit w ≡ true → isSignal w ≡ false
+unfolding isSignal
+bit-signal w h = not-within SIGNAL (SIGNAL + 63) w (omega (arith, bit-pos w h))
+
+-- A word that joins no further F to a D.
+pub stop-join : (l : Bool) (w : ℕ) → (w ≡ THEN → ⊥) → (w ≡ CHOP → ⊥) → joinOf l w ≡ join-none
+stop-join true w a b = refl
+stop-join false w a b = simp (ne-eqb w THEN a, ne-eqb w CHOP b)
+
+-- A reading that is known, and then the next.
+pub then-on : {r : Result} {t : Tree} {j : ℕ} (f : Tree → ℕ → Result) → r ≡ ok t j → bind r f ≡ f t j
+then-on f e = ap (λ (x : Result). bind x f) e
+
+-- The word after ends an F.
+pub record Ends (w : ℕ) : Type 0 where
+  pub no-and : w ≡ AND → ⊥
+  pub no-or : w ≡ OR → ⊥
+  pub no-then : w ≡ THEN → ⊥
+  pub no-chop : w ≡ CHOP → ⊥
+
+-- So do a closing bracket and the end of the words.
+pub ends-at : (w n : ℕ) → w ≡ n → n ≤ SQUARE-END → Ends w
+ends-at w n e l =
+    record {
+      no-and = λ x. omega arith;
+      no-or = λ x. omega arith;
+      no-then = λ x. omega arith;
+      no-chop = λ x. omega arith;
+    }
+
+module _ (ws : List ℕ) where
+  -- ---- reading by the word at hand
+
+  -- After a D that no `|` follows, and after one that a `|` follows; likewise C.
+  pub stopD : (l : Bool) (a : Tree) (m : ℕ) → (word ws m ≡ OR → ⊥) → read ws (goDs l a) m ≡ ok a m
+  stopD l a m h = read-eq ws (goDs l a) m ∙ ap (λ (b : Bool). stepD ws (read ws) l b a m) (ne-eqb _ _ h)
+
+  pub stopC : (l : Bool) (a : Tree) (m : ℕ) → (word ws m ≡ AND → ⊥) → read ws (goCs l a) m ≡ ok a m
+  stopC l a m h = read-eq ws (goCs l a) m ∙ ap (λ (b : Bool). stepC ws (read ws) l b a m) (ne-eqb _ _ h)
+
+  pub turnD : (l : Bool) (a : Tree) (m : ℕ) → word ws m ≡ OR →
+      read ws (goDs l a) m ≡ bind (read ws (goC l) (m + 1)) (λ b j. read ws (goDs l (or a b)) j)
+  turnD l a m h = read-eq ws (goDs l a) m ∙ ap (λ (b : Bool). stepD ws (read ws) l b a m) (eq-eqb _ _ h)
+
+  pub turnC : (l : Bool) (a : Tree) (m : ℕ) → word ws m ≡ AND →
+      read ws (goCs l a) m ≡ bind (read ws (goU l) (m + 1)) (λ b j. read ws (goCs l (and a b)) j)
+  turnC l a m h = read-eq ws (goCs l a) m ∙ ap (λ (b : Bool). stepC ws (read ws) l b a m) (eq-eqb _ _ h)
+
+  -- A U by its first word, an atom by its own, a P in square brackets by its bracket,
+  pub U-at : (l : Bool) (i : ℕ) (k : First) → unitOf l (word ws i) ≡ k → read ws (goU l) i ≡ stepU ws (read ws) l k i
+  U-at l i k e = read-eq ws (goU l) i ∙ ap (λ (x : First). stepU ws (read ws) l x i) e
+
+  pub A-at : (i : ℕ) (k : Atom) → atomOf (word ws i) ≡ k → read ws goA i ≡ stepA ws (read ws) k i
+  A-at i k e = read-eq ws goA i ∙ ap (λ (x : Atom). stepA ws (read ws) x i) e
+
+  pub B-at : (i : ℕ) → word ws i ≡ SQUARE → read ws goB i ≡ bind (read ws (goF true) (i + 1)) (closed ws SQUARE-END)
+  B-at i e = read-eq ws goB i ∙ ap (λ (x : Bool). stepB ws (read ws) x i) (eq-eqb _ _ e)
+
+  -- and an F by the word after its D.
+  pub F-at : (l : Bool) (i : ℕ) {a : Tree} {m : ℕ} (k : Join) →
+      read ws (goD l) i ≡ ok a m → joinOf l (word ws m) ≡ k → read ws (goF l) i ≡ stepF ws (read ws) k a m
+  F-at l i {a} {m} k e f = read-eq ws (goF l) i ∙ then-on _ e ∙ ap (λ (x : Join). stepF ws (read ws) x a m) f
+
+  -- What a closing word, a comparison, and a leaf's word make.
+  pub closed-at : (w : ℕ) (t : Tree) (j : ℕ) → word ws j ≡ w → closed ws w t j ≡ ok t (j + 1)
+  closed-at w t j e = ap (λ (x : Bool). cond x (ok t (j + 1)) no-rule) (eq-eqb _ _ e)
+
+  pub compared-at : (f : Op → Num → Tree) (j : ℕ) → isOp (word ws j) ≡ true → isNum (word ws (j + 1)) ≡ true →
+      compared ws f j ≡ ok (f (opWord (word ws j)) (numWord (word ws (j + 1)))) (j + 2)
+  compared-at f j p q =
+      let r : Result = ok (f (opWord (word ws j)) (numWord (word ws (j + 1)))) (j + 2) in
+      ap (λ (x : Bool). cond (x && isNum (word ws (j + 1))) r no-rule) p ∙ ap (λ (x : Bool). cond x r no-rule) q
+
+  pub signal-at : (i : ℕ) → isSignal (word ws i) ≡ true → leafAt ws i ≡ ok (signal (signalWord (word ws i))) (i + 1)
+  signal-at i h = rw h
+
+  pub bit-at : (i : ℕ) → isBit (word ws i) ≡ true → leafAt ws i ≡ ok (constant (bitWord (word ws i))) (i + 1)
+  bit-at i h = rw (bit-signal (word ws i) h, h)
+
+  -- ---- completeness
+
+  -- What reading gives where the grammar has an X from i up to j with tree t. An F is read to its end where the next
+  -- word ends it; a D or a C is read as a part of the longest one.
+  abbrev pub Full : Bool → Symbol → ℕ → Tree → ℕ → Type 0
+  Full l F i t j = Ends (word ws j) → read ws (goF l) i ≡ ok t j
+  Full l D i t j = (word ws j ≡ AND → ⊥) → read ws (goD l) i ≡ read ws (goDs l t) j
+  Full l C i t j = read ws (goC l) i ≡ read ws (goCs l t) j
+  Full l U i t j = read ws (goU l) i ≡ ok t j
+  Full l B i t j = read ws goB i ≡ ok t j
+
+  pub complete : {l : Bool} {c : Symbol} {i j : ℕ} {t : Tree} → Reads ws l c i t j → Full l c i t j
+  complete (f-one {l} {i} {j} {t} r) = λ n.
+      F-at l i join-none (complete r (n .no-and) ∙ stopD l t j (n .no-or)) (stop-join l _ (n .no-then) (n .no-chop))
+  complete (f-then {i} {m} {j} {a} {b} r e s) = λ n.
+      F-at false i join-then (complete r (λ x. omega arith) ∙ stopD false a m (λ x. omega arith)) (ap (joinOf false) e)
+      ∙ then-on _ (complete s n)
+  complete (f-chop {i} {m} {j} {a} {b} r e s) = λ n.
+      F-at false i join-chop (complete r (λ x. omega arith) ∙ stopD false a m (λ x. omega arith)) (ap (joinOf false) e)
+      ∙ then-on _ (complete s n)
+  complete (d-one {l} {i} {j} {t} r) = λ n. read-eq ws (goD l) i ∙ then-on _ (complete r ∙ stopC l t j n)
+  complete (d-or {l} {i} {m} {j} {a} {b} r e s) = λ n.
+      complete r (λ x. omega arith) ∙ turnD l a m e ∙ then-on _ (complete s ∙ stopC l b j n)
+  complete (c-one {l} {i} {j} {t} r) = read-eq ws (goC l) i ∙ then-on _ (complete r)
+  complete (c-and {l} {i} {m} {j} {a} {b} r e s) = complete r ∙ turnC l a m e ∙ then-on _ (complete s)
+  complete (u-not {l} {i} {j} {t} e r) = U-at l i unit-not (ap (unitOf l) e) ∙ then-on _ (complete r)
+  complete (u-exists {i} {j} {t} e h r) =
+      U-at false i unit-exists (ap (unitOf false) e)
+      ∙ ap (λ (x : Bool). stepExists ws (read ws) x i) h
+      ∙ then-on _ (complete r)
+  complete (u-round {l} {i} {j} {t} e r f) =
+      U-at l i unit-round (ap (unitOf l) e)
+      ∙ then-on _ (complete r (ends-at _ ROUND-END f (omega arith)))
+      ∙ closed-at ROUND-END t j f
+  complete (u-constant {i} h) = U-at true i unit-leaf (bit-leaf (word ws i) h) ∙ bit-at i h
+  complete (u-signal {i} h) = U-at true i unit-leaf (signal-leaf (word ws i) h) ∙ signal-at i h
+  complete (u-test {i} {j} {p} h r) =
+      U-at false i unit-atom (test-unit (word ws i) h)
+      ∙ A-at i atom-test (test-atom (word ws i) h)
+      ∙ then-on _ (complete r)
+  complete (u-len {i} e h n) =
+      U-at false i unit-atom (ap (unitOf false) e)
+      ∙ A-at i atom-len (len-atom (word ws i) e)
+      ∙ compared-at len (i + 1) h n
+  complete (u-count {i} {j} {p} h r f n) =
+      U-at false i unit-atom (count-unit (word ws i) h)
+      ∙ A-at i atom-count (count-atom (word ws i) h)
+      ∙ then-on _ (complete r)
+      ∙ compared-at (count (countWord (word ws i)) p) j f n
+  complete (b-square {i} {j} {p} e r f) =
+      B-at i e
+      ∙ then-on _ (complete r (ends-at _ SQUARE-END f (omega arith)))
+      ∙ closed-at SQUARE-END p j f
+
+  -- The parser finds the tree that the grammar has for all words,
+  pub finds : (t : Tree) → Reads ws false F 0 t (length ws) → read ws (goF false) 0 ≡ ok t (length ws)
+  finds t r = complete r (ends-at _ 0 (List·getD-eq-default ws 0 (le-refl _)) (omega arith))
+
+  -- what it finds is one,
+  pub found : (t : Tree) → read ws (goF false) 0 ≡ ok t (length ws) → Reads ws false F 0 t (length ws)
+  found t e = read-holds ws (goF false) 0 t (length ws) e
+
+  -- and so there is no other.
+  pub one-tree : (t t′ : Tree) → Reads ws false F 0 t (length ws) → Reads ws false F 0 t′ (length ws) → t ≡ t′
+  one-tree t t′ r r′ =
+      let e = finds t r in
+      let e′ = finds t′ r′ in
+      cc

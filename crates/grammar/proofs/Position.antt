@@ -1,0 +1,154 @@
+-- The grammar once more, over positions in the list of words: `Reads ws l X i t j` says that the words from i up to,
+-- not including, j are an X with the tree t. Shown is what a reading takes: at least one word, none past the end, at
+-- most eight numbers of records and one node for each word. Assumes nothing.
+use mathlib.Core.Path.{_≡_, refl}
+use mathlib.Core.Bool.{Bool, true, false, _||_, and-eq-true-iff}
+use mathlib.Core.List.{List}
+use Prim.Native.Nat.{ℕ, _+_, _*_, _≤_, _<_}
+use native.Mathlib.Omega.{arith}
+use native.Mathlib.Decide.{decLt}
+use lib.Dec.{leb}
+use lib.ListN.{length, length-append, List·getD-eq-default}
+use borrow.Author.Tests.{leb-true}
+use Rattle.formulas.specs.Tree.{Tree, nodes}
+use Rattle.formulas.specs.Tree.Tree.{constant, signal, neg, and, or, then, chop, exists, test, len, count}
+use Rattle.formulas.specs.Arena.{flat}
+use Rattle.words.specs.Word.{ROUND, ROUND-END, SQUARE, SQUARE-END, NOT, AND, OR, LE, GE, BEGIN, KEPT, LEN, SUM, AGE}
+use Rattle.words.specs.Word.{THEN, CHOP, EXISTS, PARAMETER, SIGNAL, LITERAL}
+use Rattle.words.specs.Word.{within, isOp, isSignal, isNum, isBit, isTest, isCount}
+use Rattle.grammar.specs.Grammar.{Symbol, bitWord, signalWord, opWord, numWord, testWord, countWord}
+use Rattle.grammar.specs.Grammar.Symbol.{F, D, C, U, B}
+use Rattle.grammar.specs.Parse.{word}
+
+-- As `Derives` of specs/Grammar.antt, constructor by constructor; true: inside square brackets.
+pub data Reads (ws : List ℕ) : Bool → Symbol → ℕ → Tree → ℕ → Type 0 where
+  f-one : {l : Bool} {i j : ℕ} {t : Tree} → Reads ws l D i t j → Reads ws l F i t j
+  f-then : {i m j : ℕ} {a b : Tree} →
+      Reads ws false D i a m → word ws m ≡ THEN → Reads ws false F (m + 1) b j → Reads ws false F i (then a b) j
+  f-chop : {i m j : ℕ} {a b : Tree} →
+      Reads ws false D i a m → word ws m ≡ CHOP → Reads ws false F (m + 1) b j → Reads ws false F i (chop a b) j
+  d-one : {l : Bool} {i j : ℕ} {t : Tree} → Reads ws l C i t j → Reads ws l D i t j
+  d-or : {l : Bool} {i m j : ℕ} {a b : Tree} →
+      Reads ws l D i a m → word ws m ≡ OR → Reads ws l C (m + 1) b j → Reads ws l D i (or a b) j
+  c-one : {l : Bool} {i j : ℕ} {t : Tree} → Reads ws l U i t j → Reads ws l C i t j
+  c-and : {l : Bool} {i m j : ℕ} {a b : Tree} →
+      Reads ws l C i a m → word ws m ≡ AND → Reads ws l U (m + 1) b j → Reads ws l C i (and a b) j
+  u-not : {l : Bool} {i j : ℕ} {t : Tree} → word ws i ≡ NOT → Reads ws l U (i + 1) t j → Reads ws l U i (neg t) j
+  u-exists : {i j : ℕ} {t : Tree} →
+      word ws i ≡ EXISTS → isSignal (word ws (i + 1)) ≡ true → Reads ws false U (i + 2) t j →
+      Reads ws false U i (exists (signalWord (word ws (i + 1))) t) j
+  u-round : {l : Bool} {i j : ℕ} {t : Tree} →
+      word ws i ≡ ROUND → Reads ws l F (i + 1) t j → word ws j ≡ ROUND-END → Reads ws l U i t (j + 1)
+  u-constant : {i : ℕ} → isBit (word ws i) ≡ true → Reads ws true U i (constant (bitWord (word ws i))) (i + 1)
+  u-signal : {i : ℕ} → isSignal (word ws i) ≡ true → Reads ws true U i (signal (signalWord (word ws i))) (i + 1)
+  u-test : {i j : ℕ} {p : Tree} →
+      isTest (word ws i) ≡ true → Reads ws false B (i + 1) p j → Reads ws false U i (test (testWord (word ws i)) p) j
+  u-len : {i : ℕ} →
+      word ws i ≡ LEN → isOp (word ws (i + 1)) ≡ true → isNum (word ws (i + 1 + 1)) ≡ true →
+      Reads ws false U i (len (opWord (word ws (i + 1))) (numWord (word ws (i + 1 + 1)))) (i + 1 + 2)
+  u-count : {i j : ℕ} {p : Tree} →
+      isCount (word ws i) ≡ true → Reads ws false B (i + 1) p j →
+      isOp (word ws j) ≡ true → isNum (word ws (j + 1)) ≡ true →
+      Reads ws false U i (count (countWord (word ws i)) p (opWord (word ws j)) (numWord (word ws (j + 1)))) (j + 2)
+  b-square : {i j : ℕ} {p : Tree} →
+      word ws i ≡ SQUARE → Reads ws true F (i + 1) p j → word ws j ≡ SQUARE-END → Reads ws false B i p (j + 1)
+
+-- A word that is not 0 stands before the end,
+pub inside : (ws : List ℕ) (i : ℕ) → 0 < word ws i → i < length ws
+inside ws i h = elim (decLt i (length ws)) [ yes l ↦ l | no l ↦ absurd (past l) ]
+  where
+    past : (i < length ws → ⊥) → ⊥
+    past l = let e : word ws i ≡ 0 = List·getD-eq-default ws 0 (omega arith) in omega arith
+
+-- and a word between two bounds is at least the lower and at most the upper.
+pub within-low : (lo hi w : ℕ) → within lo hi w ≡ true → lo ≤ w
+within-low lo hi w e = leb-true lo w (and-eq-true-iff (leb lo w) (leb w hi) .0 e .0)
+
+pub within-high : (lo hi w : ℕ) → within lo hi w ≡ true → w ≤ hi
+within-high lo hi w e = leb-true w hi (and-eq-true-iff (leb lo w) (leb w hi) .0 e .1)
+
+-- So a word of a class is not 0.
+pub op-pos : (w : ℕ) → isOp w ≡ true → LE ≤ w
+unfolding isOp
+op-pos w e = within-low LE GE w e
+
+pub signal-pos : (w : ℕ) → isSignal w ≡ true → SIGNAL ≤ w
+unfolding isSignal
+signal-pos w e = within-low SIGNAL (SIGNAL + 63) w e
+
+pub num-pos : (w : ℕ) → isNum w ≡ true → PARAMETER ≤ w
+unfolding isNum
+num-pos w e = go (within PARAMETER (PARAMETER + 7) w) refl e
+  where
+    go : (x : Bool) → within PARAMETER (PARAMETER + 7) w ≡ x → x || leb LITERAL w ≡ true → PARAMETER ≤ w
+    go true p q = within-low PARAMETER (PARAMETER + 7) w p
+    go false p q = let h = leb-true LITERAL w q in omega arith
+
+pub bit-pos : (w : ℕ) → isBit w ≡ true → LITERAL ≤ w
+unfolding isBit
+bit-pos w e = within-low LITERAL (LITERAL + 1) w e
+
+pub test-pos : (w : ℕ) → isTest w ≡ true → BEGIN ≤ w
+unfolding isTest
+test-pos w e = within-low BEGIN KEPT w e
+
+pub count-pos : (w : ℕ) → isCount w ≡ true → SUM ≤ w
+unfolding isCount
+count-pos w e = within-low SUM AGE w e
+
+-- What a reading takes.
+pub record Span (ws : List ℕ) (i : ℕ) (t : Tree) (j : ℕ) : Type 0 where
+  pub moves : i < j
+  pub within : j ≤ length ws
+  pub small : length (flat t) + 8 * i ≤ 8 * j
+  pub few : nodes t + i ≤ j
+
+-- Of two readings with one word between them, whose tree adds at most two records and one node to theirs;
+joined : {ws : List ℕ} {i m j : ℕ} {a b : Tree} (t : Tree) → Span ws i a m → Span ws (m + 1) b j →
+    length (flat t) ≤ length (flat a) + length (flat b) + 8 → nodes t ≤ nodes a + nodes b + 1 → Span ws i t j
+joined t x y s f =
+    record { moves = omega arith; within = y .within; small = omega arith; few = omega arith }
+
+-- of a reading with one word before it, whose tree adds at most two records and one node to its own;
+before : {ws : List ℕ} {i j : ℕ} {a : Tree} (t : Tree) → Span ws (i + 1) a j →
+    length (flat t) ≤ length (flat a) + 8 → nodes t ≤ nodes a + 1 → Span ws i t j
+before t x s f =
+    record { moves = omega arith; within = x .within; small = omega arith; few = omega arith }
+
+-- and of every reading.
+pub span : {ws : List ℕ} {l : Bool} {c : Symbol} {i j : ℕ} {t : Tree} → Reads ws l c i t j → Span ws i t j
+span (f-one r) = span r
+span (f-then r e s) = joined _ (span r) (span s) (simp length-append (omega arith)) (omega arith)
+span (f-chop r e s) = joined _ (span r) (span s) (simp length-append (omega arith)) (omega arith)
+span (d-one r) = span r
+span (d-or r e s) = joined _ (span r) (span s) (simp length-append (omega arith)) (omega arith)
+span (c-one r) = span r
+span (c-and r e s) = joined _ (span r) (span s) (simp length-append (omega arith)) (omega arith)
+span (u-not e r) = before _ (span r) (simp length-append (omega arith)) (omega arith)
+span (u-exists e h r) =
+    let x = span r in
+    record { moves = omega arith; within = x .within; small = simp length-append (omega arith); few = omega arith }
+span {ws} (u-round {j = j} e r f) =
+    let x = span r in
+    let h = inside ws j (omega arith) in
+    record { moves = omega arith; within = omega arith; small = omega arith; few = omega arith }
+span {ws} (u-constant {i} h) =
+    let k = inside ws i (omega (arith, bit-pos (word ws i) h)) in
+    record { moves = omega arith; within = omega arith; small = omega arith; few = omega arith }
+span {ws} (u-signal {i} h) =
+    let k = inside ws i (omega (arith, signal-pos (word ws i) h)) in
+    record { moves = omega arith; within = omega arith; small = omega arith; few = omega arith }
+span (u-test h r) =
+    let x = span r in
+    record { moves = omega arith; within = x .within; small = simp length-append (omega arith); few = omega arith }
+span {ws} (u-len {i} e h n) =
+    let k = inside ws (i + 1 + 1) (omega (arith, num-pos (word ws (i + 1 + 1)) n)) in
+    record { moves = omega arith; within = omega arith; small = omega arith; few = omega arith }
+span {ws} (u-count {i} {j} k r h n) =
+    let x = span r in
+    let m = inside ws (j + 1) (omega (arith, num-pos (word ws (j + 1)) n)) in
+    record { moves = omega arith; within = omega arith; small = simp length-append (omega arith); few = omega arith }
+span {ws} (b-square {j = j} e r f) =
+    let x = span r in
+    let h = inside ws j (omega arith) in
+    record { moves = omega arith; within = omega arith; small = omega arith; few = omega arith }

@@ -1,0 +1,78 @@
+-- What is shown of the grammar. `Rule ws t` (specs/Grammar.antt) is document 01's: the words ws are a rule with the
+-- tree t. `treeOf` (specs/Parse.antt) is what the parse functions compute. They are the same; and it is shown that
+-- words have one tree at most, how large it is, when it has a meaning, and which numbers it names. Assumes nothing.
+use mathlib.Core.Path.{_≡_, refl, ap, _∙_}
+use mathlib.Core.Bool.{Bool, true, false, cond}
+use mathlib.Core.List.{List}
+use mathlib.Core.Option.{none, some}
+use Prim.Native.Nat.{ℕ, _*_, _≤_}
+use native.Mathlib.Omega.{arith}
+use lib.Dec.{eqb}
+use lib.ListN.{length}
+use borrow.Author.Tests.{eqb-true, eq-eqb}
+use Rattle.formulas.specs.Formula.{Formula}
+use Rattle.formulas.specs.Tree.{Tree, nodes, formulaOf}
+use Rattle.formulas.specs.Arena.{flat}
+use Rattle.formulas.specs.Bounds.{bounded}
+use Rattle.grammar.specs.Grammar.{Rule}
+use Rattle.grammar.specs.Fragment.{beyond}
+use Rattle.grammar.specs.Parse.{Result, word, ended, read, treeOf}
+use Rattle.grammar.specs.Parse.Result.{no-rule, ok}
+use Rattle.grammar.specs.Parse.Goal.{goF}
+use Rattle.grammar.proofs.Position.{span}
+use Rattle.grammar.proofs.Complete.{finds, found, one-tree}
+use Rattle.grammar.proofs.Lists.{derived, placed}
+use Rattle.grammar.proofs.Fragment
+use Rattle.grammar.proofs.Numbers.{numbers}
+
+module _ (ws : List ℕ) (t : Tree) where
+  -- The tree that the parser gives is one that the grammar has,
+  pub tree-rule : treeOf ws ≡ some t → Rule ws t
+  unfolding treeOf
+  tree-rule e = derived ws t (found ws t (go (read ws (goF false) 0) refl e))
+    where
+      go : (r : Result) → read ws (goF false) 0 ≡ r → ended ws r ≡ some t → read ws (goF false) 0 ≡ ok t (length ws)
+      go no-rule p q = cc
+      go (ok u j) p q = at-end (eqb j (length ws)) refl q
+        where
+          at-end : (b : Bool) → eqb j (length ws) ≡ b → cond b (some u) none ≡ some t →
+              read ws (goF false) 0 ≡ ok t (length ws)
+          at-end true f q = let n = eqb-true j (length ws) f in cc
+          at-end false f q = cc
+
+  -- and the tree that the grammar has is the one that the parser gives.
+  pub rule-tree : Rule ws t → treeOf ws ≡ some t
+  unfolding treeOf
+  rule-tree g =
+      ap (ended ws) (finds ws t (placed ws t g))
+      ∙ ap (λ (b : Bool). cond b (some t) none) (eq-eqb (length ws) (length ws) refl)
+
+  -- A rule has no more nodes than words, and its records take at most eight numbers a word.
+  pub rule-nodes : Rule ws t → nodes t ≤ length ws
+  rule-nodes g = let s = span (placed ws t g) in omega arith
+
+  pub rule-size : Rule ws t → length (flat t) ≤ 8 * length ws
+  rule-size g = let s = span (placed ws t g) in omega arith
+
+  -- A rule in which neither `chop` nor `exists` stands is a formula, and has a meaning;
+  pub rule-formula : Rule ws t → beyond ws ≡ false → (f : Formula) × (formulaOf t ≡ some f)
+  rule-formula g e = Fragment.rule-formula ws t g e
+
+  -- one in which either stands is none.
+  pub rule-none : Rule ws t → beyond ws ≡ true → formulaOf t ≡ none
+  rule-none g e = Fragment.rule-none ws t g e
+
+  -- A rule names signals 0 to 63, parameters 0 to 7 and literals 0 to 999,999, where its words are words.
+  pub rule-numbers : Rule ws t → ((i : ℕ) → word ws i ≤ 1999999) → bounded 1000000 t ≡ true
+  rule-numbers g h = numbers h (placed ws t g)
+
+-- Where the parser gives no tree, the words are no rule.
+pub no-tree : (ws : List ℕ) → treeOf ws ≡ none → (t : Tree) → Rule ws t → ⊥
+no-tree ws e t g =
+    let f = rule-tree ws t g in
+    let z : _≡_ {A = ℕ} 0 1 = cc in
+    omega arith
+
+-- Words have one reading at most.
+pub one-reading : (ws : List ℕ) (t t′ : Tree) → Rule ws t → Rule ws t′ → t ≡ t′
+one-reading ws t t′ g g′ = one-tree ws t t′ (placed ws t g) (placed ws t′ g′)

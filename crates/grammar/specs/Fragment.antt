@@ -1,0 +1,15 @@
+-- Which words lead out of the fragment that has a meaning. Definitions only.
+use mathlib.Core.Bool.{Bool, false, _||_}
+use mathlib.Core.List.{List, [], _∷_}
+use Prim.Native.Nat.{ℕ}
+use lib.Dec.{eqb}
+use Rattle.words.specs.Word.{CHOP, EXISTS}
+
+-- The word w stands among the words.
+unfoldable pub names : ℕ → List ℕ → Bool
+names w [] = false
+names w (x ∷ xs) = eqb x w || names w xs
+
+-- "7: `chop` or `exists` stands in it."
+abbrev pub beyond : List ℕ → Bool
+beyond ws = names CHOP ws || names EXISTS ws

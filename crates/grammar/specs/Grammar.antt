@@ -1,0 +1,69 @@
+-- Document 01's grammar as a relation between lists of words and trees ("Rule text", "Grammar"). Definitions only.
+use mathlib.Core.Bool.{Bool, true, false, cond}
+use mathlib.Core.Path.{_≡_}
+use mathlib.Core.List.{List, [], _∷_, _++_}
+use Prim.Native.Nat.{ℕ, _-_}
+use lib.Dec.{leb}
+use lib.ListN.{getD}
+use Rattle.traces.specs.Trace.{nonzero}
+use Rattle.traces.specs.Compare.{Op, opOf}
+use Rattle.formulas.specs.Formula.{Num, Test, Count}
+use Rattle.formulas.specs.Formula.Num.{literal, parameter}
+use Rattle.formulas.specs.Formula.Test.{begin, end, point, held, kept}
+use Rattle.formulas.specs.Formula.Count.{sum, age}
+use Rattle.formulas.specs.Tree.{Tree}
+use Rattle.formulas.specs.Tree.Tree.{constant, signal, neg, and, or, then, chop, exists, test, len, count}
+use Rattle.words.specs.Word.{ROUND, ROUND-END, SQUARE, SQUARE-END, NOT, AND, OR, LE, BEGIN, LEN, SUM, THEN, CHOP, EXISTS, PARAMETER, SIGNAL, LITERAL, isOp, isSignal, isNum, isBit, isTest, isCount}
+
+-- What a word stands for in a tree: the constants `0` and `1`, a signal's number, a comparison, n, a test, a count.
+abbrev pub bitWord : ℕ → Bool
+bitWord w = nonzero (w - LITERAL)
+
+abbrev pub signalWord : ℕ → ℕ
+signalWord w = w - SIGNAL
+
+abbrev pub opWord : ℕ → Op
+opWord w = opOf (w - LE)
+
+abbrev pub numWord : ℕ → Num
+numWord w = cond (leb LITERAL w) (literal (w - LITERAL)) (parameter (w - PARAMETER))
+
+abbrev pub testWord : ℕ → Test
+testWord w = getD (begin ∷ end ∷ point ∷ held ∷ []) (w - BEGIN) kept
+
+abbrev pub countWord : ℕ → Count
+countWord w = getD (sum ∷ []) (w - SUM) age
+
+-- F, D, C and U as document 01 has them, and B for P in its square brackets.
+pub data Symbol : Type 0 where
+  F D C U B : Symbol
+
+-- `Derives inside X ws t`: the words ws are an X with the tree t. Inside square brackets stands a P:
+-- "P: like D, C and U with its own round brackets, over `!`, `0`, `1` and signals"; an F there is a D.
+pub data Derives : Bool → Symbol → List ℕ → Tree → Type 0 where
+  -- "F: D, or D `then` F, or D `chop` F."
+  F-one : {inside : Bool} {s : List ℕ} {t : Tree} → Derives inside D s t → Derives inside F s t
+  F-then : {s u : List ℕ} {a b : Tree} → Derives false D s a → Derives false F u b → Derives false F (s ++ THEN ∷ u) (then a b)
+  F-chop : {s u : List ℕ} {a b : Tree} → Derives false D s a → Derives false F u b → Derives false F (s ++ CHOP ∷ u) (chop a b)
+  -- "D: one or more C joined by `|`, grouped from the left."
+  D-one : {inside : Bool} {s : List ℕ} {t : Tree} → Derives inside C s t → Derives inside D s t
+  D-or : {inside : Bool} {s u : List ℕ} {a b : Tree} → Derives inside D s a → Derives inside C u b → Derives inside D (s ++ OR ∷ u) (or a b)
+  -- "C: likewise U joined by `&`."
+  C-one : {inside : Bool} {s : List ℕ} {t : Tree} → Derives inside U s t → Derives inside C s t
+  C-and : {inside : Bool} {s u : List ℕ} {a b : Tree} → Derives inside C s a → Derives inside U u b → Derives inside C (s ++ AND ∷ u) (and a b)
+  -- "U: `!` U, or `exists` signal U, or `(` F `)`, or an atom."
+  U-not : {inside : Bool} {s : List ℕ} {t : Tree} → Derives inside U s t → Derives inside U (NOT ∷ s) (neg t)
+  U-exists : {w : ℕ} {s : List ℕ} {t : Tree} → isSignal w ≡ true → Derives false U s t → Derives false U (EXISTS ∷ w ∷ s) (exists (signalWord w) t)
+  U-round : {inside : Bool} {s : List ℕ} {t : Tree} → Derives inside F s t → Derives inside U (ROUND ∷ s ++ ROUND-END ∷ []) t
+  -- In P: "`0`, `1` and signals".
+  U-constant : {w : ℕ} → isBit w ≡ true → Derives true U (w ∷ []) (constant (bitWord w))
+  U-signal : {w : ℕ} → isSignal w ≡ true → Derives true U (w ∷ []) (signal (signalWord w))
+  -- "Atoms: `begin[P]`, `end[P]`, `point[P]`, `held[P]`, `kept[P]`, `len` op n, `sum[P]` op n, `age[P]` op n."
+  U-test : {k : ℕ} {s : List ℕ} {p : Tree} → isTest k ≡ true → Derives false B s p → Derives false U (k ∷ s) (test (testWord k) p)
+  U-len : {o n : ℕ} → isOp o ≡ true → isNum n ≡ true → Derives false U (LEN ∷ o ∷ n ∷ []) (len (opWord o) (numWord n))
+  U-count : {k : ℕ} {s : List ℕ} {p : Tree} (o n : ℕ) → isCount k ≡ true → Derives false B s p → isOp o ≡ true → isNum n ≡ true → Derives false U (k ∷ s ++ o ∷ n ∷ []) (count (countWord k) p (opWord o) (numWord n))
+  B-square : {s : List ℕ} {p : Tree} → Derives true F s p → Derives false B (SQUARE ∷ s ++ SQUARE-END ∷ []) p
+
+-- The words are a rule of the grammar, with that tree.
+abbrev pub Rule : List ℕ → Tree → Type 0
+Rule ws t = Derives false F ws t

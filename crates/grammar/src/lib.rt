@@ -1,0 +1,376 @@
+// Reading a rule's words by recursive descent (document 01, "Grammar"): F, D, C and U call each other, and the words left
+// fall. A tree is written as records into a lent arena (formulas, specs/Arena.antt).
+ghost use mathlib.Core.Bool.{Bool, true, false, _&&_};
+ghost use mathlib.Core.Path.{_≡_};
+ghost use Prim.Native.Nat.{_+_, _-_, _≤_, _<_};
+ghost use lib.ListN.{length};
+ghost use Rattle.traces.specs.Compare.{opNumber};
+ghost use Rattle.formulas.specs.Tree.{upper, leadTest, leadCount};
+ghost use Rattle.formulas.specs.Arena.{numKind, numValue};
+ghost use Rattle.words.specs.Word.{isOp, isNum, isTest, isCount};
+ghost use Rattle.grammar.specs.Grammar.{opWord, numWord, testWord, countWord};
+ghost use Rattle.grammar.specs.Facts.{leafFacts, atomFacts, negFacts, joinFacts, thenFacts, chopFacts, existsFacts};
+ghost use Rattle.grammar.specs.Parse.{word};
+ghost use Rattle.grammar.specs.Parse.Goal.{goF, goD, goC, goU, goA, goB};
+ghost use Rattle.grammar.specs.Answer.{Reading, Room, Pushed, Leaf, Compared};
+
+// What is known of a tree: its nodes, whether it is a lead, and whether the left of each `then` in it is one.
+pub struct Facts {
+    pub nodes: u32,
+    pub lead: bool,
+    pub leads: bool,
+}
+
+// A tree that was read: the position after its words, the place after its records, and its facts; or none.
+pub enum Parsed {
+    At(usize, usize, Facts),
+    No,
+}
+
+// The word at a position, 0 past the end.
+fn peek(ws: &[u32], at: usize) -> u32
+    ensures { λ r. ⌜ r ≡ word (now (ws .entry)) at ⌝ }
+{
+    if at < ws.len() { ws[at] } else { 0 }
+}
+
+// One record at `top`; the place after it.
+fn push(arena: &mut [u32], top: usize, k: u32, a: u32, b: u32, c: u32) -> usize
+    requires { ⌜ top + 4 ≤ length (now arena) ⌝ }
+    ensures { λ r. ⌜ Pushed (now (arena .entry)) top k a b c r (now (arena .exit)) ⌝ }
+{
+    arena[top] = k;
+    arena[top + 1] = a;
+    arena[top + 2] = b;
+    arena[top + 3] = c;
+    top + 4
+}
+
+// Both.
+fn both(a: bool, b: bool) -> bool
+    ensures { λ r. ⌜ r ≡ (a && b) ⌝ }
+{
+    if a { b } else { false }
+}
+
+// The facts of `0`, `1` and a signal.
+fn leaf_facts() -> Facts
+    ensures { λ r. ⌜ r ≡ leafFacts ⌝ }
+{
+    Facts {
+        nodes: 0,
+        lead: false,
+        leads: true,
+    }
+}
+
+// The facts of an atom.
+fn atom_facts(lead: bool) -> Facts
+    ensures { λ r. ⌜ r ≡ atomFacts lead ⌝ }
+{
+    Facts {
+        nodes: 1,
+        lead,
+        leads: true,
+    }
+}
+
+// The facts of `!` t.
+fn not_facts(t: Facts) -> Facts
+    requires { ⌜ t .nodes < 1000 ⌝ }
+    ensures { λ r. ⌜ r ≡ negFacts t ⌝ }
+{
+    Facts {
+        nodes: t.nodes + 1,
+        lead: false,
+        leads: t.leads,
+    }
+}
+
+// The facts of a `&` b and of a `|` b.
+fn join_facts(a: Facts, b: Facts) -> Facts
+    requires { ⌜ a .nodes + b .nodes < 1000 ⌝ }
+    ensures { λ r. ⌜ r ≡ joinFacts a b ⌝ }
+{
+    Facts {
+        nodes: a.nodes + b.nodes + 1,
+        lead: both(a.lead, b.lead),
+        leads: both(a.leads, b.leads),
+    }
+}
+
+// The facts of a `then` b.
+fn then_facts(a: Facts, b: Facts) -> Facts
+    requires { ⌜ a .nodes + b .nodes < 1000 ⌝ }
+    ensures { λ r. ⌜ r ≡ thenFacts a b ⌝ }
+{
+    Facts {
+        nodes: a.nodes + b.nodes + 1,
+        lead: false,
+        leads: both(a.lead, both(a.leads, b.leads)),
+    }
+}
+
+// The facts of a `chop` b.
+fn chop_facts(a: Facts, b: Facts) -> Facts
+    requires { ⌜ a .nodes + b .nodes < 1000 ⌝ }
+    ensures { λ r. ⌜ r ≡ chopFacts a b ⌝ }
+{
+    Facts {
+        nodes: a.nodes + b.nodes,
+        lead: false,
+        leads: both(a.leads, b.leads),
+    }
+}
+
+// The facts of `exists` signal t.
+fn exists_facts(t: Facts) -> Facts
+    ensures { λ r. ⌜ r ≡ existsFacts t ⌝ }
+{
+    Facts {
+        nodes: t.nodes,
+        lead: false,
+        leads: t.leads,
+    }
+}
+
+// Whether a comparison is `<=` or `<`.
+fn is_upper(o: u32) -> bool
+    requires { ⌜ isOp o ≡ true ⌝ }
+    ensures { λ r. ⌜ r ≡ upper (opWord o) ⌝ }
+{
+    o <= words::LT
+}
+
+// Whether a lead may have the test: `begin` or `kept`.
+fn is_lead_test(k: u32) -> bool
+    requires { ⌜ isTest k ≡ true ⌝ }
+    ensures { λ r. ⌜ r ≡ leadTest (testWord k) ⌝ }
+{
+    if k == words::BEGIN {
+        return true;
+    }
+    k == words::KEPT
+}
+
+// Whether a lead may have the count: `sum`.
+fn is_lead_count(k: u32) -> bool
+    requires { ⌜ isCount k ≡ true ⌝ }
+    ensures { λ r. ⌜ r ≡ leadCount (countWord k) ⌝ }
+{
+    k == words::SUM
+}
+
+// The equation kind that compares with n.
+fn num_kind(n: u32) -> u32
+    ensures { λ r. ⌜ r ≡ numKind (numWord n) ⌝ }
+{
+    if n < words::LITERAL { 11 } else { 10 }
+}
+
+// The literal's value or the parameter's number.
+fn num_value(n: u32) -> u32
+    requires { ⌜ isNum n ≡ true ⌝ }
+    ensures { λ r. ⌜ r ≡ numValue (numWord n) ⌝ }
+{
+    if n < words::LITERAL {
+        return n - words::PARAMETER;
+    }
+    n - words::LITERAL
+}
+
+// `0`, `1` or a signal, the word at a position inside square brackets.
+fn leaf(ws: &[u32], at: usize, arena: &mut [u32], top: usize) -> Parsed
+    requires { ⌜ Room (now ws) at (now arena) top ⌝ }
+    ensures { λ r. ⌜ Leaf (now (ws .entry)) at (now (arena .entry)) top r (now (arena .exit)) ⌝ }
+{
+    let w = peek(ws, at);
+    if words::is_signal(w) {
+        let end = push(arena, top, formulas::SIGNAL, w - words::SIGNAL, 0, 0);
+        return Parsed::At(at + 1, end, leaf_facts());
+    }
+    if words::is_bit(w) {
+        let end = push(arena, top, formulas::CONSTANT, w - words::LITERAL, 0, 0);
+        return Parsed::At(at + 1, end, leaf_facts());
+    }
+    Parsed::No
+}
+
+// op n at a position: the end of an atom, whose record of kind k is written.
+fn comparison(ws: &[u32], at: usize, arena: &mut [u32], top: usize, k: u32, lead: bool) -> Parsed
+    requires { ⌜ (at + 1 < 1000) × (top + 4 ≤ length (now arena)) ⌝ }
+    ensures { λ r. ⌜ Compared (now (ws .entry)) at (now (arena .entry)) top k lead r (now (arena .exit)) ⌝ }
+{
+    let o = peek(ws, at);
+    let n = peek(ws, at + 1);
+    if !words::is_op(o) {
+        return Parsed::No;
+    }
+    if !words::is_num(n) {
+        return Parsed::No;
+    }
+    let end = push(arena, top, k, o - words::LE, num_kind(n), num_value(n));
+    Parsed::At(at + 2, end, atom_facts(both(lead, is_upper(o))))
+}
+
+// "F: D, or D `then` F, or D `chop` F."
+pub fn parse_f(ws: &[u32], inside: bool, at: usize, arena: &mut [u32], top: usize) -> Parsed
+    requires { ⌜ Room (now ws) at (now arena) top ⌝ }
+    ensures { λ r. ⌜ Reading (goF inside) (now (ws .entry)) at (now (arena .entry)) top r (now (arena .exit)) ⌝ }
+{
+    let Parsed::At(j, t, a) = parse_d(ws, inside, at, arena, top) else {
+        return Parsed::No;
+    };
+    if inside {
+        return Parsed::At(j, t, a);
+    }
+    let k = peek(ws, j);
+    if k == words::THEN {
+        let mark = push(arena, t, formulas::LEAD_END, 0, 0, 0);
+        let Parsed::At(m, e, b) = parse_f(ws, false, j + 1, arena, mark) else {
+            return Parsed::No;
+        };
+        let end = push(arena, e, formulas::THEN, 0, 0, 0);
+        return Parsed::At(m, end, then_facts(a, b));
+    }
+    if k == words::CHOP {
+        let Parsed::At(m, e, b) = parse_f(ws, false, j + 1, arena, t) else {
+            return Parsed::No;
+        };
+        let end = push(arena, e, formulas::CHOP, 0, 0, 0);
+        return Parsed::At(m, end, chop_facts(a, b));
+    }
+    Parsed::At(j, t, a)
+}
+
+// "D: one or more C joined by `|`, grouped from the left."
+pub fn parse_d(ws: &[u32], inside: bool, at: usize, arena: &mut [u32], top: usize) -> Parsed
+    requires { ⌜ Room (now ws) at (now arena) top ⌝ }
+    ensures { λ r. ⌜ Reading (goD inside) (now (ws .entry)) at (now (arena .entry)) top r (now (arena .exit)) ⌝ }
+{
+    let Parsed::At(first, low, a) = parse_c(ws, inside, at, arena, top) else {
+        return Parsed::No;
+    };
+    let mut j = first;
+    let mut t = low;
+    let mut facts = a;
+    while peek(ws, j) == words::OR {
+        let Parsed::At(m, e, b) = parse_c(ws, inside, j + 1, arena, t) else {
+            return Parsed::No;
+        };
+        t = push(arena, e, formulas::OR, 0, 0, 0);
+        j = m;
+        facts = join_facts(facts, b);
+    }
+    Parsed::At(j, t, facts)
+}
+
+// "C: likewise U joined by `&`."
+pub fn parse_c(ws: &[u32], inside: bool, at: usize, arena: &mut [u32], top: usize) -> Parsed
+    requires { ⌜ Room (now ws) at (now arena) top ⌝ }
+    ensures { λ r. ⌜ Reading (goC inside) (now (ws .entry)) at (now (arena .entry)) top r (now (arena .exit)) ⌝ }
+{
+    let Parsed::At(first, low, a) = parse_u(ws, inside, at, arena, top) else {
+        return Parsed::No;
+    };
+    let mut j = first;
+    let mut t = low;
+    let mut facts = a;
+    while peek(ws, j) == words::AND {
+        let Parsed::At(m, e, b) = parse_u(ws, inside, j + 1, arena, t) else {
+            return Parsed::No;
+        };
+        t = push(arena, e, formulas::AND, 0, 0, 0);
+        j = m;
+        facts = join_facts(facts, b);
+    }
+    Parsed::At(j, t, facts)
+}
+
+// "U: `!` U, or `exists` signal U, or `(` F `)`, or an atom."
+pub fn parse_u(ws: &[u32], inside: bool, at: usize, arena: &mut [u32], top: usize) -> Parsed
+    requires { ⌜ Room (now ws) at (now arena) top ⌝ }
+    ensures { λ r. ⌜ Reading (goU inside) (now (ws .entry)) at (now (arena .entry)) top r (now (arena .exit)) ⌝ }
+{
+    let k = peek(ws, at);
+    if k == words::NOT {
+        let Parsed::At(j, t, a) = parse_u(ws, inside, at + 1, arena, top) else {
+            return Parsed::No;
+        };
+        let end = push(arena, t, formulas::NOT, 0, 0, 0);
+        return Parsed::At(j, end, not_facts(a));
+    }
+    if k == words::ROUND {
+        let Parsed::At(j, t, a) = parse_f(ws, inside, at + 1, arena, top) else {
+            return Parsed::No;
+        };
+        if peek(ws, j) != words::ROUND_END {
+            return Parsed::No;
+        }
+        return Parsed::At(j + 1, t, a);
+    }
+    if inside {
+        return leaf(ws, at, arena, top);
+    }
+    if k == words::EXISTS {
+        let w = peek(ws, at + 1);
+        if !words::is_signal(w) {
+            return Parsed::No;
+        }
+        let Parsed::At(j, t, a) = parse_u(ws, false, at + 2, arena, top) else {
+            return Parsed::No;
+        };
+        let end = push(arena, t, formulas::EXISTS, w - words::SIGNAL, 0, 0);
+        return Parsed::At(j, end, exists_facts(a));
+    }
+    parse_atom(ws, at, arena, top)
+}
+
+// "Atoms: `begin[P]`, `end[P]`, `point[P]`, `held[P]`, `kept[P]`, `len` op n, `sum[P]` op n, `age[P]` op n."
+pub fn parse_atom(ws: &[u32], at: usize, arena: &mut [u32], top: usize) -> Parsed
+    requires { ⌜ Room (now ws) at (now arena) top ⌝ }
+    ensures { λ r. ⌜ Reading goA (now (ws .entry)) at (now (arena .entry)) top r (now (arena .exit)) ⌝ }
+{
+    let k = peek(ws, at);
+    if words::is_test(k) {
+        let Parsed::At(j, t, _) = parse_square(ws, at + 1, arena, top) else {
+            return Parsed::No;
+        };
+        let end = push(arena, t, formulas::TEST + (k - words::BEGIN), 0, 0, 0);
+        return Parsed::At(j, end, atom_facts(is_lead_test(k)));
+    }
+    if k == words::LEN {
+        return comparison(ws, at + 1, arena, top, formulas::LEN, true);
+    }
+    if words::is_count(k) {
+        let Parsed::At(j, t, _) = parse_square(ws, at + 1, arena, top) else {
+            return Parsed::No;
+        };
+        return comparison(
+            ws,
+            j,
+            arena,
+            t,
+            formulas::COUNT + (k - words::SUM),
+            is_lead_count(k),
+        );
+    }
+    Parsed::No
+}
+
+// A P in square brackets.
+pub fn parse_square(ws: &[u32], at: usize, arena: &mut [u32], top: usize) -> Parsed
+    requires { ⌜ Room (now ws) at (now arena) top ⌝ }
+    ensures { λ r. ⌜ Reading goB (now (ws .entry)) at (now (arena .entry)) top r (now (arena .exit)) ⌝ }
+{
+    if peek(ws, at) != words::SQUARE {
+        return Parsed::No;
+    }
+    let Parsed::At(j, t, a) = parse_f(ws, true, at + 1, arena, top) else {
+        return Parsed::No;
+    };
+    if peek(ws, j) != words::SQUARE_END {
+        return Parsed::No;
+    }
+    Parsed::At(j + 1, t, a)
+}

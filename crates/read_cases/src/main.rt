@@ -1,0 +1,57 @@
+// Reads each line of standard input as a rule text and prints what reading it answers. The lines of `stdin` and `stdout`
+// are written by hand from document 01: its "Run only" list, P1 to P13, and texts for each refusal and their order.
+use libc::STDIN_FILENO;
+use libc::STDOUT_FILENO;
+use rules::Answer;
+ghost use mathlib.Core.Path.{_≡_};
+ghost use Prim.Native.Nat.{_+_, _≤_};
+ghost use lib.ListN.{length, drop};
+ghost use Rattle.read_cases.specs.Lines.{line};
+
+// The end of the line that starts at `from`: its byte 10, or the end of the text.
+fn line_end(s: &[u8], from: usize) -> usize
+    requires { ⌜ from ≤ length (now s) ⌝ }
+    ensures { λ r. ⌜ (r ≡ from + length (line (drop from (now (s .entry))))) × (r ≤ length (now (s .entry))) ⌝ }
+{
+    let mut e = from;
+    while e < s.len() {
+        if s[e] == 10 {
+            return e;
+        }
+        e += 1;
+    }
+    e
+}
+
+// Prints the answer for a text, and the text.
+fn show(text: &[u8]) {
+    match rules::read_rule(text) {
+        Answer::Rule(n) => {
+            io::write_all(STDOUT_FILENO, b"nodes=");
+            io::print_decimal(STDOUT_FILENO, n as u64);
+        }
+        Answer::Refused(n) => {
+            io::write_all(STDOUT_FILENO, b"refused=");
+            io::print_decimal(STDOUT_FILENO, n as u64);
+        }
+    }
+    io::write_all(STDOUT_FILENO, b": ");
+    io::write_all(STDOUT_FILENO, text);
+    io::write_all(STDOUT_FILENO, b"\n");
+}
+
+// Shows each line.
+fn show_lines(s: &[u8]) {
+    let mut at = 0;
+    while at < s.len() {
+        let end = line_end(s, at);
+        show(&s[at..end]);
+        at = end + 1;
+    }
+}
+
+fn main() {
+    let mut input = io::large_buffer();
+    let n = io::read_full(STDIN_FILENO, &mut input);
+    show_lines(&input[..n]);
+}

@@ -1,0 +1,28 @@
+-- Refusal 5 (document 01, "Read a rule"). Definitions only.
+use mathlib.Core.Bool.{Bool, true, false, _||_, cond}
+use mathlib.Core.List.{List, [], _∷_}
+use Prim.Native.Nat.{ℕ, suc, pred}
+use lib.Dec.{eqb, ltb}
+use Rattle.words.specs.Word.{ROUND, ROUND-END, NOT, THEN, CHOP, EXISTS}
+
+-- How many round brackets are open after the word w, of d before it: "a closing one with none open counts nothing".
+abbrev pub opened : ℕ → ℕ → ℕ
+opened d w = cond (eqb w ROUND) (suc d) (cond (eqb w ROUND-END) (pred d) d)
+
+-- "more than 16 round brackets open at some word"
+unfoldable pub deep : ℕ → List ℕ → Bool
+deep d [] = false
+deep d (w ∷ ws) = ltb 16 (opened d w) || deep (opened d w) ws
+
+-- `!`, `then`, `chop`, `exists`
+unfoldable pub counted : ℕ → Bool
+counted w = eqb w NOT || (eqb w THEN || (eqb w CHOP || eqb w EXISTS))
+
+-- How many of them there are "together".
+unfoldable pub tally : List ℕ → ℕ
+tally [] = 0
+tally (w ∷ ws) = cond (counted w) (suc (tally ws)) (tally ws)
+
+-- "5: more than 16 round brackets open at some word .., or more than 32 of `!`, `then`, `chop`, `exists` together."
+abbrev pub over : List ℕ → Bool
+over ws = deep 0 ws || ltb 32 (tally ws)

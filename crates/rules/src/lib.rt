@@ -1,0 +1,238 @@
+// Reading a rule (document 01, "Read a rule"): its words, limits, grammar and fragment.
+use grammar::Parsed;
+use words::Split;
+ghost use mathlib.Core.Bool.{Bool};
+ghost use mathlib.Core.Path.{_≡_};
+ghost use Prim.Native.Nat.{_≤_, _<_};
+ghost use lib.ListN.{length};
+ghost use Rattle.lists.specs.Same.{same};
+ghost use Rattle.grammar.specs.Fragment.{names, beyond};
+ghost use Rattle.words.specs.Split.Out.{made};
+ghost use Rattle.rules.specs.Limits.{opened, deep, counted, tally, over};
+ghost use Rattle.rules.specs.Reading.{ruleOf, ofWords};
+ghost use Rattle.rules.specs.Same.{Compared};
+ghost use Rattle.rules.specs.Answer.{answerOf, Told, Laid, splitRefusal, recordsRefusal};
+
+// What reading a rule answers: its node count, or the refusal's number.
+pub enum Answer {
+    Rule(u32),
+    Refused(u32),
+}
+
+// What reading a rule's tree answers: how many numbers its records take and its node count, or the refusal's number.
+pub enum Records {
+    Rule(usize, u32),
+    Refused(u32),
+}
+
+// What comparing two rules answers.
+pub enum Same {
+    Yes,
+    No,
+    Refused(u32),
+}
+
+// How many round brackets are open after a word.
+fn open_after(depth: usize, w: u32) -> usize
+    requires { ⌜ depth < 1000 ⌝ }
+    ensures { λ r. ⌜ r ≡ opened depth w ⌝ }
+{
+    if w == words::ROUND {
+        return depth + 1;
+    }
+    if w == words::ROUND_END {
+        if depth == 0 {
+            return 0;
+        }
+        return depth - 1;
+    }
+    depth
+}
+
+// "more than 16 round brackets open at some word"
+fn is_deep(ws: &[u32]) -> bool
+    ensures { λ r. ⌜ r ≡ deep 0 (now (ws .entry)) ⌝ }
+{
+    let mut depth: usize = 0;
+    let mut i: usize = 0;
+    while i < ws.len() {
+        depth = open_after(depth, ws[i]);
+        if 16 < depth {
+            return true;
+        }
+        i += 1;
+    }
+    false
+}
+
+// Whether a word is `!`, `then`, `chop` or `exists`.
+fn is_counted(w: u32) -> bool
+    ensures { λ r. ⌜ r ≡ counted w ⌝ }
+{
+    if w == words::NOT {
+        return true;
+    }
+    if w == words::THEN {
+        return true;
+    }
+    if w == words::CHOP {
+        return true;
+    }
+    w == words::EXISTS
+}
+
+// How many words are.
+fn count(ws: &[u32]) -> usize
+    ensures { λ r. ⌜ r ≡ tally (now (ws .entry)) ⌝ }
+{
+    let mut n: usize = 0;
+    let mut i: usize = 0;
+    while i < ws.len() {
+        if is_counted(ws[i]) {
+            n += 1;
+        }
+        i += 1;
+    }
+    n
+}
+
+// Refusal 5.
+fn is_over(ws: &[u32]) -> bool
+    ensures { λ r. ⌜ r ≡ over (now (ws .entry)) ⌝ }
+{
+    if is_deep(ws) {
+        return true;
+    }
+    32 < count(ws)
+}
+
+// Whether a word stands among the words.
+fn has_word(ws: &[u32], w: u32) -> bool
+    ensures { λ r. ⌜ r ≡ names w (now (ws .entry)) ⌝ }
+{
+    let mut i: usize = 0;
+    while i < ws.len() {
+        if ws[i] == w {
+            return true;
+        }
+        i += 1;
+    }
+    false
+}
+
+// Refusal 7.
+fn is_beyond(ws: &[u32]) -> bool
+    ensures { λ r. ⌜ r ≡ beyond (now (ws .entry)) ⌝ }
+{
+    if has_word(ws, words::CHOP) {
+        return true;
+    }
+    has_word(ws, words::EXISTS)
+}
+
+// The words' refusal, where there is one.
+fn split_refusal(s: Split) -> u32
+    ensures { λ r. ⌜ r ≡ splitRefusal s ⌝ }
+{
+    match s {
+        Split::Words(_) => 0,
+        Split::Refused(n) => n,
+    }
+}
+
+// The tree of a rule's words: refusals 5 to 8, or its records in the arena.
+fn read_words(ws: &[u32], arena: &mut [u32]) -> Records
+    requires { ⌜ (length (now ws) ≤ 240) × (1920 ≤ length (now arena)) ⌝ }
+    ensures { λ r. ⌜ Laid (ofWords (made (now (ws .entry)))) (now (arena .entry)) r (now (arena .exit)) ⌝ }
+{
+    if is_over(ws) {
+        return Records::Refused(5);
+    }
+    let Parsed::At(next, top, facts) = grammar::parse_f(ws, false, 0, arena, 0) else {
+        return Records::Refused(6);
+    };
+    if next != ws.len() {
+        return Records::Refused(6);
+    }
+    if is_beyond(ws) {
+        return Records::Refused(7);
+    }
+    let leads = facts.leads;
+    if !leads {
+        return Records::Refused(8);
+    }
+    Records::Rule(top, facts.nodes)
+}
+
+// The tree of a rule text, for the operations that go on with it: refusals 1 to 8, or its records in the arena.
+pub fn read_tree(text: &[u8], arena: &mut [u32]) -> Records
+    requires { ⌜ 1920 ≤ length (now arena) ⌝ }
+    ensures { λ r. ⌜ Laid (ruleOf (now (text .entry))) (now (arena .entry)) r (now (arena .exit)) ⌝ }
+{
+    let mut ws = [0u32; 240];
+    let split = words::split_text(text, &mut ws);
+    let Split::Words(n) = split else {
+        return Records::Refused(split_refusal(split));
+    };
+    read_words(&ws[..n], arena)
+}
+
+// The records' refusal, where there is one.
+fn records_refusal(r: Records) -> u32
+    ensures { λ n. ⌜ n ≡ recordsRefusal r ⌝ }
+{
+    match r {
+        Records::Rule(_, _) => 0,
+        Records::Refused(n) => n,
+    }
+}
+
+// Read a rule: its node count, or refusals 1 to 8, the first that applies.
+pub fn read_rule(text: &[u8]) -> Answer
+    ensures { λ r. ⌜ r ≡ answerOf (ruleOf (now (text .entry))) ⌝ }
+    ensures { λ r. ⌜ Told (now (text .entry)) r ⌝ }
+{
+    let mut arena = [0u32; 1920];
+    let records = read_tree(text, &mut arena);
+    let Records::Rule(_, nodes) = records else {
+        return Answer::Refused(records_refusal(records));
+    };
+    Answer::Rule(nodes)
+}
+
+// Whether two slices hold the same numbers.
+fn same_numbers(a: &[u32], b: &[u32]) -> bool
+    ensures { λ r. ⌜ r ≡ same (now (a .entry)) (now (b .entry)) ⌝ }
+{
+    if a.len() != b.len() {
+        return false;
+    }
+    let mut i = 0;
+    while i < a.len() {
+        if a[i] != b[i] {
+            return false;
+        }
+        i += 1;
+    }
+    true
+}
+
+// Same rule, two texts: refusals 1 to 8 of the first, then of the second; otherwise yes exactly if both read to one tree.
+pub fn same_rule(first: &[u8], second: &[u8]) -> Same
+    ensures { λ r. ⌜ Compared (ruleOf (now (first .entry))) (ruleOf (now (second .entry))) r ⌝ }
+{
+    let mut arena = [0u32; 1920];
+    let records = read_tree(first, &mut arena);
+    let Records::Rule(n, _) = records else {
+        return Same::Refused(records_refusal(records));
+    };
+    let mut other = [0u32; 1920];
+    let others = read_tree(second, &mut other);
+    let Records::Rule(m, _) = others else {
+        return Same::Refused(records_refusal(others));
+    };
+    if same_numbers(&arena[..n], &other[..m]) {
+        return Same::Yes;
+    }
+    Same::No
+}
