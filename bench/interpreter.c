@@ -1,0 +1,93 @@
+#include "interpreter.h"
+
+/* What an operand has to be. */
+enum { UNUSED, EARLIER_BOOL, EARLIER_COUNT, ANY_BOOL, ANY_COUNT, SIGNAL, TRUTH, OPERATOR, LITERAL, PARAMETER };
+enum { BOOL = 1, COUNT = 2 };
+
+static const uint8_t shape[12][3] = {
+    {SIGNAL, UNUSED, UNUSED},
+    {UNUSED, UNUSED, UNUSED},
+    {TRUTH, UNUSED, UNUSED},
+    {EARLIER_BOOL, UNUSED, UNUSED},
+    {EARLIER_BOOL, EARLIER_BOOL, UNUSED},
+    {EARLIER_BOOL, EARLIER_BOOL, UNUSED},
+    {ANY_BOOL, UNUSED, TRUTH},
+    {ANY_COUNT, UNUSED, UNUSED},
+    {EARLIER_COUNT, EARLIER_BOOL, UNUSED},
+    {EARLIER_BOOL, EARLIER_COUNT, UNUSED},
+    {EARLIER_COUNT, OPERATOR, LITERAL},
+    {EARLIER_COUNT, OPERATOR, PARAMETER},
+};
+static const uint8_t gives[12] = {BOOL, BOOL, BOOL, BOOL, BOOL, BOOL, BOOL, COUNT, COUNT, COUNT, BOOL, BOOL};
+
+static inline int is_flow(const uint32_t *table, size_t below, int sort, uint32_t x) {
+    return x < below && table[4 * x] < 12 && gives[table[4 * x]] == sort;
+}
+
+static inline int fits(const uint32_t *table, size_t n, size_t i, int operand, uint32_t x) {
+    switch (operand) {
+    case UNUSED: return x == 0;
+    case EARLIER_BOOL: return is_flow(table, i, BOOL, x);
+    case EARLIER_COUNT: return is_flow(table, i, COUNT, x);
+    case ANY_BOOL: return is_flow(table, n, BOOL, x);
+    case ANY_COUNT: return is_flow(table, n, COUNT, x);
+    case SIGNAL: return x < 64;
+    case TRUTH: return x < 2;
+    case OPERATOR: return x < 5;
+    case LITERAL: return x < 1000000;
+    default: return x < 8;
+    }
+}
+
+static inline uint32_t compare(uint32_t op, uint32_t x, uint32_t y) {
+    switch (op) {
+    case 0: return x <= y;
+    case 1: return x < y;
+    case 2: return x == y;
+    case 3: return x > y;
+    default: return x >= y;
+    }
+}
+
+struct towerwatch_answer interpreter_step(const uint32_t *table, size_t table_len, size_t n, uint32_t *state,
+                                          size_t state_len, uint32_t *values, size_t values_len, uint32_t start,
+                                          uint64_t signals, const uint32_t parameters[8]) {
+    if (n == 0 || n > 4096 || table_len < 4 * n) return (struct towerwatch_answer){10, 0};
+    for (size_t i = 0; i < n; i++) {
+        const uint32_t *e = table + 4 * i;
+        if (e[0] >= 12) return (struct towerwatch_answer){11, 0};
+        const uint8_t *s = shape[e[0]];
+        if (!fits(table, n, i, s[0], e[1]) || !fits(table, n, i, s[1], e[2]) || !fits(table, n, i, s[2], e[3]))
+            return (struct towerwatch_answer){11, 0};
+    }
+    if (gives[table[4 * (n - 1)]] != BOOL) return (struct towerwatch_answer){11, 0};
+    if (state_len < n || values_len < n) return (struct towerwatch_answer){12, 0};
+    for (int j = 0; j < 8; j++)
+        if (parameters[j] > 999999) return (struct towerwatch_answer){13, 0};
+    for (size_t i = 0; i < n; i++) {
+        if (table[4 * i] == 6 && state[i] > 1) return (struct towerwatch_answer){14, 0};
+        if (table[4 * i] == 7 && state[i] > 1000000) return (struct towerwatch_answer){14, 0};
+    }
+    for (size_t i = 0; i < n; i++) {
+        const uint32_t a = table[4 * i + 1], b = table[4 * i + 2], c = table[4 * i + 3];
+        uint32_t v;
+        switch (table[4 * i]) {
+        case 0: v = (signals >> a) & 1; break;
+        case 1: v = start != 0; break;
+        case 2: v = a; break;
+        case 3: v = !values[a]; break;
+        case 4: v = values[a] && values[b]; break;
+        case 5: v = values[a] || values[b]; break;
+        case 6:
+        case 7: v = state[i]; break;
+        case 8: v = values[a] + (values[b] && values[a] < 1000000); break;
+        case 9: v = values[a] ? values[b] : 0; break;
+        case 10: v = compare(b, values[a], c); break;
+        default: v = compare(b, values[a], parameters[c]); break;
+        }
+        values[i] = v;
+    }
+    for (size_t i = 0; i < n; i++)
+        if (table[4 * i] == 6 || table[4 * i] == 7) state[i] = values[table[4 * i + 1]];
+    return (struct towerwatch_answer){0, values[n - 1]};
+}

@@ -1,0 +1,11 @@
+/* A hand-written interpreter of equation tables, with the same refusals as towerwatch_step: what the bench compares with. */
+#ifndef INTERPRETER_H
+#define INTERPRETER_H
+
+#include "towerwatch.h"
+
+struct towerwatch_answer interpreter_step(const uint32_t *table, size_t table_len, size_t n, uint32_t *state,
+                                          size_t state_len, uint32_t *values, size_t values_len, uint32_t start,
+                                          uint64_t signals, const uint32_t parameters[8]);
+
+#endif

@@ -1,0 +1,127 @@
+/* The time of a step beside a hand-written C interpreter, on random well-formed tables.
+ * Usage: step time            a line for each size: nanoseconds a step of both, and their ratio
+ *        step run N WHICH     1,000 steps of N equations, WHICH 0 ours, 1 the interpreter's: for counting instructions
+ * Both are run on the same ticks and must answer and leave the same. */
+#include <stdio.h>
+#include <stdlib.h>
+#include <string.h>
+#include <time.h>
+
+#include "interpreter.h"
+
+static uint64_t seed = 1;
+
+static uint32_t random_below(uint32_t n) {
+    seed = seed * 6364136223846793005u + 1442695040888963407u;
+    return (uint32_t)(seed >> 33) % n;
+}
+
+/* The nearest earlier equations of a sort, at most 40 of them. */
+struct pool {
+    uint32_t at[40];
+    uint32_t count;
+};
+
+static void add(struct pool *p, uint32_t x) { p->at[p->count++ % 40] = x; }
+static uint32_t take(const struct pool *p) { return p->at[random_below(p->count < 40 ? p->count : 40)]; }
+
+/* A table of n equations in which each kind stands where its operands are there; the last one is boolean. */
+static void make_table(uint32_t *table, uint32_t n) {
+    struct pool bools = {{0}, 0}, counts = {{0}, 0};
+    static uint8_t is_count[4096];
+    memset(table, 0, 16 * (size_t)n);
+    for (uint32_t i = 0; i < n; i++) {
+        uint32_t *e = table + 4 * i;
+        static const uint8_t weighted[16] = {0, 1, 3, 3, 4, 4, 4, 5, 5, 6, 6, 7, 8, 9, 10, 11};
+        uint32_t kind = i == 0 ? 0 : i == 1 ? 7 : i == n - 1 ? 3 : weighted[random_below(16)];
+        e[0] = kind;
+        if (kind == 0) e[1] = random_below(64);
+        if (kind == 3) e[1] = take(&bools);
+        if (kind == 4 || kind == 5) e[1] = take(&bools), e[2] = take(&bools);
+        if (kind == 6) e[3] = random_below(2);
+        if (kind == 8) e[1] = take(&counts), e[2] = take(&bools);
+        if (kind == 9) e[1] = take(&bools), e[2] = take(&counts);
+        if (kind >= 10) e[1] = take(&counts), e[2] = random_below(5), e[3] = kind == 10 ? random_below(50) : random_below(8);
+        is_count[i] = kind >= 7 && kind <= 9;
+        add(is_count[i] ? &counts : &bools, i);
+    }
+    for (uint32_t i = 0; i < n; i++) /* memories read any equation of their sort */
+        if (table[4 * i] == 6 || table[4 * i] == 7) {
+            uint32_t x;
+            do x = random_below(n);
+            while (is_count[x] != (table[4 * i] == 7));
+            table[4 * i + 1] = x;
+        }
+}
+
+static uint32_t table[16384];
+static uint32_t state[2][4096];
+static uint32_t values[2][4096];
+static const uint32_t parameters[8] = {0, 3, 7, 11, 20, 31, 44, 59};
+
+static struct towerwatch_answer one(int which, uint32_t n, uint32_t start, uint64_t signals) {
+    return (which ? interpreter_step : towerwatch_step)(table, 4 * n, n, state[which], n, values[which], n, start, signals,
+                                                        parameters);
+}
+
+static void prepare(uint32_t n) {
+    seed = n;
+    make_table(table, n);
+    for (int w = 0; w < 2; w++)
+        if (towerwatch_fresh_state(table, 4 * n, n, state[w], n).refusal) {
+            printf("fresh state refused\n");
+            exit(1);
+        }
+}
+
+static void check(uint32_t n) {
+    uint32_t ones = 0;
+    for (int i = 0; i < 2000; i++) {
+        uint32_t start = random_below(8) == 0;
+        uint64_t signals = (uint64_t)random_below(1u << 31) << 32 | random_below(1u << 31);
+        struct towerwatch_answer a = one(0, n, start, signals), b = one(1, n, start, signals);
+        ones += a.result;
+        if (a.refusal || a.refusal != b.refusal || a.result != b.result || memcmp(values[0], values[1], 4 * n) ||
+            memcmp(state[0], state[1], 4 * n)) {
+            printf("the two disagree at %u equations, tick %d\n", n, i);
+            exit(1);
+        }
+    }
+    printf("%5u equations: same answers over 2000 ticks, verdict 1 at %u of them\n", n, ones);
+}
+
+static double seconds(void) {
+    struct timespec t;
+    clock_gettime(CLOCK_MONOTONIC, &t);
+    return t.tv_sec + t.tv_nsec * 1e-9;
+}
+
+/* The best of eleven rounds. */
+static double best(int which, uint32_t n) {
+    int turns = 4000000 / (int)n;
+    double least = 1e9;
+    for (int round = 0; round < 11; round++) {
+        double begin = seconds();
+        for (int i = 0; i < turns; i++) one(which, n, (i & 63) == 0, (uint64_t)i * 0x9e3779b97f4a7c15u);
+        double each = (seconds() - begin) / turns;
+        if (each < least) least = each;
+    }
+    return least * 1e9;
+}
+
+int main(int argc, char **argv) {
+    if (argc == 4) {
+        uint32_t n = (uint32_t)atoi(argv[2]);
+        prepare(n);
+        for (int i = 0; i < 1000; i++) one(atoi(argv[3]), n, (i & 63) == 0, (uint64_t)i * 0x9e3779b97f4a7c15u);
+        return 0;
+    }
+    static const uint32_t sizes[3] = {40, 400, 4096};
+    for (int i = 0; i < 3; i++) {
+        prepare(sizes[i]);
+        check(sizes[i]);
+        double ours = best(0, sizes[i]), other = best(1, sizes[i]);
+        printf("%5u equations: %9.1f ns a step, C interpreter %9.1f ns, ratio %.2f\n", sizes[i], ours, other, ours / other);
+    }
+    return 0;
+}

@@ -1,0 +1,23 @@
+-- `firmware::fresh_answer` meets its contract, case by case. Assumes nothing.
+use mathlib.Core.Path.{_≡_, sym, ap}
+use Rattle.tables.specs.Step.{freshAnswer}
+use Rattle.tables.specs.declared.Fresh.{Fresh}
+use Rattle.firmware.specs.Face.{answer}
+use borrow.Author.Needs.{needs}
+use Rattle.firmware.proofs.fresh_answer.Statement.{statement}
+use Rattle.firmware.proofs.fresh_answer.Tie as tie
+
+enum-told : tie.Need-enum-told
+enum-told c = search needs
+
+enum-known-f : tie.Need-enum-known-f
+enum-known-f c = search needs
+
+returns : tie.Need-returns
+returns c = ap (λ (x : Fresh). answer (freshAnswer x)) (sym (c .enum-told .given .1))
+
+returns-2 : tie.Need-returns-2
+returns-2 c = ap (λ (x : Fresh). answer (freshAnswer x)) (sym (c .before .f .given .1))
+
+pub fresh-answer-spec : {M : Type 1} → statement M
+fresh-answer-spec = tie.close (tie.spec enum-told enum-known-f returns returns-2)

@@ -1,0 +1,79 @@
+// The functions that C calls: thin over the proved operations, on slices and numbers (include/towerwatch.h).
+use tables::Fresh;
+use tables::Stepped;
+use traces::Tick;
+ghost use mathlib.Core.Path.{_≡_};
+ghost use Rattle.tables.specs.Flow.{standardCap};
+ghost use Rattle.tables.specs.Step.{freshened, stepped, freshAnswer, steppedAnswer};
+ghost use Rattle.firmware.specs.Face.{answer, tickOf, left, fresh, leftValues, tick};
+
+// An answer as C gets it: the refusal's number, 0 for none, and the result, 0 where there is none.
+#[repr(C)]
+pub struct Answer {
+    pub refusal: u32,
+    pub result: u32,
+}
+
+// The answer of a fresh state.
+fn fresh_answer(f: Fresh) -> Answer
+    ensures { λ r. ⌜ r ≡ answer (freshAnswer f) ⌝ }
+{
+    match f {
+        Fresh::Made => Answer {
+            refusal: 0,
+            result: 0,
+        },
+        Fresh::Refused(number) => Answer {
+            refusal: number,
+            result: 0,
+        },
+    }
+}
+
+// The answer of a step.
+fn step_answer(s: Stepped) -> Answer
+    ensures { λ r. ⌜ r ≡ answer (steppedAnswer s) ⌝ }
+{
+    match s {
+        Stepped::Verdict(verdict) => Answer {
+            refusal: 0,
+            result: verdict,
+        },
+        Stepped::Refused(number) => Answer {
+            refusal: number,
+            result: 0,
+        },
+    }
+}
+
+// Make a fresh state of the table's n equations.
+#[no_mangle]
+pub extern "C" fn towerwatch_fresh_state(table: &[u32], n: usize, state: &mut [u32]) -> Answer
+    ensures { λ r. ⌜ left r (now (state .exit)) ≡ fresh (freshened (now (table .entry)) n (now (state .entry))) ⌝ }
+{
+    fresh_answer(tables::fresh_state(table, n, state))
+}
+
+// One step: a tick of the table's n equations.
+#[no_mangle]
+pub extern "C" fn towerwatch_step(
+    table: &[u32],
+    n: usize,
+    state: &mut [u32],
+    values: &mut [u32],
+    start: u32,
+    signals: u64,
+    parameters: &[u32; 8],
+) -> Answer
+    ensures { λ r. ⌜ leftValues r (now (state .exit)) (now (values .exit))
+        ≡ tick (stepped standardCap (now (table .entry)) n (now (state .entry)) (now (values .entry))
+        (tickOf start signals (now (parameters .entry)))) ⌝ }
+{
+    let parameters = *parameters;
+    let now = Tick {
+        start,
+        signals,
+        parameters,
+    };
+    step_answer(tables::step(table, n, state, values, now))
+}

@@ -1,0 +1,122 @@
+-- Laws of the checks: when the tests of a table, a fresh state and a step pass, and which one fails first.
+-- Assumes nothing.
+use mathlib.Core.Path.{_≡_, refl}
+use mathlib.Core.Bool.{Bool, true, false, cond, _&&_}
+use mathlib.Core.List.{List, [], _∷_, _++_}
+use Prim.Native.Nat.{ℕ, _*_, _-_, _≤_, _<_}
+use native.Mathlib.Omega.{arith}
+use lib.Dec.{leb, ltb}
+use lib.ListN.{length, drop}
+use borrow.Author.Tests.{le-ltb, lt-ltb, lt-leb, le-leb, ltb-true, leb-true}
+use Rattle.traces.specs.declared.Tick.{Tick}
+use Rattle.tables.specs.Table.{all, Equation, equationFits, operandFits, shapeFits, kindAt, sortOf, sameSort}
+use Rattle.tables.specs.Table.{equationLimit, lengthFits, equationsFit, Test, test, firstFailed}
+use Rattle.tables.specs.Table.{tableTests, checked}
+use Rattle.tables.specs.Step.{parameterFits, cellsFit, stepTests, freshChecked, stepChecked}
+use Rattle.tables.specs.declared.Sort.the-variants.{Boolean}
+use Rattle.tables.specs.declared.Shape.{Shape}
+use Rattle.tables.specs.declared.Checked.{Checked}
+use Rattle.tables.specs.declared.Checked.the-variants.{Passed, Refused}
+use Rattle.tables.proofs.Tests.{and-true}
+
+-- The three numbers of an equation, each tested by its operand's rule.
+pub three-fit : (t : List ℕ) (n i : ℕ) (s : Shape) (e : Equation) (p q r z : Bool)
+    → p ≡ operandFits t n i (s .a) (e .a) → q ≡ operandFits t n i (s .b) (e .b) → r ≡ operandFits t n i (s .c) (e .c)
+    → z ≡ (p && (q && r)) → z ≡ shapeFits t n i s e
+unfolding shapeFits
+three-fit t n i s e p q r z ep eq er ez = rw (← ep, ← eq, ← er) ez
+
+-- Where the first test passes, the others decide.
+passed-one : (b : Bool) (x : Checked) (r : ℕ) → cond b x (Refused r) ≡ Passed → (b ≡ true) × (x ≡ Passed)
+passed-one true x r e = (refl, e)
+passed-one false x r e = (cc, cc)
+
+-- A table that passes its tests.
+pub record Fitting (t : List ℕ) (n : ℕ) : Type 0 where
+  pub some : 0 < n
+  pub few : n ≤ equationLimit
+  pub whole : 4 * n ≤ length t
+  pub equations : all (equationFits t n) n ≡ true
+
+module _ (t : List ℕ) (n : ℕ) where
+  pub too-few : n ≡ 0 → Refused 10 ≡ checked t n
+  unfolding checked lengthFits
+  too-few e = rw (le-ltb 0 n (omega arith))
+
+  pub too-many : equationLimit < n → Refused 10 ≡ checked t n
+  unfolding checked lengthFits
+  too-many h = rw (lt-ltb 0 n (omega arith), lt-leb n equationLimit h)
+
+  pub too-short : 0 < n → n ≤ equationLimit → length t < 4 * n → Refused 10 ≡ checked t n
+  unfolding checked lengthFits
+  too-short g h k = rw (lt-ltb 0 n g, le-leb n equationLimit h, lt-leb (4 * n) (length t) k)
+
+  -- A table that is long enough, by whether its equations fit and whether the last one is boolean.
+  pub long-enough : 0 < n → n ≤ equationLimit → 4 * n ≤ length t → (b l : Bool) → all (equationFits t n) n ≡ b
+      → sameSort (sortOf (kindAt t (n - 1))) Boolean ≡ l → checked t n ≡ cond (b && l) Passed (Refused 11)
+  unfolding checked lengthFits equationsFit
+  long-enough g h k b l e f =
+      rw (lt-ltb 0 n g, le-leb n equationLimit h, le-leb (4 * n) (length t) k, e, f)
+
+  fitting : lengthFits t n ≡ true → equationsFit t n ≡ true → Fitting t n
+  unfolding lengthFits equationsFit
+  fitting e f =
+      let p = and-true (ltb 0 n) _ e in
+      let q = and-true (leb n equationLimit) _ (p .1) in
+      record {
+        some = ltb-true 0 n (p .0);
+        few = leb-true n equationLimit (q .0);
+        whole = leb-true (4 * n) (length t) (q .1);
+        equations = and-true (all (equationFits t n) n) _ f .0;
+      }
+
+  -- A call whose tests pass has a fitting table, and passes what comes after the table's tests.
+  passed-table : (xs : List Test) → firstFailed (tableTests t n ++ xs) ≡ Passed
+      → Fitting t n × (firstFailed xs ≡ Passed)
+  passed-table xs e =
+      let p = passed-one (lengthFits t n) _ 10 e in
+      let q = passed-one (equationsFit t n) _ 11 (p .1) in
+      (fitting (p .0) (q .0), q .1)
+
+  pub checked-fitting : checked t n ≡ Passed → Fitting t n
+  unfolding checked
+  checked-fitting e = passed-table [] e .0
+
+  pub fresh-passed : (state : List ℕ) → freshChecked t n state ≡ Passed → Fitting t n × (n ≤ length state)
+  unfolding freshChecked
+  fresh-passed state e =
+      let p = passed-table (test 12 (leb n (length state)) ∷ []) e in
+      (p .0, leb-true n (length state) (passed-one (leb n (length state)) Passed 12 (p .1) .0))
+
+  pub step-passed : (cap : ℕ) (state values : List ℕ) (k : Tick) → stepChecked cap t n state values k ≡ Passed
+      → Fitting t n × (n ≤ length state) × (n ≤ length values) × (cellsFit cap t n state ≡ true)
+  unfolding stepChecked
+  step-passed cap state values k e =
+      let p = passed-table (drop 2 (stepTests cap t n state values k)) e in
+      let q = passed-one (leb n (length state) && leb n (length values)) _ 12 (p .1) in
+      let l = and-true (leb n (length state)) _ (q .0) in
+      let m = passed-one (all (parameterFits cap k) 8) _ 13 (q .1) in (
+        p .0,
+        leb-true n (length state) (l .0),
+        leb-true n (length values) (l .1),
+        passed-one (cellsFit cap t n state) Passed 14 (m .1) .0,
+      )
+
+-- Where a table is refused, so is any call that is given it.
+refused-two : (b d : Bool) (x : Checked) (r : ℕ) → cond b (cond d Passed (Refused 11)) (Refused 10) ≡ Refused r
+    → cond b (cond d x (Refused 11)) (Refused 10) ≡ Refused r
+refused-two true true x r e = cc
+refused-two true false x r e = e
+refused-two false d x r e = e
+
+pub refused-table : (t : List ℕ) (n r : ℕ) (xs : List Test) → checked t n ≡ Refused r
+    → firstFailed (tableTests t n ++ xs) ≡ Refused r
+unfolding checked
+refused-table t n r xs e = refused-two (lengthFits t n) (equationsFit t n) (firstFailed xs) r e
+
+-- Where it passes, both of its tests do.
+pub passed-both : (t : List ℕ) (n : ℕ) → checked t n ≡ Passed → (lengthFits t n ≡ true) × (equationsFit t n ≡ true)
+unfolding checked
+passed-both t n e =
+    let p = passed-one (lengthFits t n) _ 10 e in
+    (p .0, passed-one (equationsFit t n) Passed 11 (p .1) .0)

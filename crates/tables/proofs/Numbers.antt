@@ -1,0 +1,111 @@
+-- The kinds and the operators by their numbers: what holds of a kind or an operator, said as tests on its number.
+-- Assumes nothing.
+use mathlib.Core.Path.{_≡_, refl, _∙_}
+use mathlib.Core.Bool.{true, false, not, _&&_}
+use mathlib.Core.List.{List, [], _∷_, map}
+use Prim.Native.Nat.{ℕ, zero, suc, _≤_, _<_}
+use native.Mathlib.Omega.{arith}
+use native.Mathlib.Nat.{not-suc-le-zero, le-of-suc-le-suc}
+use native.Mathlib.Decide.{decLt}
+use lib.Dec.{leb, ltb, eqb}
+use lib.ListN.{length, getD, List·getD-map, List·getD-eq-default}
+use borrow.Author.Tests.{lt-leb, le-leb, lt-ltb, ne-eqb}
+use Rattle.traces.specs.Trace.{nonzero}
+use Rattle.traces.specs.Compare.{opOf}
+use Rattle.traces.specs.Compare.Op.{ge}
+use Rattle.tables.specs.Table.{kinds, kindOf, shapeOf, sortOf, sameSort, all}
+use Rattle.tables.specs.Table.Kind.{unknown}
+use Rattle.tables.specs.Flow.{isMemory, initial}
+use Rattle.tables.specs.declared.Sort.{Sort}
+use Rattle.tables.specs.declared.Sort.the-variants.{Boolean, Count}
+use Rattle.tables.specs.declared.Shape.{Shape}
+use Rattle.tables.proofs.Tests.{agrees}
+
+-- k is none of the first m numbers, as the last arm of a match knows it.
+abbrev pub NoneOf : ℕ → ℕ → Type 0
+NoneOf k zero = Unit {0}
+NoneOf k (suc m) = NoneOf k m × (k ≡ m → ⊥)
+
+pub none-below : (k m : ℕ) → NoneOf k m → m ≤ k
+none-below k zero h = omega arith
+none-below k (suc m) h = let l = none-below k m (h .0) in let d = h .1 in omega arith
+
+-- The numbers from 12 on are no kinds.
+pub kind-beyond : (k : ℕ) → 12 ≤ k → kindOf k ≡ unknown
+unfolding kindOf
+kind-beyond k h = List·getD-eq-default kinds unknown h
+
+within : {A : Type 0} (l : List A) (k : ℕ) (d e : A) → k < length l → getD l k d ≡ getD l k e
+within [] k d e h = absurd (not-suc-le-zero h)
+within (x ∷ l) zero d e h = refl
+within (x ∷ l) (suc k) d e h = within l k d e (le-of-suc-le-suc h)
+
+-- The rows of the kinds in the order of their numbers.
+pub rows : (k : ℕ) (d : Shape) → k < 12 → getD (map shapeOf kinds) k d ≡ shapeOf (kindOf k)
+unfolding kindOf
+rows k d h = within (map shapeOf kinds) k d (shapeOf unknown) h ∙ List·getD-map shapeOf kinds k unknown
+
+-- The operators from 4 on.
+pub op-last : (k : ℕ) → 4 ≤ k → opOf k ≡ ge
+op-last zero h = absurd (omega arith)
+op-last (suc zero) h = absurd (omega arith)
+op-last (suc (suc zero)) h = absurd (omega arith)
+op-last (suc (suc (suc zero))) h = absurd (omega arith)
+op-last (suc (suc (suc (suc zero)))) h = refl
+op-last (suc (suc (suc (suc (suc k))))) h = refl
+
+-- A flow is a boolean if it is no count.
+pub boolean-or-count : (s : Sort) → sameSort s Boolean ≡ not (sameSort s Count)
+unfolding sameSort
+boolean-or-count Boolean = refl
+boolean-or-count Count = refl
+
+-- Kinds 7 to 9 give counts.
+pub counts : (k : ℕ) → sameSort (sortOf (kindOf k)) Count ≡ (leb 7 k && leb k 9)
+unfolding kindOf shapeOf sameSort all
+counts k = elim (decLt k 12) [
+  | yes h ↦ agrees (λ j. sameSort (sortOf (kindOf j)) Count) (λ j. leb 7 j && leb j 9) 12 refl k h
+  | no h ↦ rw (kind-beyond k (omega arith), le-leb 7 k (omega arith), lt-leb k 9 (omega arith))
+]
+
+-- Kinds 6 and 7 are the memories.
+pub memories : (k : ℕ) → isMemory (kindOf k) ≡ (leb 6 k && leb k 7)
+unfolding kindOf isMemory all
+memories k = elim (decLt k 12) [
+  | yes h ↦ agrees (λ j. isMemory (kindOf j)) (λ j. leb 6 j && leb j 7) 12 refl k h
+  | no h ↦ rw (kind-beyond k (omega arith), le-leb 6 k (omega arith), lt-leb k 7 (omega arith))
+]
+
+-- No other number is a memory's.
+pub no-memory : (k : ℕ) → (k ≡ 6 → ⊥) → (k ≡ 7 → ⊥) → isMemory (kindOf k) ≡ false
+no-memory k p q = memories k ∙ outside
+  where
+    outside : (leb 6 k && leb k 7) ≡ false
+    outside = elim (decLt k 6) [
+      | yes h ↦ rw (lt-leb 6 k h)
+      | no h ↦ rw (le-leb 6 k (omega arith), lt-leb k 7 (omega arith))
+    ]
+
+-- Tests of a number against 0.
+pub positive : (x : ℕ) → ltb 0 x ≡ nonzero x
+positive zero = refl
+positive (suc x) = lt-ltb 0 (suc x) (omega arith)
+
+pub is-zero : (x : ℕ) → eqb x 0 ≡ not (nonzero x)
+is-zero zero = refl
+is-zero (suc x) = ne-eqb (suc x) 0 (omega arith)
+
+pub nonzero-none : (x : ℕ) → x ≤ 0 → nonzero x ≡ false
+nonzero-none zero h = refl
+nonzero-none (suc x) h = absurd (not-suc-le-zero h)
+
+-- The initial value of a count, and of a boolean.
+pub initial-count : (s : Sort) (c : ℕ) → sameSort s Count ≡ true → 0 ≡ initial s c
+unfolding sameSort initial
+initial-count Boolean c e = cc
+initial-count Count c e = refl
+
+pub initial-boolean : (s : Sort) (c : ℕ) → sameSort s Count ≡ false → c ≡ initial s c
+unfolding sameSort initial
+initial-boolean Boolean c e = refl
+initial-boolean Count c e = cc

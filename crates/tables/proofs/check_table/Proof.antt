@@ -1,0 +1,62 @@
+-- `tables::check_table` meets its contract. Assumes nothing.
+use mathlib.Core.Path.{refl, sym, ap, _∙_}
+use mathlib.Core.Bool.{true, false, not}
+use native.Mathlib.Omega.{arith}
+use borrow.Author.Tests.{not-true, not-false}
+use Rattle.tables.proofs.Numbers.{boolean-or-count}
+use Rattle.tables.proofs.Checks.{too-few, too-many, too-short, long-enough}
+use borrow.Author.Needs.{needs}
+use Rattle.tables.proofs.check_table.Statement.{statement}
+use Rattle.tables.proofs.check_table.Tie as tie
+
+returns : tie.Need-returns
+returns c = too-few _ _ (c .if1 .taken)
+
+returns-2 : tie.Need-returns-2
+returns-2 c = too-many _ _ (c .if2 .taken)
+
+returns-3 : tie.Need-returns-3
+returns-3 c =
+    let args = c .before .before .before .before .args in
+    too-short (args .table .now) (args .n) (omega arith) (omega arith) (c .if3 .taken)
+
+returns-4 : tie.Need-returns-4
+returns-4 c =
+    let args = c .before .before .before .before .before .before .args in
+    let decide = long-enough (args .table .now) (args .n) (omega arith) (omega arith) (omega arith) in
+    let fit = c .before .equations-fit in
+    sym (decide false _ (sym (fit .ensures) ∙ not-true (fit .result) (c .if4 .taken)) refl)
+
+returns-5 : tie.Need-returns-5
+returns-5 c =
+    let args = c .before .before .before .before .before .before .before .before .before .args in
+    let decide = long-enough (args .table .now) (args .n) (omega arith) (omega arith) (omega arith) in
+    let fit = c .before .before .before .before .equations-fit in
+    let fits = sym (fit .ensures) ∙ not-false (fit .result) (c .before .before .before .if4 .left) in
+    sym (decide true false fits (boolean-or-count _ ∙ ap not (sym (c .before .is-count .ensures) ∙ c .if5 .taken)))
+
+returns-6 : tie.Need-returns-6
+returns-6 c =
+    let args = c .before .before .before .before .before .before .before .before .before .args in
+    let decide = long-enough (args .table .now) (args .n) (omega arith) (omega arith) (omega arith) in
+    let fit = c .before .before .before .before .equations-fit in
+    let fits = sym (fit .ensures) ∙ not-false (fit .result) (c .before .before .before .if4 .left) in
+    sym (decide true true fits (boolean-or-count _ ∙ ap not (sym (c .before .is-count .ensures) ∙ c .if5 .left)))
+
+pub check-table-spec : {M : Type 1} → statement M
+check-table-spec =
+    tie.close
+    (tie.spec
+    returns
+    returns-2
+    (λ c. search needs)
+    returns-3
+    (λ c κs. search needs)
+    returns-4
+    (λ c. search needs)
+    (λ c. search needs)
+    (λ c. search needs)
+    (λ c. search needs)
+    (λ c κs. search needs)
+    returns-5
+    returns-6)

@@ -1,0 +1,164 @@
+-- Equation tables: the numbers of an equation, the twelve kinds, and which tables are well formed. Definitions only.
+-- The sentences quoted are document 01's, from "Equations" and "Each operation and its refusals".
+use mathlib.Core.Bool.{Bool, true, false, _&&_, cond}
+use mathlib.Core.List.{List, [], _∷_}
+use Prim.Native.Nat.{ℕ, zero, suc, _+_, _*_, _-_}
+use lib.Dec.{leb, ltb, eqb}
+use lib.ListN.{length, getD}
+use Rattle.tables.specs.declared.Sort.{Sort}
+use Rattle.tables.specs.declared.Sort.the-variants.{Boolean, Count}
+use Rattle.tables.specs.declared.Operand.{Operand}
+use Rattle.tables.specs.declared.Operand.the-variants.{Unused, Earlier, Anywhere, Below}
+use Rattle.tables.specs.declared.Shape.{Shape}
+use Rattle.tables.specs.declared.Checked.{Checked}
+use Rattle.tables.specs.declared.Checked.the-variants.{Passed, Refused}
+
+-- Number i of a table, of the flows or of the state; 0 past the end.
+abbrev pub numberAt : List ℕ → ℕ → ℕ
+numberAt l i = getD l i 0
+
+-- The test holds of each number below k.
+unfoldable pub all : (ℕ → Bool) → ℕ → Bool
+all f zero = true
+all f (suc k) = all f k && f k
+
+-- "Four 32-bit numbers each: kind, A, B, C."
+pub record Equation : Type 0 where
+  pub kind : ℕ
+  pub a : ℕ
+  pub b : ℕ
+  pub c : ℕ
+
+-- Equation i of a table.
+abbrev pub equationAt : List ℕ → ℕ → Equation
+equationAt t i =
+    record {
+      kind = numberAt t (4 * i);
+      a = numberAt t (4 * i + 1);
+      b = numberAt t (4 * i + 2);
+      c = numberAt t (4 * i + 3);
+    }
+
+-- The twelve kinds, and one for every number that is the number of none of them.
+pub data Kind : Type 0 where
+  signal start constant negation conjunction disjunction booleanPre countPre capped ifElse : Kind
+  compareLiteral compareParameter unknown : Kind
+
+-- The kinds in the order of their numbers, 0 to 11.
+abbrev pub kinds : List Kind
+kinds =
+    signal ∷ start ∷ constant ∷ negation ∷ conjunction ∷ disjunction ∷ booleanPre ∷ countPre ∷ capped ∷ ifElse
+    ∷ compareLiteral ∷ compareParameter ∷ []
+
+-- The kind of that number.
+unfoldable pub kindOf : ℕ → Kind
+kindOf k = getD kinds k unknown
+
+-- The kind of equation i of a table.
+abbrev pub kindAt : List ℕ → ℕ → Kind
+kindAt t i = kindOf (numberAt t (4 * i))
+
+-- A row of the table of kinds: what A, B and C have to be, and the sort of the flow.
+abbrev pub row : Operand → Operand → Operand → Sort → Shape
+row x y z s = record { a = x; b = y; c = z; gives = s }
+
+-- "signal 0 to 63"
+abbrev pub signalCount : ℕ
+signalCount = 64
+
+-- "a boolean (0, 1)"
+abbrev pub truthCount : ℕ
+truthCount = 2
+
+-- "op is 0 `<=`, 1 `<`, 2 `=`, 3 `>`, 4 `>=`."
+abbrev pub opCount : ℕ
+opCount = 5
+
+-- "A literal is 0 to 999,999.", for every cap.
+abbrev pub literalCount : ℕ
+literalCount = 1000000
+
+-- "parameter 0 to 7"
+abbrev pub parameterCount : ℕ
+parameterCount = 8
+
+-- The table of kinds. "Operands are earlier equations of the right sort; only the operand of 6 and 7 may stand
+-- anywhere." "Unused numbers are 0." No number fits A of an unknown kind.
+unfoldable pub shapeOf : Kind → Shape
+shapeOf signal = row (Below signalCount) Unused Unused Boolean
+shapeOf start = row Unused Unused Unused Boolean
+shapeOf constant = row (Below truthCount) Unused Unused Boolean
+shapeOf negation = row (Earlier Boolean) Unused Unused Boolean
+shapeOf conjunction = row (Earlier Boolean) (Earlier Boolean) Unused Boolean
+shapeOf disjunction = row (Earlier Boolean) (Earlier Boolean) Unused Boolean
+shapeOf booleanPre = row (Anywhere Boolean) Unused (Below truthCount) Boolean
+shapeOf countPre = row (Anywhere Count) Unused Unused Count
+shapeOf capped = row (Earlier Count) (Earlier Boolean) Unused Count
+shapeOf ifElse = row (Earlier Boolean) (Earlier Count) Unused Count
+shapeOf compareLiteral = row (Earlier Count) (Below opCount) (Below literalCount) Boolean
+shapeOf compareParameter = row (Earlier Count) (Below opCount) (Below parameterCount) Boolean
+shapeOf unknown = row (Below 0) Unused Unused Boolean
+
+-- The sort of a kind's flow.
+abbrev pub sortOf : Kind → Sort
+sortOf q = shapeOf q .gives
+
+-- Both sorts are the same.
+unfoldable pub sameSort : Sort → Sort → Bool
+sameSort Boolean Boolean = true
+sameSort Boolean Count = false
+sameSort Count Boolean = false
+sameSort Count Count = true
+
+-- x is one of the first m equations, and its flow has that sort.
+unfoldable pub isFlow : List ℕ → ℕ → Sort → ℕ → Bool
+isFlow t m s x = ltb x m && sameSort (sortOf (kindAt t x)) s
+
+-- The number x can be such an operand in equation i of n.
+unfoldable pub operandFits : List ℕ → ℕ → ℕ → Operand → ℕ → Bool
+operandFits t n i Unused x = eqb x 0
+operandFits t n i (Earlier s) x = isFlow t i s x
+operandFits t n i (Anywhere s) x = isFlow t n s x
+operandFits t n i (Below m) x = ltb x m
+
+-- The three numbers of the equation e, i of n, are what its kind's row asks for.
+unfoldable pub shapeFits : List ℕ → ℕ → ℕ → Shape → Equation → Bool
+shapeFits t n i s e =
+    operandFits t n i (s .a) (e .a) && (operandFits t n i (s .b) (e .b) && operandFits t n i (s .c) (e .c))
+
+-- Equation i of n keeps the rules of its kind.
+abbrev pub equationFits : List ℕ → ℕ → ℕ → Bool
+equationFits t n i = shapeFits t n i (shapeOf (kindAt t i)) (equationAt t i)
+
+-- "A table has 1 to 4,096 equations."
+abbrev pub equationLimit : ℕ
+equationLimit = 4096
+
+-- "10: n is 0 or above 4,096, or the table is shorter than 4 times n."
+unfoldable pub lengthFits : List ℕ → ℕ → Bool
+lengthFits t n = ltb 0 n && (leb n equationLimit && leb (4 * n) (length t))
+
+-- "11: some equation or the last one's sort breaks the rules above."  "The last equation is boolean: the verdict."
+unfoldable pub equationsFit : List ℕ → ℕ → Bool
+equationsFit t n = all (equationFits t n) n && sameSort (sortOf (kindAt t (n - 1))) Boolean
+
+-- A test and the refusal of a call that fails it.
+pub record Test : Type 0 where
+  pub refusal : ℕ
+  pub passed : Bool
+
+abbrev pub test : ℕ → Bool → Test
+test r b = record { refusal = r; passed = b }
+
+-- "The first that applies counts."
+abbrev pub firstFailed : List Test → Checked
+firstFailed [] = Passed
+firstFailed (x ∷ xs) = cond (x .passed) (firstFailed xs) (Refused (x .refusal))
+
+-- The tests of a table of n equations.
+abbrev pub tableTests : List ℕ → ℕ → List Test
+tableTests t n = test 10 (lengthFits t n) ∷ test 11 (equationsFit t n) ∷ []
+
+-- What the check of a table answers.
+unfoldable pub checked : List ℕ → ℕ → Checked
+checked t n = firstFailed (tableTests t n)
