@@ -3,24 +3,8 @@ use mathlib.Core.Path.{_≡_, refl, ap, ap₂, _∙_}
 use mathlib.Core.Option.{Option, none, some, Option·none-ne-some}
 use Rattle.formulas.specs.Formula.{Prop, Formula}
 use Rattle.formulas.specs.Tree.{Tree, map, map₂, propOf, formulaOf}
+pub use Rattle.formulas.specs.Raw.{rawP, raw}
 use Rattle.formulas.specs.Tree.Tree.{constant, signal, neg, and, or, then, chop, exists, test, len, count}
-
--- A proposition's tree, and a formula's.
-abbrev pub rawP : Prop → Tree
-rawP (Prop.constant c) = constant c
-rawP (Prop.signal j) = signal j
-rawP (Prop.negP p) = neg (rawP p)
-rawP (Prop.andP p q) = and (rawP p) (rawP q)
-rawP (Prop.orP p q) = or (rawP p) (rawP q)
-
-abbrev pub raw : Formula → Tree
-raw (Formula.test k p) = test k (rawP p)
-raw (Formula.len o n) = len o n
-raw (Formula.count k p o n) = count k (rawP p) o n
-raw (Formula.neg f) = neg (raw f)
-raw (Formula.and f g) = and (raw f) (raw g)
-raw (Formula.or f g) = or (raw f) (raw g)
-raw (Formula.then f g) = then (raw f) (raw g)
 
 -- They are read back.
 pub prop-rawP : (p : Prop) → propOf (rawP p) ≡ some p

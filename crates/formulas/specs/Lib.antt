@@ -4,3 +4,4 @@ pub mod Meaning
 pub mod Tree
 pub mod Bounds
 pub mod Arena
+pub mod Raw

@@ -4,4 +4,4 @@ pub mod Theorems
 pub mod SameRule
 mod Passes
 mod Join
-mod Sameness
+pub mod Sameness

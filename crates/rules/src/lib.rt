@@ -177,8 +177,8 @@ pub fn read_tree(text: &[u8], arena: &mut [u32]) -> Records
     read_words(&ws[..n], arena)
 }
 
-// The records' refusal, where there is one.
-fn records_refusal(r: Records) -> u32
+// The refusal in an answer that is one, 0 in another.
+pub fn records_refusal(r: Records) -> u32
     ensures { λ n. ⌜ n ≡ recordsRefusal r ⌝ }
 {
     match r {

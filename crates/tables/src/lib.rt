@@ -271,6 +271,7 @@ fn operand_fits(table: &[u32], n: usize, i: usize, o: Operand, x: u32) -> bool
     }
 }
 
+// Whether all three hold.
 fn all_three(p: bool, q: bool, r: bool) -> bool
     ensures { λ z. ⌜ z ≡ (p && (q && r)) ⌝ }
 {
@@ -297,6 +298,7 @@ fn equation_fits(table: &[u32], n: usize, i: usize) -> bool
     all_three(a, b, c)
 }
 
+// Whether each of the n equations keeps the rules of its kind.
 fn equations_fit(table: &[u32], n: usize) -> bool
     requires { ⌜ 4 * n ≤ length (now table) ⌝ }
     ensures { λ r. ⌜ r ≡ all (equationFits (now (table .entry)) n) n ⌝ }
@@ -379,6 +381,7 @@ fn parameter(tick: Tick, j: u32) -> u32
     number_at(&tick.parameters, j)
 }
 
+// x and y.
 fn conjunction(x: u32, y: u32) -> u32
     ensures { λ r. ⌜ r ≡ truth (nonzero x && nonzero y) ⌝ }
 {
@@ -390,6 +393,7 @@ fn conjunction(x: u32, y: u32) -> u32
     0
 }
 
+// x or y.
 fn disjunction(x: u32, y: u32) -> u32
     ensures { λ r. ⌜ r ≡ truth (nonzero x || nonzero y) ⌝ }
 {
@@ -533,6 +537,7 @@ fn cell_fits(cap: u32, k: u32, x: u32) -> bool
     }
 }
 
+// Whether the cell of each memory is in its sort's range.
 fn cells_fit(cap: u32, table: &[u32], n: usize, state: &[u32]) -> bool
     requires { ⌜ (4 * n ≤ length (now table)) × (n ≤ length (now state)) ⌝ }
     ensures { λ r. ⌜ r ≡ cellsFit cap (now (table .entry)) n (now (state .entry)) ⌝ }

@@ -68,15 +68,16 @@ returns-11 : tie.Need-returns-11
 unfolding valueOf kindOf
 returns-11 c =
     let x = c .before .before .number-at10 in
-    rw (c .before .before .before .match .keys11, ← x .ensures, ← c .before .compare .ensures) (c .number3 .ensures)
+    rw (c .before .before .before .match .keys11, ← x .ensures)
+    (c .number3 .ensures ∙ ap truth (c .before .compare .ensures))
 
 returns-12 : tie.Need-returns-12
 unfolding valueOf kindOf
 returns-12 c =
     let x = c .before .before .before .number-at11 in
     let y = c .before .before .parameter in
-    rw (c .before .before .before .before .match .keys12, ← x .ensures, ← y .ensures, ← c .before .compare2 .ensures)
-    (c .number4 .ensures)
+    rw (c .before .before .before .before .match .keys12, ← x .ensures, ← y .ensures)
+    (c .number4 .ensures ∙ ap truth (c .before .compare2 .ensures))
 
 returns-13 : tie.Need-returns-13
 unfolding valueOf

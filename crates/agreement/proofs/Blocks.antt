@@ -1,0 +1,294 @@
+-- The equations of every proposition and of every formula fit. Assumes nothing.
+use mathlib.Core.Bool.{Bool, true, _&&_, _||_, or-true, and-eq-true-iff}
+use mathlib.Core.List.{List, _++_}
+use mathlib.Core.Path.{_≡_, refl}
+use Prim.Native.Nat.{ℕ, _≤_}
+use native.Mathlib.Omega.{arith}
+use borrow.Author.Tests.{eq-eqb}
+use Rattle.formulas.specs.Formula.{Prop, Formula}
+use Rattle.formulas.specs.Formula.Prop.{constant, signal, negP, andP, orP}
+use Rattle.formulas.specs.Formula.Test.{begin, end, point, held, kept}
+use Rattle.formulas.specs.Formula.Count.{sum, age}
+use Rattle.formulas.specs.Formula.Formula.{test, len, count, neg, and, or, then}
+use Rattle.formulas.specs.Bounds.{bounded, numBound}
+use Rattle.formulas.specs.Raw.{rawP, raw}
+use Rattle.tables.specs.Table.{Equation, literalCount}
+use Rattle.tables.specs.declared.Sort.the-variants.{Boolean}
+use Rattle.agreement.specs.Scheme.{_⊕_}
+use Rattle.agreement.specs.Emit.{Block, after, emitP, emit, namesP, names, join-block, not-es, and-es, or-es}
+use Rattle.agreement.specs.Emit.{begin-es, point-es, kept-es, held-es, sum-es, age-es, lead-end-es, then-es}
+use Rattle.agreement.proofs.Places.{after-append, after-later, Each, each-left, each-right, each-join}
+use Rattle.agreement.proofs.Roles.{Before, later, Fits, KindAt}
+use Rattle.agreement.proofs.Rows.{Fine, constant-fine, not-fine, and-fine, or-fine}
+use Rattle.agreement.proofs.Rows.{begin-fine, point-fine, kept-fine, held-fine, len-fine, sum-fine, age-fine}
+use Rattle.agreement.proofs.Rows.{lead-end-fine, rest-fine}
+
+-- In a table t of N equations:
+module _ (t : List ℕ) (N : ℕ) where
+  -- The table has the kinds of these equations from place o on.
+  abbrev pub Kinded : ℕ → List Equation → Type 0
+  Kinded = Each (KindAt t)
+
+  -- The equations fit, and the flow v is a boolean of theirs or before them.
+  abbrev pub AllFine : ℕ → List Equation → ℕ → Type 0
+  AllFine o es v = Fine t N o es (after o es) v
+
+  -- ---- equations one after the other
+
+  left : (xs ys : List Equation) (o : ℕ) → Kinded o (xs ++ ys) → Kinded o xs
+  left = each-left (KindAt t)
+
+  right : (xs ys : List Equation) (o : ℕ) → Kinded o (xs ++ ys) → Kinded (after o xs) ys
+  right = each-right (KindAt t)
+
+  pub follow : (xs ys : List Equation) (o v : ℕ) → Each (Fits t N) o xs → AllFine (after o xs) ys v
+      → AllFine o (xs ++ ys) v
+  follow xs ys o v h g = (each-join (Fits t N) xs ys o h (g .0), rw (after-append xs ys o) (g .1))
+
+  -- If there is room for all of them, there is for the first ones and for the others.
+  room-left : (xs ys : List Equation) (o : ℕ) → after o (xs ++ ys) ≤ N → after o xs ≤ N
+  room-left xs ys o h = omega (arith, rw (after-append xs ys o) at h, after-later ys (after o xs))
+
+  room-right : (xs ys : List Equation) (o : ℕ) → after o (xs ++ ys) ≤ N → after (after o xs) ys ≤ N
+  room-right xs ys o h = rw (after-append xs ys o) at h
+
+  -- A block that fits, negated,
+  negated-fine : (o : ℕ) (x : Block) → let row : List Equation = not-es (after o (x .es)) (x .out) in
+      after o (x .es ++ row) ≤ N → Kinded o (x .es ++ row) → AllFine o (x .es) (x .out)
+      → AllFine o (x .es ++ row) (after o (x .es))
+  negated-fine o x room kinds fine =
+      let o′ : ℕ = after o (x .es) in
+      let row : List Equation = not-es o′ (x .out) in
+      follow (x .es) row o o′ (fine .0)
+      (not-fine t N o′ (fine .1) (room-right (x .es) row o room) (right (x .es) row o kinds))
+
+  -- and two blocks that fit, joined by a row that fits.
+  abbrev Joins : (ℕ → ℕ → ℕ → List Equation) → Type 0
+  Joins join =
+      (o : ℕ) (x y : Block) → after o (join-block join o x y .es) ≤ N → Kinded o (join-block join o x y .es)
+      → AllFine o (x .es) (x .out) → AllFine (after o (x .es)) (y .es) (y .out)
+      → AllFine o (join-block join o x y .es) (join-block join o x y .out)
+
+  module _ (join : ℕ → ℕ → ℕ → List Equation)
+      (row-fine : (o a b : ℕ) → Before t o Boolean a → Before t o Boolean b → after o (join o a b) ≤ N
+      → Kinded o (join o a b) → AllFine o (join o a b) o) where
+    joined-fine : Joins join
+    joined-fine o x y room kinds h g =
+        let o′ : ℕ = after o (x .es) in
+        let o″ : ℕ = after o′ (y .es) in
+        let row : List Equation = join o″ (x .out) (y .out) in
+        let row-room = room-right (y .es) row o′ (room-right (x .es) (y .es ++ row) o room) in
+        let row-kinds = right (y .es) row o′ (right (x .es) (y .es ++ row) o kinds) in
+        let first = later (h .1) (after-later (y .es) o′) in
+        follow (x .es) (y .es ++ row) o o″ (h .0)
+        (follow (y .es) row o′ o″ (g .0) (row-fine o″ (x .out) (y .out) first (g .1) row-room row-kinds))
+
+  join-and : Joins and-es
+  join-and = joined-fine and-es (λ o a b ba bb. and-fine t N o ba bb)
+
+  join-or : Joins or-es
+  join-or = joined-fine or-es (λ o a b ba bb. or-fine t N o ba bb)
+
+  module _ (flowOf : ℕ → ℕ) where
+    -- ---- propositions
+
+    -- The flow of each named signal is a boolean before place o.
+    abbrev pub Named : (ℕ → Bool) → ℕ → Type 0
+    Named named o = (j : ℕ) → named j ≡ true → Before t o Boolean (flowOf j)
+
+    -- What either of two names, both together name; the second of them stands later.
+    named-left : {o : ℕ} (x y : ℕ → Bool) → Named (λ j. x j || y j) o → Named x o
+    named-left x y h j e = h j (rw e)
+
+    named-right : {o o′ : ℕ} (x y : ℕ → Bool) → Named (λ j. x j || y j) o → o ≤ o′ → Named y o′
+    named-right x y h r j e = later (h j (rw e (or-true (x j)))) r
+
+    prop-fine : (p : Prop) (o : ℕ) → Named (namesP p) o → after o (emitP flowOf p o .es) ≤ N
+        → Kinded o (emitP flowOf p o .es) → AllFine o (emitP flowOf p o .es) (emitP flowOf p o .out)
+    prop-fine (constant c) o named room kinds = constant-fine t N o c room kinds
+    prop-fine (signal j) o named room kinds = (tt, named j (eq-eqb j j refl))
+    prop-fine (negP p) o named room kinds =
+        let x : Block = emitP flowOf p o in
+        negated-fine o x room kinds (prop-fine p o named (room-left (x .es) _ o room) (left (x .es) _ o kinds))
+    prop-fine (andP p q) o named room kinds =
+        let x : Block = emitP flowOf p o in
+        let o′ : ℕ = after o (x .es) in
+        let y : Block = emitP flowOf q o′ in
+        let named-p = named-left (namesP p) (namesP q) named in
+        let named-q = named-right (namesP p) (namesP q) named (after-later (x .es) o) in
+        join-and o x y room kinds
+        (prop-fine p o named-p (room-left (x .es) _ o room) (left (x .es) _ o kinds))
+        (prop-fine q o′ named-q (room-left (y .es) _ o′ (room-right (x .es) _ o room))
+        (left (y .es) _ o′ (right (x .es) _ o kinds)))
+    prop-fine (orP p q) o named room kinds =
+        let x : Block = emitP flowOf p o in
+        let o′ : ℕ = after o (x .es) in
+        let y : Block = emitP flowOf q o′ in
+        let named-p = named-left (namesP p) (namesP q) named in
+        let named-q = named-right (namesP p) (namesP q) named (after-later (x .es) o) in
+        join-or o x y room kinds
+        (prop-fine p o named-p (room-left (x .es) _ o room) (left (x .es) _ o kinds))
+        (prop-fine q o′ named-q (room-left (y .es) _ o′ (room-right (x .es) _ o room))
+        (left (y .es) _ o′ (right (x .es) _ o kinds)))
+
+    -- ---- what is given of a formula, and of its parts
+
+    -- Of equations es from place o on, with the start flow s and its negation n: the formula's numbers are bounded,
+    -- the signals that it names, s and n stand before, the table has the kinds of es and room for them.
+    pub record Given (bounds : Bool) (names : ℕ → Bool) (s n o : ℕ) (es : List Equation) : Type 0 where
+      pub bound : bounds ≡ true
+      pub named : Named names o
+      pub start : Before t o Boolean s
+      pub negation : Before t o Boolean n
+      pub kinds : Kinded o es
+      pub room : after o es ≤ N
+
+    abbrev pub GivenOf : ℕ → Formula → ℕ → ℕ → ℕ → Type 0
+    GivenOf cap f s n o = Given (bounded cap (raw f)) (names f) s n o (emit flowOf f s n o .es)
+
+    -- An atom, from the rows that follow its proposition's equations.
+    with-prop : {bounds : Bool} {s n o : ℕ} (rows : ℕ → ℕ → List Equation) (j : ℕ) (p : Prop) →
+        let x : Block = emitP flowOf p o in
+        let o′ : ℕ = after o (x .es) in
+        (Before t o′ Boolean s → Before t o′ Boolean n → Before t o′ Boolean (x .out)
+        → after o′ (rows o′ (x .out)) ≤ N → Kinded o′ (rows o′ (x .out)) → AllFine o′ (rows o′ (x .out)) (o′ ⊕ j))
+        → Given bounds (namesP p) s n o (x .es ++ rows o′ (x .out)) → AllFine o (x .es ++ rows o′ (x .out)) (o′ ⊕ j)
+    with-prop {o = o} rows j p rows-fine given =
+        let x : Block = emitP flowOf p o in
+        let o′ : ℕ = after o (x .es) in
+        let ys : List Equation = rows o′ (x .out) in
+        let far : o ≤ o′ = after-later (x .es) o in
+        let room = room-left (x .es) ys o (given .room) in
+        let fine = prop-fine p o (given .named) room (left (x .es) ys o (given .kinds)) in
+        follow (x .es) ys o (o′ ⊕ j) (fine .0)
+        (rows-fine (later (given .start) far) (later (given .negation) far) (fine .1)
+        (room-right (x .es) ys o (given .room)) (right (x .es) ys o (given .kinds)))
+
+    -- The formula under a `!`.
+    under-not : {bounds : Bool} {names : ℕ → Bool} {s n o : ℕ} (xs ys : List Equation)
+        → Given bounds names s n o (xs ++ ys) → Given bounds names s n o xs
+    under-not {o = o} xs ys given =
+        record {
+          bound = given .bound;
+          named = given .named;
+          start = given .start;
+          negation = given .negation;
+          kinds = left xs ys o (given .kinds);
+          room = room-left xs ys o (given .room);
+        }
+
+    module _ (cap : ℕ) where
+      -- Two formulas that are joined by `&` or `|`.
+      both : (f g : Formula) {s n o : ℕ} (row : List Equation) →
+          let x : Block = emit flowOf f s n o in
+          let o′ : ℕ = after o (x .es) in
+          Given (bounded cap (raw f) && bounded cap (raw g)) (λ j. names f j || names g j) s n o
+          (x .es ++ (emit flowOf g s n o′ .es ++ row))
+          → GivenOf cap f s n o × GivenOf cap g s n o′
+      both f g {s} {n} {o} row given =
+          let x : Block = emit flowOf f s n o in
+          let o′ : ℕ = after o (x .es) in
+          let y : Block = emit flowOf g s n o′ in
+          let bound = and-eq-true-iff (bounded cap (raw f)) (bounded cap (raw g)) .0 (given .bound) in
+          let far : o ≤ o′ = after-later (x .es) o in (
+            record {
+              bound = bound .0;
+              named = named-left (names f) (names g) (given .named);
+              start = given .start;
+              negation = given .negation;
+              kinds = left (x .es) _ o (given .kinds);
+              room = room-left (x .es) _ o (given .room);
+            },
+            record {
+              bound = bound .1;
+              named = named-right (names f) (names g) (given .named) far;
+              start = later (given .start) far;
+              negation = later (given .negation) far;
+              kinds = left (y .es) row o′ (right (x .es) _ o (given .kinds));
+              room = room-left (y .es) row o′ (room-right (x .es) _ o (given .room));
+            },
+          )
+
+      -- A `then`, from its lead and from its second part, which is given once the end of the lead fits.
+      then-fine : (l f : Formula) {s n o : ℕ} →
+          let x : Block = emit flowOf l s n o in
+          let o′ : ℕ = after o (x .es) in
+          let y : Block = emit flowOf f (o′ ⊕ 3) (o′ ⊕ 4) (o′ ⊕ 5) in
+          (GivenOf cap l s n o → AllFine o (x .es) (x .out))
+          → (GivenOf cap f (o′ ⊕ 3) (o′ ⊕ 4) (o′ ⊕ 5) → AllFine (o′ ⊕ 5) (y .es) (y .out))
+          → GivenOf cap (then l f) s n o
+          → AllFine o (emit flowOf (then l f) s n o .es) (emit flowOf (then l f) s n o .out)
+      then-fine l f {s} {n} {o} lead-fine second-fine given =
+          let x : Block = emit flowOf l s n o in
+          let o′ : ℕ = after o (x .es) in
+          let y : Block = emit flowOf f (o′ ⊕ 3) (o′ ⊕ 4) (o′ ⊕ 5) in
+          let o″ : ℕ = after (o′ ⊕ 5) (y .es) in
+          let ending : List Equation = lead-end-es n o′ (x .out) in
+          let rest : List Equation = then-es n o″ (o′ ⊕ 3) (y .out) in
+          let bound = and-eq-true-iff (bounded cap (raw l)) (bounded cap (raw f)) .0 (given .bound) in
+          let far : o ≤ o′ = after-later (x .es) o in
+          let farther : o′ ⊕ 5 ≤ o″ = after-later (y .es) (o′ ⊕ 5) in
+          let kinds = right (x .es) (ending ++ (y .es ++ rest)) o (given .kinds) in
+          let kinds′ = right ending (y .es ++ rest) o′ kinds in
+          let room = room-right (x .es) (ending ++ (y .es ++ rest)) o (given .room) in
+          let room′ : o″ ⊕ 4 ≤ N = room-right (y .es) rest (o′ ⊕ 5) room in
+          let first = lead-fine (record {
+            bound = bound .0;
+            named = named-left (names l) (names f) (given .named);
+            start = given .start;
+            negation = given .negation;
+            kinds = left (x .es) _ o (given .kinds);
+            room = room-left (x .es) _ o (given .room);
+          }) in
+          let negation = later (given .negation) far in
+          let end = lead-end-fine t N o′ negation (first .1) (omega arith) (left ending (y .es ++ rest) o′ kinds) in
+          let second = second-fine (record {
+            bound = bound .1;
+            named = named-right (names l) (names f) (given .named) (omega arith);
+            start = end .0 .1;
+            negation = end .1;
+            kinds = left (y .es) rest (o′ ⊕ 5) kinds′;
+            room = room-left (y .es) rest (o′ ⊕ 5) room;
+          }) in
+          let last =
+          rest-fine t N o″ (later negation (omega arith)) (later (end .0 .1) farther) (second .1) room′
+          (right (y .es) rest (o′ ⊕ 5) kinds′) in
+          follow (x .es) (ending ++ (y .es ++ rest)) o (o″ ⊕ 3) (first .0)
+          (follow ending (y .es ++ rest) o′ (o″ ⊕ 3) (end .0 .0)
+          (follow (y .es) rest (o′ ⊕ 5) (o″ ⊕ 3) (second .0) last))
+
+      -- ---- formulas
+
+      module _ (low : cap ≤ literalCount) where
+        pub fine : (f : Formula) (s n o : ℕ) → GivenOf cap f s n o
+            → AllFine o (emit flowOf f s n o .es) (emit flowOf f s n o .out)
+        fine (test begin p) s n o given = with-prop (begin-es s n) 3 p (λ bs bn bp. begin-fine t N _ bs bn bp) given
+        fine (test end p) s n o given = prop-fine p o (given .named) (given .room) (given .kinds)
+        fine (test point p) s n o given = with-prop (point-es s) 0 p (λ bs bn bp. point-fine t N _ bs bn bp) given
+        fine (test held p) s n o given = with-prop (held-es s n) 3 p (λ bs bn bp. held-fine t N _ bs bn bp) given
+        fine (test kept p) s n o given = with-prop (kept-es s) 1 p (λ bs bn bp. kept-fine t N _ bs bn bp) given
+        fine (len op x) s n o given =
+            len-fine t N o (given .start) (given .negation) (given .start) cap low op x (given .bound)
+            (given .room) (given .kinds)
+        fine (count sum p op x) s n o given =
+            let bound = and-eq-true-iff (bounded cap (rawP p)) (numBound cap x) .0 (given .bound) .1 in
+            with-prop (sum-es n op x) 3 p (λ bs bn bp. sum-fine t N _ bs bn bp cap low op x bound) given
+        fine (count age p op x) s n o given =
+            let bound = and-eq-true-iff (bounded cap (rawP p)) (numBound cap x) .0 (given .bound) .1 in
+            with-prop (age-es n op x) 4 p (λ bs bn bp. age-fine t N _ bs bn bp cap low op x bound) given
+        fine (neg f) s n o given =
+            let x : Block = emit flowOf f s n o in
+            negated-fine o x (given .room) (given .kinds) (fine f s n o (under-not (x .es) _ given))
+        fine (and f g) s n o given =
+            let x : Block = emit flowOf f s n o in
+            let o′ : ℕ = after o (x .es) in
+            let (first, second) = both f g _ given in
+            join-and o x (emit flowOf g s n o′) (given .room) (given .kinds)
+            (fine f s n o first) (fine g s n o′ second)
+        fine (or f g) s n o given =
+            let x : Block = emit flowOf f s n o in
+            let o′ : ℕ = after o (x .es) in
+            let (first, second) = both f g _ given in
+            join-or o x (emit flowOf g s n o′) (given .room) (given .kinds)
+            (fine f s n o first) (fine g s n o′ second)
+        fine (then l f) s n o given = then-fine l f (fine l s n o) (fine f _ _ _) given

@@ -1,0 +1,118 @@
+-- An observer's table passes the check of tables, whatever stands after it. Assumes nothing.
+use mathlib.Core.Bool.{true}
+use mathlib.Core.List.{List, _++_}
+use mathlib.Core.Path.{_≡_, refl, sym, ap, subst}
+use Prim.Native.Nat.{ℕ, _-_, _≤_, _<_}
+use native.Mathlib.Omega.{arith}
+use lib.ListN.{length, length-append}
+use Rattle.formulas.specs.Formula.{Formula}
+use Rattle.formulas.specs.Bounds.{bounded}
+use Rattle.formulas.specs.Raw.{raw}
+use Rattle.tables.specs.Table.{Equation, kindOf, kindAt, shapeOf, sortOf, sameSort, shapeFits, operandFits}
+use Rattle.tables.specs.Table.{equationFits, equationLimit, literalCount, signalCount, checked, all}
+use Rattle.tables.specs.declared.Sort.the-variants.{Boolean}
+use Rattle.tables.specs.declared.Checked.the-variants.{Passed}
+use Rattle.tables.proofs.Tests.{all-of}
+use Rattle.tables.proofs.Checks.{long-enough}
+use Rattle.agreement.specs.Scheme.{_⊕_}
+use Rattle.agreement.specs.Emit.{names, signals, numbersOf}
+use Rattle.agreement.proofs.Offsets.{zero-⊕}
+use Rattle.agreement.proofs.Places.{after-later, Each, each-left, each-right, each-at, each-from}
+use Rattle.agreement.proofs.Places.{equation-at, length-numbers}
+use Rattle.agreement.proofs.Parts.{headRows, flowAmong, bodyPlace, bodyBlock, wholePlace, wholeRows}
+use Rattle.agreement.proofs.Parts.{observerOver, whole-last}
+use Rattle.agreement.proofs.Roles.{Before, later, Fits, KindAt}
+use Rattle.agreement.proofs.Rows.{here, not-fine, whole-fine}
+use Rattle.agreement.proofs.Blocks.{AllFine, follow, fine}
+use Rattle.agreement.proofs.Header.{signal-at, signal-before, signals-fit}
+
+module _ (cap : ℕ) (low : cap ≤ literalCount) (m : ℕ) (few : m ≤ signalCount) (f : Formula)
+    (bound : bounded cap (raw f) ≡ true) (below : (j : ℕ) → names f j ≡ true → j < m) (junk : List ℕ) where
+  -- The table, and its number of equations.
+  abbrev t : List ℕ
+  t = numbersOf (observerOver m f) ++ junk
+
+  abbrev n : ℕ
+  n = length (observerOver m f)
+
+  -- The kinds in the table are those of the equations, in each of the three parts.
+  kinds : Each (KindAt t) 0 (observerOver m f)
+  kinds =
+      each-from (KindAt t) (observerOver m f) 0
+      (λ i h. rw zero-⊕ (ap (λ (e : Equation). kindOf (e .kind)) (equation-at (observerOver m f) junk i h)))
+
+  head-kinds : Each (KindAt t) 0 (headRows (names f) m)
+  head-kinds = each-left (KindAt t) (headRows (names f) m) _ 0 kinds
+
+  rest-kinds : Each (KindAt t) (bodyPlace m f) (bodyBlock m f .es ++ wholeRows m f)
+  rest-kinds = each-right (KindAt t) (headRows (names f) m) _ 0 kinds
+
+  whole-kinds : Each (KindAt t) (wholePlace m f) (wholeRows m f)
+  whole-kinds = each-right (KindAt t) (bodyBlock m f .es) (wholeRows m f) (bodyPlace m f) rest-kinds
+
+  -- The start flow and its negation stand first,
+  start : Before t 1 Boolean 0
+  unfolding kindOf shapeOf sameSort
+  start = here t n 0 0 1 (head-kinds .0) refl
+
+  negation : Before t 2 Boolean 1
+  unfolding kindOf shapeOf sameSort
+  negation = here t n 0 1 3 (head-kinds .1 .0) refl
+
+  -- and every named signal before the formula's equations.
+  named : (j : ℕ) → names f j ≡ true → Before t (bodyPlace m f) Boolean (flowAmong (names f) m j)
+  unfolding kindOf shapeOf sameSort
+  named j e =
+      let e′ : names f (0 ⊕ j) ≡ true = rw zero-⊕ e in
+      let kind = signal-at (names f) (KindAt t) m 0 2 j (head-kinds .1 .1) (below j e) e′ in
+      record { earlier = signal-before (names f) m 0 2 j (below j e) e′; sorted = rw kind }
+
+  far : 2 ≤ bodyPlace m f
+  far = after-later (signals (names f) 0 m) 2
+
+  body-fine : AllFine t n (bodyPlace m f) (bodyBlock m f .es) (bodyBlock m f .out)
+  body-fine =
+      fine t n (flowAmong (names f) m) cap low f 0 1 (bodyPlace m f) (record {
+        bound = bound;
+        named = named;
+        start = later start (omega (arith, far));
+        negation = later negation far;
+        kinds = each-left (KindAt t) (bodyBlock m f .es) (wholeRows m f) (bodyPlace m f) rest-kinds;
+        room = omega (arith, whole-last m f);
+      })
+
+  head-fits : Each (Fits t n) 0 (headRows (names f) m)
+  unfolding kindOf shapeOf shapeFits operandFits
+  head-fits =
+      let negation-fits = not-fine t n 1 start (omega arith) (head-kinds .1 .0, tt) .0 in
+      (record { fits = refl }, (negation-fits .0, signals-fit (names f) t n m 0 2 (omega arith)))
+
+  all-fine : AllFine t n 0 (observerOver m f) (wholePlace m f ⊕ 3)
+  all-fine =
+      let further : bodyPlace m f ≤ wholePlace m f = after-later (bodyBlock m f .es) (bodyPlace m f) in
+      let start′ : Before t (wholePlace m f) Boolean 0 = later start (omega (arith, far)) in
+      let room : wholePlace m f ⊕ 4 ≤ n = omega (arith, whole-last m f) in
+      let closing-fine = whole-fine t n (wholePlace m f) start′ (body-fine .1) room whole-kinds in
+      follow t n (headRows (names f) m) (bodyBlock m f .es ++ wholeRows m f) 0 (wholePlace m f ⊕ 3) head-fits
+      (follow t n (bodyBlock m f .es) (wholeRows m f) (bodyPlace m f) (wholePlace m f ⊕ 3) (body-fine .0) closing-fine)
+
+  -- So every equation of the table keeps its rules,
+  equations-fit : all (equationFits t n) n ≡ true
+  equations-fit =
+      all-of (equationFits t n) n
+      (λ i h. subst (λ (e : Equation). shapeFits t n i (shapeOf (kindOf (e .kind))) e ≡ true)
+      (sym (equation-at (observerOver m f) junk i h))
+      (rw zero-⊕ at (each-at (Fits t n) (observerOver m f) 0 i (all-fine .0) h) .fits))
+
+  -- and the last one is boolean.
+  pub last-over : n - 1 ≡ wholePlace m f ⊕ 3
+  last-over = omega (arith, whole-last m f)
+
+  pub last-boolean : sameSort (sortOf (kindAt t (n - 1))) Boolean ≡ true
+  last-boolean = subst (λ (x : ℕ). sameSort (sortOf (kindAt t x)) Boolean ≡ true) (sym last-over) (all-fine .1 .sorted)
+
+  pub formed-over : n ≤ equationLimit → checked t n ≡ Passed
+  formed-over small =
+      long-enough t n (omega arith) small
+      (omega (arith, length-append (numbersOf (observerOver m f)) junk, length-numbers (observerOver m f))) true true
+      equations-fit last-boolean

@@ -1,0 +1,168 @@
+-- How many memories an observer has, exactly; so at most two for each node and one more. Assumes nothing.
+use mathlib.Core.Bool.{Bool, true, false, cond}
+use mathlib.Core.List.{List, [], _∷_, _++_}
+use mathlib.Core.Path.{_≡_, refl, ap, _∙_}
+use Prim.Native.Nat.{ℕ, zero, suc, _+_, _*_, _≤_}
+use native.Mathlib.Omega.{arith}
+use lib.ListN.{length}
+use Rattle.traces.specs.Trace.{truth}
+use Rattle.formulas.specs.Formula.{Num, Prop, Formula, Test}
+use Rattle.formulas.specs.Formula.Num.{literal, parameter}
+use Rattle.formulas.specs.Formula.Prop.{constant, signal, negP, andP, orP}
+use Rattle.formulas.specs.Formula.Test.{begin, end, point, held, kept}
+use Rattle.formulas.specs.Formula.Count.{sum, age}
+use Rattle.formulas.specs.Formula.Formula.{test, len, count, neg, and, or, then}
+use Rattle.formulas.specs.Arena.{numKind}
+use Rattle.formulas.specs.Tree.{nodes}
+use Rattle.formulas.specs.Raw.{raw}
+use Rattle.tables.specs.Table.{Equation, kindOf, kindAt}
+use Rattle.tables.specs.Flow.{isMemory}
+use Rattle.agreement.specs.Scheme.{_⊕_, equation}
+use Rattle.agreement.specs.Emit.{after, emitP, emit, names, flowIn, signals, header, whole-es, body, observer}
+use Rattle.agreement.specs.Emit.{numbersOf}
+use Rattle.agreement.specs.Agreement.{memories}
+use Rattle.agreement.proofs.Places.{four-more}
+
+-- The memories of a formula's own equations: one for each `begin`, `kept`, `held`, `len`, `sum` and `age`, two for
+-- each `then`.
+abbrev pub testMemories : Test → ℕ
+testMemories begin = 1
+testMemories end = 0
+testMemories point = 0
+testMemories held = 1
+testMemories kept = 1
+
+abbrev pub memoriesOf : Formula → ℕ
+memoriesOf (test k p) = testMemories k
+memoriesOf (len o n) = 1
+memoriesOf (count k p o n) = 1
+memoriesOf (neg f) = memoriesOf f
+memoriesOf (and f g) = memoriesOf f + memoriesOf g
+memoriesOf (or f g) = memoriesOf f + memoriesOf g
+memoriesOf (then f g) = memoriesOf f + memoriesOf g + 2
+
+-- ---- counted over equations
+
+-- A memory counts 1.
+abbrev isOne : Equation → ℕ
+isOne e = truth (isMemory (kindOf (e .kind)))
+
+abbrev counted : List Equation → ℕ
+counted [] = 0
+counted (e ∷ es) = isOne e + counted es
+
+counted-append : (xs ys : List Equation) → counted (xs ++ ys) ≡ counted xs + counted ys
+counted-append [] ys = omega arith
+counted-append (e ∷ xs) ys = rw (counted-append xs ys) (omega arith)
+
+counted-signals : (named : ℕ → Bool) (m j : ℕ) → counted (signals named j m) ≡ 0
+unfolding kindOf isMemory
+counted-signals named zero j = refl
+counted-signals named (suc m) j = with-first (named j) (counted-signals named m (suc j))
+  where
+    with-first : (x : Bool) → counted (signals named (suc j) m) ≡ 0
+        → counted (cond x (equation 0 j 0 0 ∷ signals named (suc j) m) (signals named (suc j) m)) ≡ 0
+    with-first true h = omega arith
+    with-first false h = h
+
+-- A comparison is no memory.
+compare-none : (x : Num) → truth (isMemory (kindOf (numKind x))) ≡ 0
+unfolding kindOf isMemory
+compare-none (literal n) = refl
+compare-none (parameter j) = refl
+
+module _ (flowOf : ℕ → ℕ) where
+  counted-prop : (p : Prop) (o : ℕ) → counted (emitP flowOf p o .es) ≡ 0
+  unfolding kindOf isMemory
+  counted-prop (constant c) o = refl
+  counted-prop (signal j) o = refl
+  counted-prop (negP p) o = simp (counted-append, counted-prop p o)
+  counted-prop (andP p q) o = simp (counted-append, counted-prop p o, counted-prop q (after o (emitP flowOf p o .es)))
+  counted-prop (orP p q) o = simp (counted-append, counted-prop p o, counted-prop q (after o (emitP flowOf p o .es)))
+
+  counted-formula : (f : Formula) (s n o : ℕ) → counted (emit flowOf f s n o .es) ≡ memoriesOf f
+  unfolding kindOf isMemory
+  counted-formula (test begin p) s n o = simp (counted-append, counted-prop p o)
+  counted-formula (test end p) s n o = counted-prop p o
+  counted-formula (test point p) s n o = simp (counted-append, counted-prop p o)
+  counted-formula (test held p) s n o = simp (counted-append, counted-prop p o)
+  counted-formula (test kept p) s n o = simp (counted-append, counted-prop p o)
+  counted-formula (len op x) s n o = simp (compare-none x)
+  counted-formula (count sum p op x) s n o = simp (counted-append, counted-prop p o, compare-none x)
+  counted-formula (count age p op x) s n o = simp (counted-append, counted-prop p o, compare-none x)
+  counted-formula (neg f) s n o = simp (counted-append, counted-formula f s n o) (omega arith)
+  counted-formula (and f g) s n o =
+      let o′ : ℕ = after o (emit flowOf f s n o .es) in
+      simp (counted-append, counted-formula f s n o, counted-formula g s n o′) (omega arith)
+  counted-formula (or f g) s n o =
+      let o′ : ℕ = after o (emit flowOf f s n o .es) in
+      simp (counted-append, counted-formula f s n o, counted-formula g s n o′) (omega arith)
+  counted-formula (then l f) s n o =
+      let o′ : ℕ = after o (emit flowOf l s n o .es) in
+      simp (counted-append, counted-formula l s n o, counted-formula f (o′ ⊕ 3) (o′ ⊕ 4) (o′ ⊕ 5)) (omega arith)
+
+-- ---- counted over an observer
+
+counted-header : (named : ℕ → Bool) (m : ℕ) → counted (equation 1 0 0 0 ∷ equation 3 0 0 0 ∷ signals named 0 m) ≡ 0
+unfolding kindOf isMemory
+counted-header named m = omega (arith, counted-signals named m 0)
+
+counted-three : (xs ys zs : List Equation) (k : ℕ) → counted xs ≡ 0 → counted ys ≡ k → counted zs ≡ 1
+    → counted (xs ++ (ys ++ zs)) ≡ k + 1
+counted-three xs ys zs k p q r = simp counted-append (omega arith)
+
+counted-observer : (f : Formula) → counted (observer f) ≡ memoriesOf f + 1
+unfolding kindOf isMemory
+counted-observer f =
+    let o : ℕ = after 0 (header (names f)) in
+    counted-three (header (names f)) (body f .es) (whole-es 0 (after o (body f .es)) (body f .out)) (memoriesOf f)
+    (counted-header (names f) 64) (counted-formula (flowIn (names f)) f 0 1 o) refl
+
+-- ---- counted over the table
+
+-- A table with one more equation in front.
+memories-more : (e : Equation) (t : List ℕ) (n : ℕ)
+    → memories (e .kind ∷ e .a ∷ e .b ∷ e .c ∷ t) (suc n) ≡ isOne e + memories t n
+memories-more e t zero = one (isMemory (kindOf (e .kind)))
+  where
+    one : (x : Bool) → cond x (suc 0) 0 ≡ truth x + 0
+    one true = refl
+    one false = refl
+memories-more e t (suc n) = rw four-more (one-more (isMemory (kindAt t n)) (memories-more e t n))
+  where
+    t′ : List ℕ
+    t′ = e .kind ∷ e .a ∷ e .b ∷ e .c ∷ t
+
+    one-more : (x : Bool) → memories t′ (suc n) ≡ isOne e + memories t n
+        → cond x (suc (memories t′ (suc n))) (memories t′ (suc n))
+        ≡ isOne e + cond x (suc (memories t n)) (memories t n)
+    one-more true h = omega arith
+    one-more false h = h
+
+memories-counted : (es : List Equation) (junk : List ℕ) → memories (numbersOf es ++ junk) (length es) ≡ counted es
+memories-counted [] junk = refl
+memories-counted (e ∷ es) junk =
+    memories-more e (numbersOf es ++ junk) (length es) ∙ ap (λ (k : ℕ). isOne e + k) (memories-counted es junk)
+
+-- Exactly so many memories has the observer of f, one more than f's own for `started`,
+pub memories-exactly : (f : Formula) (junk : List ℕ)
+    → memories (numbersOf (observer f) ++ junk) (length (observer f)) ≡ memoriesOf f + 1
+memories-exactly f junk = memories-counted (observer f) junk ∙ counted-observer f
+
+-- and that is at most two for each node and one more.
+two-a-node : (f : Formula) → memoriesOf f ≤ 2 * nodes (raw f)
+two-a-node (test begin p) = omega arith
+two-a-node (test end p) = omega arith
+two-a-node (test point p) = omega arith
+two-a-node (test held p) = omega arith
+two-a-node (test kept p) = omega arith
+two-a-node (len o n) = omega arith
+two-a-node (count k p o n) = omega arith
+two-a-node (neg f) = omega (arith, two-a-node f)
+two-a-node (and f g) = omega (arith, two-a-node f, two-a-node g)
+two-a-node (or f g) = omega (arith, two-a-node f, two-a-node g)
+two-a-node (then f g) = omega (arith, two-a-node f, two-a-node g)
+
+pub memories-few : (f : Formula) (junk : List ℕ)
+    → memories (numbersOf (observer f) ++ junk) (length (observer f)) ≤ 2 * nodes (raw f) + 1
+memories-few f junk = rw (memories-exactly f junk) (omega (arith, two-a-node f))

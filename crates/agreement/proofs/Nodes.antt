@@ -1,0 +1,274 @@
+-- The equations of a proposition give what it says at each tick; those of a formula give, from the latest start of
+-- their start flow on, the formula's meaning. Assumes nothing.
+use mathlib.Core.Bool.{Bool, true, not, _&&_, _||_, or-true, and-eq-true-iff}
+use mathlib.Core.List.{List, _++_}
+use mathlib.Core.Path.{_≡_, refl, ap, ap₂, _∙_}
+use Prim.Native.Nat.{ℕ, suc, _<_}
+use native.Mathlib.Omega.{arith}
+use borrow.Author.Tests.{eq-eqb}
+use Rattle.traces.specs.Trace.{Trace, signalAt, parameterAt}
+use Rattle.traces.proofs.Laws.{nonzero-truth}
+use Rattle.formulas.specs.Formula.{Prop, Formula}
+use Rattle.formulas.specs.Formula.Prop.{constant, signal, negP, andP, orP}
+use Rattle.formulas.specs.Formula.Test.{begin, end, point, held, kept}
+use Rattle.formulas.specs.Formula.Count.{sum, age}
+use Rattle.formulas.specs.Formula.Formula.{test, len, count, neg, and, or, then}
+use Rattle.formulas.specs.Meaning.{holds, at, tally, streak, meaning}
+use Rattle.formulas.specs.Tree.{lead, leads}
+use Rattle.formulas.specs.Bounds.{bounded, numBound}
+use Rattle.formulas.specs.Raw.{rawP, raw}
+use Rattle.formulas.proofs.Meaning.{lead-falls}
+use Rattle.tables.specs.Table.{Equation, kindOf, parameterCount}
+use Rattle.agreement.specs.Scheme.{_⊕_}
+use Rattle.agreement.specs.Emit.{Block, after, emitP, emit, namesP, names, lead-end-es, then-es}
+use Rattle.agreement.specs.Emit.{begin-es, point-es, kept-es, held-es, sum-es, age-es}
+use Rattle.agreement.proofs.Offsets.{⊕-add, span, lt-longer, eq-longer}
+use Rattle.agreement.proofs.Places.{each-left, each-right}
+use Rattle.agreement.proofs.Local.{on, LocalAt, Stand}
+use Rattle.agreement.proofs.Atoms.{Since, begin-is, point-is, kept-is, held-is, len-is, sum-is, age-is}
+use Rattle.agreement.proofs.Atoms.{compare-is}
+use Rattle.agreement.proofs.Then.{then-is, second-negated}
+
+module _ (cap : ℕ) (trace : Trace) (flow : ℕ → ℕ → ℕ) where
+  -- ---- parts of equations that stand
+
+  abbrev pub Stands : ℕ → List Equation → Type 0
+  Stands = Stand cap trace flow
+
+  left : (xs ys : List Equation) (o : ℕ) → Stands o (xs ++ ys) → Stands o xs
+  left = each-left (LocalAt cap trace flow)
+
+  right : (xs ys : List Equation) (o : ℕ) → Stands o (xs ++ ys) → Stands (after o xs) ys
+  right = each-right (LocalAt cap trace flow)
+
+  three : (xs ys zs : List Equation) (o : ℕ) → Stands o (xs ++ (ys ++ zs))
+      → Stands o xs × Stands (after o xs) ys × Stands (after (after o xs) ys) zs
+  three xs ys zs o h =
+      let rest = right xs (ys ++ zs) o h in
+      (left xs (ys ++ zs) o h, left ys zs (after o xs) rest, right ys zs (after o xs) rest)
+
+  module _ (flowOf : ℕ → ℕ) where
+    -- ---- propositions
+
+    -- The flow of each named signal is the signal.
+    abbrev pub Signals : (ℕ → Bool) → Type 0
+    Signals named = (j : ℕ) → named j ≡ true → (k : ℕ) → on flow (flowOf j) k ≡ signalAt (trace k) j
+
+    -- What either of two names, both together name.
+    named-left : (x y : ℕ → Bool) → Signals (λ j. x j || y j) → Signals x
+    named-left x y h j e = h j (rw e)
+
+    named-right : (x y : ℕ → Bool) → Signals (λ j. x j || y j) → Signals y
+    named-right x y h j e = h j (rw e (or-true (x j)))
+
+    prop-is : (p : Prop) (o : ℕ) → Signals (namesP p) → Stands o (emitP flowOf p o .es)
+        → (k : ℕ) → on flow (emitP flowOf p o .out) k ≡ holds p (trace k)
+    unfolding kindOf
+    prop-is (constant c) o signals h k = rw (h .0 k) (nonzero-truth c)
+    prop-is (signal j) o signals h k = signals j (eq-eqb j j refl) k
+    prop-is (negP p) o signals h k =
+        let x : Block = emitP flowOf p o in
+        right (x .es) _ o h .0 k ∙ ap not (prop-is p o signals (left (x .es) _ o h) k)
+    prop-is (andP p q) o signals h k =
+        let x : Block = emitP flowOf p o in
+        let o′ : ℕ = after o (x .es) in
+        let parts = three (x .es) (emitP flowOf q o′ .es) _ o h in
+        let first = prop-is p o (named-left (namesP p) (namesP q) signals) (parts .0) k in
+        let second = prop-is q o′ (named-right (namesP p) (namesP q) signals) (parts .1) k in
+        parts .2 .0 k ∙ ap₂ _&&_ first second
+    prop-is (orP p q) o signals h k =
+        let x : Block = emitP flowOf p o in
+        let o′ : ℕ = after o (x .es) in
+        let parts = three (x .es) (emitP flowOf q o′ .es) _ o h in
+        let first = prop-is p o (named-left (namesP p) (namesP q) signals) (parts .0) k in
+        let second = prop-is q o′ (named-right (namesP p) (namesP q) signals) (parts .1) k in
+        parts .2 .0 k ∙ ap₂ _||_ first second
+
+    -- ---- what is given of a formula, and of its parts
+
+    -- Of equations es that stand from place o on, with the start flow s and its negation n: the formula's leads are
+    -- leads, its numbers are bounded, the signals that it names are there.
+    pub record Given (leading bounds : Bool) (named : ℕ → Bool) (s n o : ℕ) (es : List Equation) : Type 0 where
+      pub led : leading ≡ true
+      pub bound : bounds ≡ true
+      pub signals : Signals named
+      pub negated : (k : ℕ) → on flow n k ≡ not (on flow s k)
+      pub stands : Stands o es
+
+    abbrev pub GivenOf : Formula → ℕ → ℕ → ℕ → Type 0
+    GivenOf f s n o = Given (leads (raw f)) (bounded cap (raw f)) (names f) s n o (emit flowOf f s n o .es)
+
+    -- An atom's proposition, and the rows that follow its equations.
+    with-prop : {leading bounds : Bool} {s n o : ℕ} (p : Prop) (rows : ℕ → ℕ → List Equation) →
+        let x : Block = emitP flowOf p o in
+        Given leading bounds (namesP p) s n o (x .es ++ rows (after o (x .es)) (x .out))
+        → ((k : ℕ) → on flow (x .out) k ≡ at trace p k) × Stands (after o (x .es)) (rows (after o (x .es)) (x .out))
+    with-prop {o = o} p rows given =
+        let x : Block = emitP flowOf p o in
+        (prop-is p o (given .signals) (left (x .es) _ o (given .stands)), right (x .es) _ o (given .stands))
+
+    -- The formula under a `!`.
+    under-not : {leading bounds : Bool} {named : ℕ → Bool} {s n o : ℕ} (xs ys : List Equation)
+        → Given leading bounds named s n o (xs ++ ys) → Given leading bounds named s n o xs
+    under-not {o = o} xs ys given =
+        record {
+          led = given .led;
+          bound = given .bound;
+          signals = given .signals;
+          negated = given .negated;
+          stands = left xs ys o (given .stands);
+        }
+
+    -- Two formulas that are joined by `&` or `|`, and the row that joins them.
+    both : (f g : Formula) {s n o : ℕ} (row : List Equation) →
+        let x : Block = emit flowOf f s n o in
+        let o′ : ℕ = after o (x .es) in
+        let y : Block = emit flowOf g s n o′ in
+        Given (leads (raw f) && leads (raw g)) (bounded cap (raw f) && bounded cap (raw g))
+        (λ j. names f j || names g j) s n o (x .es ++ (y .es ++ row))
+        → GivenOf f s n o × GivenOf g s n o′ × Stands (after o′ (y .es)) row
+    both f g {s} {n} {o} row given =
+        let x : Block = emit flowOf f s n o in
+        let y : Block = emit flowOf g s n (after o (x .es)) in
+        let parts = three (x .es) (y .es) row o (given .stands) in
+        let led = and-eq-true-iff (leads (raw f)) (leads (raw g)) .0 (given .led) in
+        let bound = and-eq-true-iff (bounded cap (raw f)) (bounded cap (raw g)) .0 (given .bound) in (
+          record {
+            led = led .0;
+            bound = bound .0;
+            signals = named-left (names f) (names g) (given .signals);
+            negated = given .negated;
+            stands = parts .0;
+          },
+          record {
+            led = led .1;
+            bound = bound .1;
+            signals = named-right (names f) (names g) (given .signals);
+            negated = given .negated;
+            stands = parts .1;
+          },
+          parts .2,
+        )
+
+    -- A `then`: its lead, the end of the lead, the second part, which starts there, and the rest.
+    record ThenParts (l f : Formula) (s n o o′ o″ p g : ℕ) : Type 0 where
+      is-lead : lead (raw l) ≡ true
+      first : GivenOf l s n o
+      ending : Stands o′ (lead-end-es n o′ p)
+      second : GivenOf f (o′ ⊕ 3) (o′ ⊕ 4) (o′ ⊕ 5)
+      rest : Stands o″ (then-es n o″ (o′ ⊕ 3) g)
+
+    then-parts : (l f : Formula) {s n o : ℕ} → GivenOf (then l f) s n o →
+        let x : Block = emit flowOf l s n o in
+        let o′ : ℕ = after o (x .es) in
+        let y : Block = emit flowOf f (o′ ⊕ 3) (o′ ⊕ 4) (o′ ⊕ 5) in
+        ThenParts l f s n o o′ (after (o′ ⊕ 5) (y .es)) (x .out) (y .out)
+    then-parts l f {s} {n} {o} given =
+        let x : Block = emit flowOf l s n o in
+        let o′ : ℕ = after o (x .es) in
+        let y : Block = emit flowOf f (o′ ⊕ 3) (o′ ⊕ 4) (o′ ⊕ 5) in
+        let o″ : ℕ = after (o′ ⊕ 5) (y .es) in
+        let ending : List Equation = lead-end-es n o′ (x .out) in
+        let rest : List Equation = then-es n o″ (o′ ⊕ 3) (y .out) in
+        let parts = three (x .es) ending (y .es ++ rest) o (given .stands) in
+        let rest-stands : Stands o″ rest = right (y .es) rest (o′ ⊕ 5) (parts .2) in
+        let leading = and-eq-true-iff (lead (raw l)) (leads (raw l) && leads (raw f)) .0 (given .led) in
+        let led = and-eq-true-iff (leads (raw l)) (leads (raw f)) .0 (leading .1) in
+        let bound = and-eq-true-iff (bounded cap (raw l)) (bounded cap (raw f)) .0 (given .bound) in
+        record {
+          is-lead = leading .0;
+          first = record {
+            led = led .0;
+            bound = bound .0;
+            signals = named-left (names l) (names f) (given .signals);
+            negated = given .negated;
+            stands = parts .0;
+          };
+          ending = parts .1;
+          second = record {
+            led = led .1;
+            bound = bound .1;
+            signals = named-right (names l) (names f) (given .signals);
+            negated =
+                second-negated cap trace flow s n (given .negated) o′ o″ (x .out) (y .out) (parts .1) rest-stands;
+            stands = left (y .es) rest (o′ ⊕ 5) (parts .2);
+          };
+          rest = rest-stands;
+        }
+
+  -- ---- formulas
+
+  -- The flow i says what f means, from the latest start of the flow s on.
+  abbrev pub Agrees : ℕ → ℕ → Formula → Type 0
+  Agrees s i f = (b d : ℕ) → Since (on flow s) b d → on flow i (b ⊕ d) ≡ meaning trace f b (b ⊕ d)
+
+  -- The parameters are the same at all ticks, and below the cap.
+  module _ (same : (i j : ℕ) → (trace i) .parameters ≡ (trace j) .parameters)
+      (small : (k j : ℕ) → j < parameterCount → parameterAt (trace k) j < cap) (flowOf : ℕ → ℕ) where
+    pub agrees : (f : Formula) (s n o : ℕ) → GivenOf flowOf f s n o → Agrees s (emit flowOf f s n o .out) f
+    unfolding kindOf
+    agrees (test begin p) s n o given =
+        let x : Block = emitP flowOf p o in
+        let (says, rows) = with-prop flowOf p (begin-es s n) given in
+        begin-is cap trace flow s n (given .negated) (after o (x .es)) (x .out) (at trace p) says rows
+    agrees (test end p) s n o given = λ b d since. prop-is flowOf p o (given .signals) (given .stands) (b ⊕ d)
+    agrees (test point p) s n o given = λ b d since.
+        let x : Block = emitP flowOf p o in
+        let (says, rows) = with-prop flowOf p (point-es s) given in
+        rw (eq-longer b d)
+        (point-is cap trace flow s n (given .negated) (after o (x .es)) (x .out) (at trace p) says rows b d since)
+    agrees (test held p) s n o given = λ b d since.
+        let x : Block = emitP flowOf p o in
+        let (says, rows) = with-prop flowOf p (held-es s n) given in
+        rw (lt-longer b d, span b d)
+        (held-is cap trace flow s n (given .negated) (after o (x .es)) (x .out) (at trace p) says rows b d since)
+    agrees (test kept p) s n o given = λ b d since.
+        let x : Block = emitP flowOf p o in
+        let (says, rows) = with-prop flowOf p (kept-es s) given in
+        rw (span b d)
+        (kept-is cap trace flow s n (given .negated) (after o (x .es)) (x .out) (at trace p) says rows b d since)
+    agrees (len op x) s n o given = λ b d since.
+        let rows = given .stands in
+        let counted = len-is cap trace flow s n (given .negated) o op x rows b d since in
+        rw (span b d)
+        (compare-is cap trace flow small (o ⊕ 3) (o ⊕ 2) op x (given .bound) (rows .1 .1 .1) (b ⊕ d) d counted)
+    agrees (count sum p op x) s n o given = λ b d since.
+        let y : Block = emitP flowOf p o in
+        let o′ : ℕ = after o (y .es) in
+        let (says, rows) = with-prop flowOf p (sum-es n op x) given in
+        let counted = sum-is cap trace flow s n (given .negated) o′ (y .out) (at trace p) says op x rows b d since in
+        let bound = and-eq-true-iff (bounded cap (rawP p)) (numBound cap x) .0 (given .bound) .1 in
+        rw (span b d)
+        (compare-is cap trace flow small (o′ ⊕ 3) (o′ ⊕ 1) op x bound (rows .1 .1 .1) (b ⊕ d)
+        (tally (at trace p) b d) counted)
+    agrees (count age p op x) s n o given = λ b d since.
+        let y : Block = emitP flowOf p o in
+        let o′ : ℕ = after o (y .es) in
+        let (says, rows) = with-prop flowOf p (age-es n op x) given in
+        let counted = age-is cap trace flow s n (given .negated) o′ (y .out) (at trace p) says op x rows b d since in
+        let bound = and-eq-true-iff (bounded cap (rawP p)) (numBound cap x) .0 (given .bound) .1 in
+        rw (span b d)
+        (compare-is cap trace flow small (o′ ⊕ 4) (o′ ⊕ 3) op x bound (rows .1 .1 .1 .1) (b ⊕ d)
+        (streak (at trace p) (b ⊕ d) d) counted)
+    agrees (neg f) s n o given = λ b d since.
+        let x : Block = emit flowOf f s n o in
+        let row = right (x .es) _ o (given .stands) in
+        row .0 (b ⊕ d) ∙ ap not (agrees f s n o (under-not flowOf (x .es) _ given) b d since)
+    agrees (and f g) s n o given = λ b d since.
+        let (first, second, row) = both flowOf f g _ given in
+        row .0 (b ⊕ d) ∙ ap₂ _&&_ (agrees f s n o first b d since) (agrees g s n _ second b d since)
+    agrees (or f g) s n o given = λ b d since.
+        let (first, second, row) = both flowOf f g _ given in
+        row .0 (b ⊕ d) ∙ ap₂ _||_ (agrees f s n o first b d since) (agrees g s n _ second b d since)
+    agrees (then l f) s n o given = λ b d since.
+        let x : Block = emit flowOf l s n o in
+        let o′ : ℕ = after o (x .es) in
+        let y : Block = emit flowOf f (o′ ⊕ 3) (o′ ⊕ 4) (o′ ⊕ 5) in
+        let parts = then-parts flowOf l f given in
+        let first = agrees l s n o (parts .first) in
+        let second = agrees f (o′ ⊕ 3) (o′ ⊕ 4) (o′ ⊕ 5) (parts .second) in
+        let falls : (d : ℕ) → meaning trace l b (suc (b ⊕ d)) ≡ true → meaning trace l b (b ⊕ d) ≡ true =
+        λ d. lead-falls trace same l (parts .is-lead) b (b ⊕ d) (rw ⊕-add (omega arith)) in
+        rw (span b d)
+        (then-is cap trace flow s n (given .negated) o′ (after (o′ ⊕ 5) (y .es)) (x .out) (y .out)
+        (parts .ending) (parts .rest) (meaning trace l) (meaning trace f) b falls (first b) second d since)

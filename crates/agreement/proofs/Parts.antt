@@ -1,0 +1,49 @@
+-- The three parts of an observer and the places where they begin, over a number m of signals that is left open: at 64
+-- they are the observer. (With 64 written, proofs would compute the list of signals.) Assumes nothing.
+use mathlib.Core.Bool.{Bool}
+use mathlib.Core.List.{List, _∷_, _++_}
+use mathlib.Core.Path.{_≡_, refl, sym, _∙_}
+use Prim.Native.Nat.{ℕ}
+use native.Mathlib.Omega.{arith}
+use lib.ListN.{getD, length}
+use Rattle.formulas.specs.Formula.{Formula}
+use Rattle.tables.specs.Table.{Equation}
+use Rattle.agreement.specs.Scheme.{_⊕_, equation}
+use Rattle.agreement.specs.Emit.{Block, after, emit, names, signals, places, whole-es, observer}
+use Rattle.agreement.proofs.Places.{after-append, after-length}
+
+-- The start flow, its negation, and the named signals among the first m.
+abbrev pub headRows : (ℕ → Bool) → ℕ → List Equation
+headRows named m = equation 1 0 0 0 ∷ equation 3 0 0 0 ∷ signals named 0 m
+
+-- The flow of signal j.
+abbrev pub flowAmong : (ℕ → Bool) → ℕ → ℕ → ℕ
+flowAmong named m j = getD (places named 0 2 m) j 0
+
+module _ (m : ℕ) (f : Formula) where
+  -- Where the formula's equations begin, and they,
+  abbrev pub bodyPlace : ℕ
+  bodyPlace = after 0 (headRows (names f) m)
+
+  abbrev pub bodyBlock : Block
+  bodyBlock = emit (flowAmong (names f) m) f 0 1 bodyPlace
+
+  -- where the closing equations begin, and they.
+  abbrev pub wholePlace : ℕ
+  wholePlace = after bodyPlace (bodyBlock .es)
+
+  abbrev pub wholeRows : List Equation
+  wholeRows = whole-es 0 wholePlace (bodyBlock .out)
+
+  abbrev pub observerOver : List Equation
+  observerOver = headRows (names f) m ++ (bodyBlock .es ++ wholeRows)
+
+  -- The closing equations are the last four.
+  pub whole-last : wholePlace ⊕ 4 ≡ length observerOver
+  whole-last =
+      sym (after-append (headRows (names f) m) (bodyBlock .es ++ wholeRows) 0
+      ∙ after-append (bodyBlock .es) wholeRows bodyPlace)
+      ∙ after-length observerOver 0 ∙ omega arith
+
+pub is-observer : (f : Formula) → observerOver 64 f ≡ observer f
+is-observer f = refl

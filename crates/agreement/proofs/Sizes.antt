@@ -1,0 +1,68 @@
+-- How many equations an observer has: at most five for each record of the formula's tree, 66 before and 4 after them.
+-- A formula that was read has at most 1,920 numbers in its records, so its observer has at most 4,096 equations.
+-- Assumes nothing.
+use mathlib.Core.Bool.{Bool}
+use mathlib.Core.List.{List, _∷_, _++_}
+use Prim.Native.Nat.{ℕ, _+_, _*_, _≤_}
+use native.Mathlib.Nat.{le-trans}
+use native.Mathlib.Omega.{arith}
+use lib.ListN.{length, length-append}
+use Rattle.formulas.specs.Formula.{Prop, Formula}
+use Rattle.formulas.specs.Formula.Prop.{constant, signal, negP, andP, orP}
+use Rattle.formulas.specs.Formula.Test.{begin, end, point, held, kept}
+use Rattle.formulas.specs.Formula.Count.{sum, age}
+use Rattle.formulas.specs.Formula.Formula.{test, len, count, neg, and, or, then}
+use Rattle.formulas.specs.Arena.{flat}
+use Rattle.formulas.specs.Raw.{rawP, raw}
+use Rattle.tables.specs.Table.{Equation, equationLimit}
+use Rattle.agreement.specs.Scheme.{_⊕_, equation}
+use Rattle.agreement.specs.Emit.{after, emitP, emit, names, flowIn, signals, header, whole-es, body, observer}
+use Rattle.agreement.proofs.Header.{signals-length}
+
+module _ (flowOf : ℕ → ℕ) where
+  -- One equation for each record of a proposition but a signal's.
+  prop-size : (p : Prop) (o : ℕ) → 4 * length (emitP flowOf p o .es) ≤ length (flat (rawP p))
+  prop-size (constant c) o = omega arith
+  prop-size (signal j) o = omega arith
+  prop-size (negP p) o = simp length-append (omega (arith, prop-size p o))
+  prop-size (andP p q) o =
+      simp length-append (omega (arith, prop-size p o, prop-size q (after o (emitP flowOf p o .es))))
+  prop-size (orP p q) o =
+      simp length-append (omega (arith, prop-size p o, prop-size q (after o (emitP flowOf p o .es))))
+
+  size : (f : Formula) (s n o : ℕ) → 4 * length (emit flowOf f s n o .es) ≤ 5 * length (flat (raw f))
+  size (test begin p) s n o = simp length-append (omega (arith, prop-size p o))
+  size (test end p) s n o = simp length-append (omega (arith, prop-size p o))
+  size (test point p) s n o = simp length-append (omega (arith, prop-size p o))
+  size (test held p) s n o = simp length-append (omega (arith, prop-size p o))
+  size (test kept p) s n o = simp length-append (omega (arith, prop-size p o))
+  size (len op x) s n o = omega arith
+  size (count sum p op x) s n o = simp length-append (omega (arith, prop-size p o))
+  size (count age p op x) s n o = simp length-append (omega (arith, prop-size p o))
+  size (neg f) s n o = simp length-append (omega (arith, size f s n o))
+  size (and f g) s n o =
+      simp length-append (omega (arith, size f s n o, size g s n (after o (emit flowOf f s n o .es))))
+  size (or f g) s n o =
+      simp length-append (omega (arith, size f s n o, size g s n (after o (emit flowOf f s n o .es))))
+  size (then l f) s n o =
+      let o′ : ℕ = after o (emit flowOf l s n o .es) in
+      simp length-append (omega (arith, size l s n o, size f (o′ ⊕ 3) (o′ ⊕ 4) (o′ ⊕ 5)))
+
+-- The header of an observer, and its three parts together.
+header-size : (named : ℕ → Bool) (m : ℕ) → length (equation 1 0 0 0 ∷ equation 3 0 0 0 ∷ signals named 0 m) ≤ m + 2
+header-size named m = omega (arith, signals-length named m 0)
+
+three-size : (xs ys zs : List Equation) (a b c : ℕ) → length xs ≤ a → length ys ≤ b → length zs ≤ c
+    → length (xs ++ (ys ++ zs)) ≤ a + b + c
+three-size xs ys zs a b c p q r = simp length-append (omega arith)
+
+body-size : (k m : ℕ) → 4 * k ≤ 5 * m → m ≤ 1920 → k ≤ 2400
+body-size k m g h = omega arith
+
+pub observer-size : (f : Formula) → length (flat (raw f)) ≤ 1920 → length (observer f) ≤ equationLimit
+observer-size f h =
+    let o : ℕ = after 0 (header (names f)) in
+    let few = body-size (length (body f .es)) (length (flat (raw f))) (size (flowIn (names f)) f 0 1 o) h in
+    let all = three-size (header (names f)) (body f .es) (whole-es 0 (after o (body f .es)) (body f .out)) 66 2400 4
+    (header-size (names f) 64) few (omega arith) in
+    le-trans all (omega arith)

@@ -1,0 +1,55 @@
+-- Demand 3, on the definitions: the observer of a formula answers, over every list of calls from the fresh state,
+-- refused ones included, with the formula's interval meaning. Assumes nothing.
+use mathlib.Core.Bool.{true}
+use mathlib.Core.List.{List, _++_}
+use mathlib.Core.Path.{_≡_, ap}
+use Prim.Native.Nat.{ℕ, _≤_, _<_}
+use native.Mathlib.Omega.{arith}
+use lib.ListN.{length}
+use Rattle.formulas.specs.Formula.{Formula}
+use Rattle.formulas.specs.Tree.{nodes, leads}
+use Rattle.formulas.specs.Bounds.{bounded}
+use Rattle.formulas.specs.Arena.{flat}
+use Rattle.formulas.specs.Raw.{raw}
+use Rattle.tables.specs.Table.{equationLimit, signalCount, checked}
+use Rattle.tables.specs.Step.{AfterFresh}
+use Rattle.tables.specs.declared.Checked.the-variants.{Passed}
+use Rattle.agreement.specs.Emit.{names, observer, numbersOf}
+use Rattle.agreement.specs.Agreement.{Observes}
+use Rattle.agreement.proofs.Header.{names-below}
+use Rattle.agreement.proofs.Sizes.{observer-size}
+use Rattle.agreement.proofs.Memories.{memories-few}
+use Rattle.agreement.proofs.Answers.{made, passes, answered}
+
+-- For every cap up to a million, every formula f whose `then`s have leads on their left, whose signals, parameters and
+-- literals are in range, and whose tree has no more records than reading makes, and whatever numbers stand after its
+-- observer in the table: the observer observes f.
+pub observes : (cap : ℕ) → cap ≤ 1000000 → (f : Formula) → leads (raw f) ≡ true → bounded cap (raw f) ≡ true
+    → length (flat (raw f)) ≤ 1920 → (junk : List ℕ)
+    → Observes cap (numbersOf (observer f) ++ junk) (length (observer f)) f (nodes (raw f))
+observes cap low f led bound size junk =
+    record {
+      formed = formed;
+      fresh = λ old room. ap (λ (y : AfterFresh). y .answer) (made t n old formed room);
+      agrees = answered cap low 64 few f led bound below junk short;
+      few = memories-few f junk;
+    }
+  where
+    t : List ℕ
+    t = numbersOf (observer f) ++ junk
+
+    n : ℕ
+    n = length (observer f)
+
+    few : 64 ≤ signalCount
+    few = omega arith
+
+    -- The formula names signals 0 to 63 only.
+    below : (j : ℕ) → names f j ≡ true → j < 64
+    below j e = names-below cap j f bound e
+
+    short : n ≤ equationLimit
+    short = observer-size f size
+
+    formed : checked t n ≡ Passed
+    formed = passes cap low 64 few f led bound below junk short

@@ -1,0 +1,104 @@
+-- The verdict of an observer is its formula's, at every tick: in any flows that satisfy its table's equations, on a
+-- trace whose parameters are the same at all ticks and below the cap. Assumes nothing.
+use mathlib.Core.Bool.{Bool, true, false, not, _||_}
+use mathlib.Core.List.{List, _++_}
+use mathlib.Core.Option.{Option}
+use mathlib.Core.Path.{_≡_, ap, _∙_}
+use Prim.Native.Nat.{ℕ, zero, suc, _<_}
+use lib.ListN.{length}
+use Rattle.traces.specs.Trace.{Trace, truth, signalAt, parameterAt, starts}
+use Rattle.formulas.specs.Formula.{Formula}
+use Rattle.formulas.specs.Meaning.{meaning, since, verdict}
+use Rattle.formulas.specs.Tree.{leads}
+use Rattle.formulas.specs.Bounds.{bounded}
+use Rattle.formulas.specs.Raw.{raw}
+use Rattle.tables.specs.Table.{kindOf, parameterCount}
+use Rattle.tables.specs.Lustre.{Lustre}
+use Rattle.agreement.specs.Scheme.{_⊕_}
+use Rattle.agreement.specs.Emit.{names, whole-es, numbersOf}
+use Rattle.agreement.proofs.Offsets.{zero-⊕}
+use Rattle.agreement.proofs.Places.{each-left, each-right}
+use Rattle.agreement.proofs.Parts.{headRows, flowAmong, bodyPlace, bodyBlock, wholePlace, wholeRows}
+use Rattle.agreement.proofs.Parts.{observerOver}
+use Rattle.agreement.proofs.Header.{signal-at}
+use Rattle.agreement.proofs.Local.{on, LocalAt, Stand, all-stand}
+use Rattle.agreement.proofs.Atoms.{Since}
+use Rattle.agreement.proofs.Nodes.{Agrees, agrees}
+use Rattle.agreement.proofs.Starts.{Never, Latest, latest-is}
+
+module _ (cap : ℕ) (trace : Trace) (flow : ℕ → ℕ → ℕ) where
+  -- ---- the closing rows
+
+  module _ (s o v : ℕ) (h : Stand cap trace flow o (whole-es s o v)) where
+    -- Started since the latest start,
+    started : (b d : ℕ) → Since (on flow s) b d → on flow (o ⊕ 1) (b ⊕ d) ≡ true
+    unfolding kindOf
+    started b zero begun = rw (h .1 .0 b, begun)
+    started b (suc d) begun = rw (h .1 .0 (suc (b ⊕ d)), begun .1, h .0 .1 (b ⊕ d), started b d (begun .0))
+
+    -- and not before any.
+    not-started : (e : ℕ) → Never (on flow s) e → on flow (o ⊕ 1) e ≡ false
+    unfolding kindOf
+    not-started zero never = rw (h .1 .0 0, never, h .0 .0)
+    not-started (suc e) never = rw (h .1 .0 (suc e), never .1, h .0 .1 e, not-started e (never .0))
+
+    shown : (e : ℕ) → on flow (o ⊕ 3) e ≡ not (on flow (o ⊕ 1) e) || on flow v e
+    unfolding kindOf
+    shown e = h .1 .1 .1 .0 e ∙ ap (λ (x : Bool). x || on flow v e) (h .1 .1 .0 e)
+
+    module _ (f : Formula) (begins : (k : ℕ) → on flow s k ≡ starts (trace k))
+        (agree : Agrees cap trace flow s v f) where
+      whole-is : (e : ℕ) → truth (on flow (o ⊕ 3) e) ≡ verdict trace f e
+      whole-is e = rw (shown e) (go (latest-is trace (on flow s) begins e))
+        where
+          go : {x : Option ℕ} → Latest (on flow s) e x
+              → truth (not (on flow (o ⊕ 1) e) || on flow v e) ≡ since trace (λ b. meaning trace f b e) x
+          go (Latest.never never) = rw (not-started e never)
+          go (Latest.since b d end begun) = rw (← end, started b d begun, agree b d begun)
+
+  -- ---- the observer
+
+  module _ (same : (i j : ℕ) → (trace i) .parameters ≡ (trace j) .parameters)
+      (small : (k j : ℕ) → j < parameterCount → parameterAt (trace k) j < cap)
+      (m : ℕ) (f : Formula) (led : leads (raw f) ≡ true) (bound : bounded cap (raw f) ≡ true)
+      (below : (j : ℕ) → names f j ≡ true → j < m) (junk : List ℕ)
+      (lustre : Lustre cap (numbersOf (observerOver m f) ++ junk) (length (observerOver m f)) trace flow) where
+    stand : Stand cap trace flow 0 (observerOver m f)
+    stand = all-stand cap trace flow (observerOver m f) junk lustre
+
+    head : Stand cap trace flow 0 (headRows (names f) m)
+    head = each-left (LocalAt cap trace flow) (headRows (names f) m) _ 0 stand
+
+    rest : Stand cap trace flow (bodyPlace m f) (bodyBlock m f .es ++ wholeRows m f)
+    rest = each-right (LocalAt cap trace flow) (headRows (names f) m) _ 0 stand
+
+    -- The flow of each named signal is the signal.
+    signals : (j : ℕ) → names f j ≡ true → (k : ℕ) → on flow (flowAmong (names f) m j) k ≡ signalAt (trace k) j
+    unfolding kindOf
+    signals j e k =
+        let e′ : names f (0 ⊕ j) ≡ true = rw zero-⊕ e in
+        rw zero-⊕ at (signal-at (names f) (LocalAt cap trace flow) m 0 2 j (head .1 .1) (below j e) e′ k)
+
+    begins : (k : ℕ) → on flow 0 k ≡ starts (trace k)
+    unfolding kindOf
+    begins k = head .0 k
+
+    negated : (k : ℕ) → on flow 1 k ≡ not (on flow 0 k)
+    unfolding kindOf
+    negated k = head .1 .0 k
+
+    body-agrees : Agrees cap trace flow 0 (bodyBlock m f .out) f
+    body-agrees =
+        agrees cap trace flow same small (flowAmong (names f) m) f 0 1 (bodyPlace m f) (record {
+          led = led;
+          bound = bound;
+          signals = signals;
+          negated = negated;
+          stands = each-left (LocalAt cap trace flow) (bodyBlock m f .es) (wholeRows m f) (bodyPlace m f) rest;
+        })
+
+    pub verdict-over : (e : ℕ) → truth (on flow (wholePlace m f ⊕ 3) e) ≡ verdict trace f e
+    verdict-over e =
+        whole-is 0 (wholePlace m f) (bodyBlock m f .out)
+        (each-right (LocalAt cap trace flow) (bodyBlock m f .es) (wholeRows m f) (bodyPlace m f) rest)
+        f begins body-agrees e

@@ -1,0 +1,47 @@
+-- Demand 3: the agreement of an observer's answers with the interval meaning, as one statement about a list of calls
+-- (document 01, "Interval meaning", last paragraph). Definitions only; the theorem is in proofs/Theorem.antt.
+use mathlib.Core.Bool.{cond}
+use mathlib.Core.List.{List, [], _∷_}
+use mathlib.Core.Path.{_≡_}
+use Prim.Native.Nat.{ℕ, zero, suc, _+_, _*_, _≤_}
+use lib.ListN.{length}
+use Rattle.traces.specs.declared.Tick.{Tick}
+use Rattle.traces.specs.Trace.{Trace, traceOf}
+use Rattle.formulas.specs.Formula.{Formula}
+use Rattle.formulas.specs.Meaning.{verdict}
+use Rattle.tables.specs.Table.{kindAt, checked}
+use Rattle.tables.specs.Flow.{isMemory}
+use Rattle.tables.specs.Step.{freshened}
+use Rattle.tables.specs.Run.{Call, answers, ticks, expected}
+use Rattle.tables.specs.declared.Checked.the-variants.{Passed}
+use Rattle.tables.specs.declared.Fresh.the-variants.{Made}
+
+-- "only the eight parameters are the same at all steps that are not refused"
+pub data SameParameters (ps : List ℕ) : List Tick → Type 0 where
+  none : SameParameters ps []
+  more : {k : Tick} {ks : List Tick} → k .parameters ≡ ps → SameParameters ps ks → SameParameters ps (k ∷ ks)
+
+-- The trace of the ticks; past the last one, which no verdict looks at, ticks with those parameters.
+abbrev pub traceOfTicks : List ℕ → List Tick → Trace
+traceOfTicks ps ks = traceOf (record { start = 0; signals = 0; parameters = ps }) ks
+
+-- "Memories are counted over the n equations": kinds 6 and 7.
+abbrev pub memories : List ℕ → ℕ → ℕ
+memories t zero = 0
+memories t (suc i) = cond (isMemory (kindAt t i)) (suc (memories t i)) (memories t i)
+
+-- The n equations of the table are an observer of the formula f, which has that many nodes.
+pub record Observes (cap : ℕ) (t : List ℕ) (n : ℕ) (f : Formula) (nodes : ℕ) : Type 0 where
+  -- "Making the fresh state refuses a compiled table by neither 10 nor 11"
+  pub formed : checked t n ≡ Passed
+  pub fresh : (old : List ℕ) → n ≤ length old → freshened t n old .answer ≡ Made
+  -- "At every tick of the list the step's verdict is 1 if the rule holds on b to e and 0 if it doesn't; before the
+  -- first start it is 1. This is a single statement about the list": from the fresh state over any old cells, every
+  -- list of calls, refused ones included, is answered as `expected`, where "the calls alone decide which steps are
+  -- refused".
+  pub agrees : (old : List ℕ) → n ≤ length old → (ps : List ℕ) (calls : List Call)
+      → SameParameters ps (ticks cap n calls)
+      → answers cap t n (freshened t n old .state) calls
+      ≡ expected cap n (verdict (traceOfTicks ps (ticks cap n calls)) f) 0 calls
+  -- "The number of memories in the table is at most two for each node that reading the rule counts and one more"
+  pub few : memories t n ≤ 2 * nodes + 1

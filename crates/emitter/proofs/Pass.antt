@@ -1,0 +1,167 @@
+-- The pass over a formula's records writes the formula's equations: all induction on formulas, in two lemmas whose
+-- clauses compute. Assumes nothing.
+use mathlib.Core.List.{List, _∷_, _++_, append-assoc}
+use mathlib.Core.Path.{_≡_, refl, ap, _∙_}
+use Prim.Native.Nat.{ℕ, _+_}
+use lib.ListN.{getD}
+use Rattle.traces.specs.Compare.{Op, opNumber}
+use Rattle.formulas.specs.Formula.{Num, Prop, Test, Count, Formula}
+use Rattle.formulas.specs.Formula.Prop.{constant, signal, negP, andP, orP}
+use Rattle.formulas.specs.Formula.Test.{begin, end, point, held, kept}
+use Rattle.formulas.specs.Formula.Count.{sum, age}
+use Rattle.formulas.specs.Formula.Formula.{test, len, count, neg, and, or, then}
+use Rattle.formulas.specs.Arena.{NOT, AND, OR, TEST, COUNT, LEAD-END, THEN, testNumber, countNumber, numKind, numValue}
+use Rattle.formulas.specs.Arena.{row, flat}
+use Rattle.formulas.proofs.Formulas.{rawP, raw}
+use Rattle.tables.specs.Table.{Equation}
+use Rattle.agreement.specs.Scheme.{_⊕_}
+use Rattle.agreement.specs.Emit.{Block, after, emitP, emit, not-block, join-block, atom-block, not-es, and-es, or-es}
+use Rattle.agreement.specs.Emit.{begin-es, point-es, held-es, kept-es, sum-es, age-es, lead-end-es, then-es}
+use Rattle.emitter.specs.Machine.{written, nodes, nodeOf, State, state, before, recordOf}
+use Rattle.emitter.specs.Machine.{valuesAt, applied, step, run}
+use Rattle.emitter.proofs.Written.{written-none, written-append, after-append}
+
+-- ---- blocks of equations in a state
+
+-- Equations written at the next place, with another start and another stack.
+abbrev all : State → List Equation → ℕ → List ℕ → State
+all s es n st = state (written (s .table) (s .next) es) (after (s .next) es) n st
+
+-- A block's equations written at the next place, its result on the stack.
+abbrev pub done : Block → State → State
+done x s = all s (x .es) (s .idle) (x .out ∷ s .stack)
+
+-- Equations after equations.
+joined : (s : State) (xs ys : List Equation) (m n : ℕ) (u st : List ℕ) →
+    all (all s xs m u) ys n st ≡ all s (xs ++ ys) n st
+joined s xs ys m n u st = rw (written-append xs ys (s .table) (s .next), after-append xs ys (s .next))
+
+module _ (places : List ℕ) where
+  abbrev flowOf : ℕ → ℕ
+  flowOf j = getD places j 0
+
+  -- The records l have the effect of the block x, whatever records follow.
+  abbrev Runs : List ℕ → (State → Block) → Type 0
+  Runs l x = (r : List ℕ) (s : State) → run places (l ++ r) s ≡ run places r (done (x s) s)
+
+  -- A record after those of one block,
+  one : (l : List ℕ) (x : State → Block) → Runs l x → (k a b c : ℕ) (r : List ℕ) (s : State) →
+      run places ((l ++ row k a b c) ++ r) s ≡ run places r (step places (recordOf k a b c) (done (x s) s))
+  unfolding run
+  one l x h k a b c r s = rw (append-assoc l (row k a b c) r) (h (row k a b c ++ r) s)
+
+  -- and after those of two.
+  two : (l m : List ℕ) (x y : State → Block) → Runs l x → Runs m y → (k a b c : ℕ) (r : List ℕ) (s : State) →
+      run places ((l ++ (m ++ row k a b c)) ++ r) s
+      ≡ run places r (step places (recordOf k a b c) (done (y (done (x s) s)) (done (x s) s)))
+  two l m x y g h k a b c r s =
+      rw (append-assoc l (m ++ row k a b c) r) (g ((m ++ row k a b c) ++ r) s)
+      ∙ one m y h k a b c r (done (x s) s)
+
+  -- The equations of `not` after its operand's, of `and` and `or` after theirs, an atom's after its proposition's.
+  not-done : (x : Block) (r : List ℕ) (s : State) →
+      run places r
+      (all (done x s) (not-es (after (s .next) (x .es)) (x .out)) (s .idle) (after (s .next) (x .es) ∷ s .stack))
+      ≡ run places r (done (not-block (s .next) x) s)
+  not-done x r s =
+      let o : ℕ = after (s .next) (x .es) in
+      ap (run places r)
+      (joined s (x .es) (not-es o (x .out)) (s .idle) (s .idle) (x .out ∷ s .stack) (o ∷ s .stack))
+
+  join-done : (join : ℕ → ℕ → ℕ → List Equation) (x y : Block) (r : List ℕ) (s : State) →
+      (let o : ℕ = after (after (s .next) (x .es)) (y .es) in
+      run places r (all (done y (done x s)) (join o (x .out) (y .out)) (s .idle) (o ∷ s .stack))
+      ≡ run places r (done (join-block join (s .next) x y) s))
+  join-done join x y r s =
+      let o : ℕ = after (after (s .next) (x .es)) (y .es) in
+      let st : List ℕ = x .out ∷ s .stack in
+      ap (run places r)
+      (joined (done x s) (y .es) (join o (x .out) (y .out)) (s .idle) (s .idle) (y .out ∷ st) (o ∷ s .stack)
+      ∙ joined s (x .es) (y .es ++ join o (x .out) (y .out)) (s .idle) (s .idle) st (o ∷ s .stack))
+
+  atom-done : (rest : ℕ → ℕ → List Equation) (k : ℕ) (x : Block) (r : List ℕ) (s : State) →
+      (let o : ℕ = after (s .next) (x .es) in
+      run places r (all (done x s) (rest o (x .out)) (s .idle) ((o ⊕ k) ∷ s .stack))
+      ≡ run places r (done (atom-block rest k (s .next) x) s))
+  atom-done rest k x r s =
+      let o : ℕ = after (s .next) (x .es) in
+      ap (run places r)
+      (joined s (x .es) (rest o (x .out)) (s .idle) (s .idle) (x .out ∷ s .stack) ((o ⊕ k) ∷ s .stack))
+
+  -- ---- propositions
+
+  abbrev blockP : Prop → State → Block
+  blockP p s = emitP flowOf p (s .next)
+
+  run-prop : (p : Prop) → Runs (flat (rawP p)) (blockP p)
+  unfolding nodes nodeOf valuesAt applied step run
+  run-prop (constant c) r s = refl
+  run-prop (signal j) r s = refl
+  run-prop (negP p) r s = one (flat (rawP p)) (blockP p) (run-prop p) NOT 0 0 0 r s ∙ not-done (blockP p s) r s
+  run-prop (andP p q) r s =
+      let x : Block = blockP p s in
+      two (flat (rawP p)) (flat (rawP q)) (blockP p) (blockP q) (run-prop p) (run-prop q) AND 0 0 0 r s
+      ∙ join-done and-es x (blockP q (done x s)) r s
+  run-prop (orP p q) r s =
+      let x : Block = blockP p s in
+      two (flat (rawP p)) (flat (rawP q)) (blockP p) (blockP q) (run-prop p) (run-prop q) OR 0 0 0 r s
+      ∙ join-done or-es x (blockP q (done x s)) r s
+
+  -- A test's record after its proposition's, and a count's.
+  abbrev of-test : (k : Test) (p : Prop) (r : List ℕ) (s : State) →
+      run places ((flat (rawP p) ++ row (TEST + testNumber k) 0 0 0) ++ r) s
+      ≡ run places r (step places (recordOf (TEST + testNumber k) 0 0 0) (done (blockP p s) s))
+  of-test k p = one (flat (rawP p)) (blockP p) (run-prop p) (TEST + testNumber k) 0 0 0
+
+  abbrev of-count : (k : Count) (p : Prop) (o : Op) (n : Num) (r : List ℕ) (s : State) →
+      run places ((flat (rawP p) ++ row (COUNT + countNumber k) (opNumber o) (numKind n) (numValue n)) ++ r) s
+      ≡ run places r
+      (step places (recordOf (COUNT + countNumber k) (opNumber o) (numKind n) (numValue n)) (done (blockP p s) s))
+  of-count k p o n =
+      one (flat (rawP p)) (blockP p) (run-prop p) (COUNT + countNumber k) (opNumber o) (numKind n) (numValue n)
+
+  -- ---- formulas: the start flow is the one before the negated one
+
+  abbrev pub block : Formula → State → Block
+  block f s = emit flowOf f (before (s .idle)) (s .idle) (s .next)
+
+  pub run-formula : (f : Formula) → Runs (flat (raw f)) (block f)
+  unfolding nodes nodeOf valuesAt applied step run
+  run-formula (test begin p) r s =
+      of-test begin p r s ∙ atom-done (begin-es (before (s .idle)) (s .idle)) 3 (blockP p s) r s
+  run-formula (test end p) r s =
+      let x : Block = blockP p s in
+      of-test end p r s ∙ ap (run places r) (rw (written-none (done x s .table) (done x s .next)))
+  run-formula (test point p) r s = of-test point p r s ∙ atom-done (point-es (before (s .idle))) 0 (blockP p s) r s
+  run-formula (test held p) r s =
+      of-test held p r s ∙ atom-done (held-es (before (s .idle)) (s .idle)) 3 (blockP p s) r s
+  run-formula (test kept p) r s = of-test kept p r s ∙ atom-done (kept-es (before (s .idle))) 1 (blockP p s) r s
+  run-formula (len o n) r s = refl
+  run-formula (count sum p o n) r s = of-count sum p o n r s ∙ atom-done (sum-es (s .idle) o n) 3 (blockP p s) r s
+  run-formula (count age p o n) r s = of-count age p o n r s ∙ atom-done (age-es (s .idle) o n) 4 (blockP p s) r s
+  run-formula (neg f) r s = one (flat (raw f)) (block f) (run-formula f) NOT 0 0 0 r s ∙ not-done (block f s) r s
+  run-formula (and f g) r s =
+      let x : Block = block f s in
+      two (flat (raw f)) (flat (raw g)) (block f) (block g) (run-formula f) (run-formula g) AND 0 0 0 r s
+      ∙ join-done and-es x (block g (done x s)) r s
+  run-formula (or f g) r s =
+      let x : Block = block f s in
+      two (flat (raw f)) (flat (raw g)) (block f) (block g) (run-formula f) (run-formula g) OR 0 0 0 r s
+      ∙ join-done or-es x (block g (done x s)) r s
+  -- s₁ is the state after the end of the lead: the second part's start, with the present one on the stack.
+  run-formula (then f g) r s =
+      let x : Block = block f s in
+      let o₁ : ℕ = after (s .next) (x .es) in
+      let end-es : List Equation = lead-end-es (s .idle) o₁ (x .out) in
+      let s₁ : State = all (done x s) end-es (o₁ ⊕ 4) (s .idle ∷ s .stack) in
+      let y : Block = block g s₁ in
+      let o₂ : ℕ = after (o₁ ⊕ 5) (y .es) in
+      let rest-es : List Equation = then-es (s .idle) o₂ (o₁ ⊕ 3) (y .out) in
+      let st : List ℕ = (o₂ ⊕ 3) ∷ s .stack in
+      let rest : List ℕ = row LEAD-END 0 0 0 ++ (flat (raw g) ++ row THEN 0 0 0) in
+      rw (append-assoc (flat (raw f)) rest r) (run-formula f (rest ++ r) s)
+      ∙ one (flat (raw g)) (block g) (run-formula g) THEN 0 0 0 r s₁
+      ∙ ap (run places r)
+      (joined s₁ (y .es) rest-es (o₁ ⊕ 4) (s .idle) (y .out ∷ s .idle ∷ s .stack) st
+      ∙ joined (done x s) end-es (y .es ++ rest-es) (o₁ ⊕ 4) (s .idle) (s .idle ∷ s .stack) st
+      ∙ joined s (x .es) (end-es ++ (y .es ++ rest-es)) (s .idle) (s .idle) (x .out ∷ s .stack) st)

@@ -1,0 +1,148 @@
+-- A loop over records of four numbers: what is left of them, and the invariants of `enter_all` and `mark_all`.
+-- Assumes nothing.
+use mathlib.Core.List.{List, [], _∷_}
+use mathlib.Core.Path.{_≡_, refl, sym, ap, _∙_}
+use Prim.Native.Nat.{ℕ, suc, _+_, _*_, _≤_, _<_}
+use native.Mathlib.Numerals.{add-one, add-two, add-three, add-four}
+use native.Mathlib.Omega.{arith}
+use borrow.Author.Tests.{ne-eqb}
+use lib.ListN.{getD, set, drop, length, length-drop}
+use lib.Seq.{drop-cons}
+use Rattle.formulas.specs.Arena.{SIGNAL}
+use Rattle.emitter.specs.Machine.{stackSize, widest, WHOLE, State, state, step, run, ran, stacked}
+use Rattle.emitter.specs.Machine.{recordOf, recordAt, marked, marks}
+use Rattle.emitter.specs.Contract.{Stepped, Ran, stateOf}
+use Rattle.emitter.specs.declared.Place.{Place}
+use Rattle.emitter.specs.declared.Record.{Record}
+
+-- What is left at i begins with a record.
+four : (l : List ℕ) (i : ℕ) → i + 4 ≤ length l →
+    drop i l ≡ getD l i 0 ∷ getD l (i + 1) 0 ∷ getD l (i + 2) 0 ∷ getD l (i + 3) 0 ∷ drop (i + 4) l
+four l i h =
+    let at-0 : i < length l = omega arith in
+    let at-1 : suc i < length l = omega arith in
+    let at-2 : suc (suc i) < length l = omega arith in
+    let at-3 : suc (suc (suc i)) < length l = omega arith in
+    rw (
+      add-one i,
+      add-two i,
+      add-three i,
+      add-four i,
+      drop-cons l i 0 at-0,
+      drop-cons l (suc i) 0 at-1,
+      drop-cons l (suc (suc i)) 0 at-2,
+      drop-cons l (suc (suc (suc i))) 0 at-3,
+    )
+
+short : (l : List ℕ) (i : ℕ) → length l < i + 4 → length (drop i l) < 4
+short l i h = rw (length-drop i l) (omega arith)
+
+-- ---- entering
+
+module _ (places : List ℕ) where
+  run-short : (l : List ℕ) (s : State) → length l < 4 → run places l s ≡ s
+  unfolding run
+  run-short [] s h = refl
+  run-short (k ∷ []) s h = refl
+  run-short (k ∷ a ∷ []) s h = refl
+  run-short (k ∷ a ∷ b ∷ []) s h = refl
+  run-short (k ∷ a ∷ b ∷ c ∷ l) s h = absurd (omega arith)
+
+  run-one : (l : List ℕ) (i : ℕ) (s : State) → i + 4 ≤ length l →
+      run places (drop i l) s ≡ run places (drop (i + 4) l) (step places (recordAt l i) s)
+  unfolding run
+  run-one l i s h = ap (λ (r : List ℕ). run places r s) (four l i h)
+
+-- The loop of `enter_all`: i numbers of the arena are passed, and what is left to do still gives the same.
+pub record Entering (arena places t₀ : List ℕ) (o : ℕ) (t stack : List ℕ) (m : Place) (i : ℕ) : Type 0 where
+  pub passed : i ≤ length arena
+  pub same : length t ≡ length t₀
+  pub room : length stack ≡ stackSize
+  pub left : run places (drop i arena) (stateOf t stack m) ≡ run places arena (state t₀ o 1 [])
+  pub near : 4 * m .next ≤ 4 * o + widest * i
+  pub low : 4 * m .height ≤ i
+
+pub entering-none : {arena places t : List ℕ} {o : ℕ} {stack : List ℕ} → length stack ≡ stackSize
+    → Entering arena places t o t stack (record { next = o; idle = 1; height = 0 }) 0
+unfolding stacked
+entering-none h =
+    record { passed = omega arith; same = refl; room = h; left = refl; near = omega arith; low = omega arith }
+
+-- One more record is entered.
+pub entering-one : {arena places t₀ : List ℕ} {o : ℕ} {t stack : List ℕ} {m : Place} {i : ℕ} {x : Record}
+    {t′ stack′ : List ℕ} {m′ : Place} → Entering arena places t₀ o t stack m i → i + 4 ≤ length arena
+    → x ≡ recordAt arena i → Stepped places x t stack m t′ stack′ m′ → length t′ ≡ length t
+    → length stack′ ≡ length stack → Entering arena places t₀ o t′ stack′ m′ (i + 4)
+entering-one {arena} {places} {t₀} {o} {t} {stack} {m} {i} {x} {t′} {stack′} {m′} e h e-x d e-t e-stack =
+    record {
+      passed = h;
+      same = e-t ∙ e .same;
+      room = e-stack ∙ e .room;
+      left =
+          ap (run places (drop (i + 4) arena)) (rw e-x at (d .stands))
+          ∙ sym (run-one places arena i (stateOf t stack m) h)
+          ∙ e .left;
+      near = omega arith;
+      low = omega arith;
+    }
+
+-- All are, and the whole rule's node.
+pub entering-all : {arena places t₀ : List ℕ} {o : ℕ} {t stack : List ℕ} {m : Place} {i : ℕ} {t′ stack′ : List ℕ}
+    {m′ : Place} → Entering arena places t₀ o t stack m i → length arena < i + 4
+    → Stepped places (recordOf WHOLE 0 0 0) t stack m t′ stack′ m′ → Ran arena places t₀ o t′ (m′ .next)
+entering-all {arena} {places} {t₀} {o} {t} {stack} {m} {i} {t′} {stack′} {m′} e h d =
+    let s : State = stateOf t stack m in
+    let done : s ≡ run places arena (state t₀ o 1 []) =
+    sym (run-short places (drop i arena) s (short arena i h)) ∙ e .left in
+    let all : stateOf t′ stack′ m′ ≡ ran arena places t₀ o =
+    d .stands ∙ ap (step places (recordOf WHOLE 0 0 0)) done in
+    record { written = ap (λ (s : State). s .table) all; many = ap (λ (s : State). s .next) all; few = omega arith }
+
+-- ---- marking
+
+marks-short : (l named : List ℕ) → length l < 4 → marks l named ≡ named
+unfolding marks
+marks-short [] named h = refl
+marks-short (k ∷ []) named h = refl
+marks-short (k ∷ a ∷ []) named h = refl
+marks-short (k ∷ a ∷ b ∷ []) named h = refl
+marks-short (k ∷ a ∷ b ∷ c ∷ l) named h = absurd (omega arith)
+
+marks-one : (l : List ℕ) (i : ℕ) (named : List ℕ) → i + 4 ≤ length l →
+    marks (drop i l) named ≡ marks (drop (i + 4) l) (marked (recordAt l i) named)
+unfolding marks
+marks-one l i named h = ap (λ (r : List ℕ). marks r named) (four l i h)
+
+-- The loop of `mark_all`: i numbers of the arena are passed.
+pub record Marking (arena named₀ named : List ℕ) (i : ℕ) : Type 0 where
+  pub passed : i ≤ length arena
+  pub same : length named ≡ length named₀
+  pub left : marks (drop i arena) named ≡ marks arena named₀
+
+pub marking-none : {arena named : List ℕ} → Marking arena named named 0
+marking-none = record { passed = omega arith; same = refl; left = refl }
+
+pub marking-one : {arena named₀ named : List ℕ} {i : ℕ} {x : Record} {named′ : List ℕ}
+    → Marking arena named₀ named i → i + 4 ≤ length arena → x ≡ recordAt arena i → named′ ≡ marked x named
+    → length named′ ≡ length named → Marking arena named₀ named′ (i + 4)
+marking-one {arena} {named₀} {named} {i} {x} {named′} e h e-x e-named long =
+    record {
+      passed = h;
+      same = long ∙ e .same;
+      left = ap (marks (drop (i + 4) arena)) (rw e-x at e-named) ∙ sym (marks-one arena i named h) ∙ e .left;
+    }
+
+pub marking-all : {arena named₀ named : List ℕ} {i : ℕ} → Marking arena named₀ named i → length arena < i + 4
+    → named ≡ marks arena named₀
+marking-all {arena} {named₀} {named} {i} e h =
+    sym (marks-short (drop i arena) named (short arena i h)) ∙ e .left
+
+-- One record: a signal's, and any other.
+pub marked-signal : (x : Record) (named : List ℕ) {named′ : List ℕ} → x .kind ≡ SIGNAL → named′ ≡ set named (x .a) 1
+    → named′ ≡ marked x named
+unfolding marked
+marked-signal x named e h = rw e h
+
+pub marked-other : (x : Record) (named : List ℕ) → (x .kind ≡ SIGNAL → ⊥) → named ≡ marked x named
+unfolding marked
+marked-other x named h = rw (ne-eqb (x .kind) SIGNAL h)

@@ -1,0 +1,120 @@
+-- Marks, header, records and the whole rule's node together are the observer's equations. Assumes nothing.
+use mathlib.Core.List.{List, [], _∷_, _++_, append-nil}
+use mathlib.Core.Path.{_≡_, refl, sym, ap, _∙_}
+use Prim.Native.Nat.{ℕ, _+_, _≤_, _<_}
+use native.Mathlib.Nat.{zero-add}
+use native.Mathlib.Omega.{arith}
+use lib.ListN.{getD, length, replicate}
+use Rattle.traces.specs.Trace.{nonzero}
+use Rattle.formulas.specs.Formula.{Formula}
+use Rattle.formulas.specs.Arena.{flat}
+use Rattle.formulas.proofs.Formulas.{raw}
+use Rattle.tables.specs.Table.{Equation, signalCount}
+use Rattle.agreement.specs.Scheme.{_⊕_}
+use Rattle.agreement.specs.Emit.{Block, after, emit, names, signals, places, whole-es}
+use Rattle.emitter.specs.Machine.{arenaLimit, WHOLE, written, nodes, nodeOf, State, state, recordOf, valuesAt}
+use Rattle.emitter.specs.Machine.{applied, step, run, ran, marks, Header, headerOf, settle, headed}
+use Rattle.emitter.specs.Contract.{Emitted, Ran, Headed}
+use Rattle.emitter.proofs.Written.{after-length, after-append, written-append}
+use Rattle.emitter.proofs.Header.{first-two, settle-is}
+use Rattle.emitter.proofs.Named.{named-long, named-at}
+use Rattle.emitter.proofs.Pass.{done, run-formula}
+
+-- ---- the header, of m signals
+
+header-is : (f : Formula) (m : ℕ) (t : List ℕ) →
+    settle m 0 (headerOf (written t 0 first-two) (marks (flat (raw f)) (replicate m 0)) 2)
+    ≡ headerOf (written t 0 (first-two ++ signals (names f) 0 m)) (places (names f) 0 2 m)
+    (after 2 (signals (names f) 0 m))
+header-is f m t =
+    let named : List ℕ = marks (flat (raw f)) (replicate m 0) in
+    let long : length named ≡ m = named-long f m in
+    let agree : (i : ℕ) → i < length named → names f (0 + i) ≡ nonzero (getD named i 0) =
+    λ i h. ap (names f) (zero-add i) ∙ named-at f m i (rw long at h) in
+    let all : settle (length named) 0 (headerOf (written t 0 first-two) named 2)
+    ≡ headerOf (written (written t 0 first-two) 2 (signals (names f) 0 (length named)))
+    (places (names f) 0 2 (length named)) (after 2 (signals (names f) 0 (length named))) =
+    settle-is (names f) named [] (written t 0 first-two) 2 0 refl agree in
+    rw (written-append first-two (signals (names f) 0 m) t 0) (rw long at all)
+
+-- ---- the records, and the whole rule's node
+
+ran-is : (f : Formula) (ps t : List ℕ) (o : ℕ) →
+    ran (flat (raw f)) ps t o
+    ≡ step ps (recordOf WHOLE 0 0 0) (done (emit (λ j. getD ps j 0) f 0 1 o) (state t o 1 []))
+unfolding run
+ran-is f ps t o =
+    ap (λ (l : List ℕ). ran l ps t o) (sym (append-nil (flat (raw f))))
+    ∙ ap (step ps (recordOf WHOLE 0 0 0)) (run-formula ps f [] (state t o 1 []))
+
+whole-is : (x : Block) (ps t : List ℕ) (o : ℕ) →
+    (let o′ : ℕ = after o (x .es) in
+    step ps (recordOf WHOLE 0 0 0) (done x (state t o 1 []))
+    ≡ state (written (written t o (x .es)) o′ (whole-es 0 o′ (x .out))) (after o′ (whole-es 0 o′ (x .out))) 1
+    ((o′ ⊕ 3) ∷ []))
+unfolding nodes nodeOf valuesAt applied step
+whole-is x ps t o = refl
+
+-- ---- what the three calls of `emit_observer` gave
+
+-- The table and the number of equations, of any number m of signals.
+module _ (f : Formula) (m : ℕ) (t : List ℕ) where
+  abbrev pub head : List Equation
+  head = first-two ++ signals (names f) 0 m
+
+  abbrev pub flows : List ℕ
+  flows = places (names f) 0 2 m
+
+  abbrev pub middle : Block
+  middle = emit (λ j. getD flows j 0) f 0 1 (after 0 head)
+
+  abbrev pub last : List Equation
+  last = whole-es 0 (after (after 0 head) (middle .es)) (middle .out)
+
+  abbrev pub whole : List Equation
+  whole = head ++ (middle .es ++ last)
+
+  unfoldable pub ends : State
+  ends = ran (flat (raw f)) flows (written t 0 head) (after 0 head)
+
+  ends-table : ends .table ≡ written t 0 whole
+  unfolding ends
+  ends-table =
+      ap (λ (s : State). s .table) (ran-is f flows (written t 0 head) (after 0 head))
+      ∙ ap (λ (s : State). s .table) (whole-is middle flows (written t 0 head) (after 0 head))
+      ∙ sym (written-append (middle .es) last (written t 0 head) (after 0 head))
+      ∙ sym (written-append head (middle .es ++ last) t 0)
+
+  pub ends-next : ends .next ≡ length whole
+  unfolding ends
+  ends-next =
+      ap (λ (s : State). s .next) (ran-is f flows (written t 0 head) (after 0 head))
+      ∙ ap (λ (s : State). s .next) (whole-is middle flows (written t 0 head) (after 0 head))
+      ∙ sym (after-append (middle .es) last (after 0 head))
+      ∙ sym (after-append head (middle .es ++ last) 0)
+      ∙ after-length whole 0
+      ∙ zero-add (length whole)
+
+pub emitted : {arena t named t₁ ps : List ℕ} {o : ℕ} {t₂ : List ℕ} {r : ℕ} → length arena ≤ arenaLimit
+    → named ≡ marks arena (replicate signalCount 0) → Headed t named t₁ ps o → Ran arena ps t₁ o t₂ r
+    → Emitted arena t t₂ r
+unfolding written ends
+emitted {arena} {t} {named} {t₁} {ps} {o} {t₂} {r} short e-named h g =
+    record {
+      many = λ f e. g .many ∙ ap (λ (s : State). s .next) (same f e) ∙ ends-next f signalCount t;
+      written = λ f e. g .written ∙ ap (λ (s : State). s .table) (same f e) ∙ ends-table f signalCount t;
+      few = omega arith;
+    }
+  where
+    same : (f : Formula) → arena ≡ flat (raw f) → ran arena ps t₁ o ≡ ends f signalCount t
+    same f e =
+        let front : headerOf t₁ ps o
+        ≡ headerOf (written t 0 (head f signalCount t)) (flows f signalCount t) (after 0 (head f signalCount t)) =
+        h .stands
+        ∙ ap (headed t) (e-named ∙ ap (λ (l : List ℕ). marks l (replicate signalCount 0)) e)
+        ∙ header-is f signalCount t in
+        ap (λ (y : Header). ran arena (y .places) (y .table) (y .next)) front
+        ∙ ap
+        (λ (l : List ℕ).
+        ran l (flows f signalCount t) (written t 0 (head f signalCount t)) (after 0 (head f signalCount t)))
+        e

@@ -1,0 +1,38 @@
+-- `emitter::operand` meets its contract.
+use borrow.Author.Needs.{needs}
+use mathlib.Core.Path.{_∙_}
+use Rattle.emitter.proofs.Stack.{operand-in, operand-out}
+use Rattle.emitter.proofs.operand.Statement.{statement}
+use Rattle.emitter.proofs.operand.Tie as tie
+
+returns : tie.Need-returns
+returns c =
+    let the-at = c .at in
+    let the-args = c .before .before .before .args in
+    let the-if1 = c .before .if1 in
+    the-at .ensures ∙ operand-in (the-args .stack .now) (the-args .height) (the-args .back) (the-if1 .taken)
+
+returns-2 : tie.Need-returns-2
+returns-2 c =
+    let the-args = c .before .before .args in
+    let the-if1 = c .if1 in
+    operand-out (the-args .stack .now) (the-args .height) (the-args .back) (the-if1 .left)
+
+sub-at : tie.Need-sub-at
+sub-at c = search needs
+
+sub-at-2 : tie.Need-sub-at-2
+sub-at-2 c = search needs
+
+at-requires : tie.Need-at-requires
+at-requires c κs = search needs
+
+pub operand-spec : {M : Type 1} → statement M
+operand-spec =
+    tie.close
+    (tie.spec
+    sub-at
+    sub-at-2
+    at-requires
+    returns
+    returns-2)

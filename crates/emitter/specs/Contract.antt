@@ -1,0 +1,56 @@
+-- What the contracts of the pass say. `Emitted` is the one that other crates cite. Definitions only.
+use mathlib.Core.List.{List, _∷_}
+use mathlib.Core.Path.{_≡_}
+use Prim.Native.Nat.{ℕ, _+_, _*_, _≤_, _<_}
+use lib.ListN.{length, drop}
+use lib.Seq.{sets}
+use Rattle.formulas.specs.Formula.{Formula}
+use Rattle.formulas.specs.Arena.{flat}
+use Rattle.formulas.specs.Raw.{raw}
+use Rattle.tables.specs.Table.{equationLimit, signalCount}
+use Rattle.agreement.specs.Emit.{observer, numbersOf}
+use Rattle.emitter.specs.Machine.{State, state, step, ran, stacked, widest, headerOf, headed}
+use Rattle.emitter.specs.declared.Place.{Place}
+use Rattle.emitter.specs.declared.Record.{Record}
+
+-- The records of the formula f gave its observer: r equations, from the front of the table on. A number past the
+-- table's end is dropped, and every number of the table after the equations is kept.
+pub record Emitted (arena t t′ : List ℕ) (r : ℕ) : Type 0 where
+  pub many : (f : Formula) → arena ≡ flat (raw f) → r ≡ length (observer f)
+  pub written : (f : Formula) → arena ≡ flat (raw f) → t′ ≡ sets t 0 (numbersOf (observer f))
+  -- "A table has 1 to 4,096 equations.": of any records.
+  pub few : r ≤ equationLimit
+
+-- ---- inside the pass
+
+-- There is room for one more node.
+pub record Room (m : Place) (stack : List ℕ) : Type 0 where
+  pub near : m .next ≤ equationLimit
+  pub low : m .height < length stack
+
+-- Where the pass stands, as the machine's state.
+abbrev pub stateOf : List ℕ → List ℕ → Place → State
+stateOf t stack m = state t (m .next) (m .idle) (stacked stack (m .height))
+
+-- Operands came off the stack, and v went on.
+pub record Pushed (stack : List ℕ) (height takes v : ℕ) (stack′ : List ℕ) (height′ : ℕ) : Type 0 where
+  pub holds : stacked stack′ height′ ≡ v ∷ drop takes (stacked stack height)
+  pub low : height′ ≤ height + 1
+
+-- One record was entered.
+pub record Stepped (places : List ℕ) (x : Record) (t stack : List ℕ) (m : Place) (t′ stack′ : List ℕ) (m′ : Place)
+    : Type 0 where
+  pub stands : stateOf t′ stack′ m′ ≡ step places x (stateOf t stack m)
+  pub near : m′ .next ≤ m .next + widest
+  pub low : m′ .height ≤ m .height + 1
+
+-- All records were entered, and the whole rule's node after them.
+pub record Ran (arena places t : List ℕ) (o : ℕ) (t′ : List ℕ) (r : ℕ) : Type 0 where
+  pub written : t′ ≡ ran arena places t o .table
+  pub many : r ≡ ran arena places t o .next
+  pub few : 4 * r ≤ 4 * o + widest * (length arena + 4)
+
+-- The header was written, and the marks gave way to the signals' places.
+pub record Headed (t named t′ named′ : List ℕ) (r : ℕ) : Type 0 where
+  pub stands : headerOf t′ named′ r ≡ headed t named
+  pub few : r ≤ 2 + signalCount

@@ -1,0 +1,131 @@
+-- Demand 3 from the text's bytes to the verdicts: the observer of a rule that is read observes its formula. Assumes nothing.
+use mathlib.Core.Bool.{Bool, true, cond}
+use mathlib.Core.List.{List, _++_}
+use mathlib.Core.Option.{Option, none, some}
+use mathlib.Core.Path.{_≡_, refl, sym, ap, ap₂, _∙_, subst, subst₂}
+use Prim.Native.Nat.{ℕ, _+_, _*_, _≤_, _<_}
+use native.Mathlib.Omega.{arith}
+use lib.Dec.{ltb}
+use lib.ListN.{length, drop, take}
+use lib.Seq.{sets, length-sets, drop-at}
+use borrow.Author.Tests.{lt-ltb, le-ltb}
+use Rattle.words.specs.Split.{splitOf}
+use Rattle.words.proofs.Bounds.{word-bound, words-few}
+use Rattle.formulas.specs.Formula.{Formula}
+use Rattle.formulas.specs.Tree.{Tree, nodes, leads, formulaOf}
+use Rattle.formulas.specs.Arena.{flat}
+use Rattle.formulas.specs.Bounds.{bounded}
+use Rattle.formulas.specs.Raw.{raw}
+use Rattle.formulas.proofs.Formulas.{formula-raw}
+use Rattle.grammar.proofs.Theorems.{rule-numbers, rule-size}
+use Rattle.tables.specs.Table.{Equation}
+use Rattle.tables.specs.Flow.{standardCap}
+use Rattle.agreement.specs.Emit.{observer, numbersOf}
+use Rattle.agreement.specs.Agreement.{Observes}
+use Rattle.agreement.proofs.Theorem.{observes}
+use Rattle.emitter.specs.Contract.{Emitted}
+use Rattle.emitter.proofs.Size.{observer-few, observer-front}
+use Rattle.emitter.proofs.Written.{numbers-length}
+use Rattle.rules.specs.Reading.{Outcome, ruleOf}
+use Rattle.rules.specs.Reading.Outcome.{refused, rule}
+use Rattle.rules.specs.Admitted.{Admitted}
+use Rattle.rules.proofs.Theorems.{accepted, has-formula}
+use Rattle.observers.specs.Compile.{AfterCompile, afterCompile, compiled, ofOutcome, observerOf, stored}
+use Rattle.observers.specs.Demand.{Compiles}
+use Rattle.observers.specs.Demand.Compiles.{not-read, no-room, observed}
+use Rattle.observers.specs.declared.Compiled.{Compiled}
+use Rattle.observers.specs.declared.Compiled.the-variants.{Equations, Refused}
+
+-- What is known of a rule that is read: its formula, and what the observer theorem asks of it.
+pub record Known (t : Tree) : Type 0 where
+  pub formula : Formula
+  pub is : formulaOf t ≡ some formula
+  pub tree : t ≡ raw formula
+  pub led : leads t ≡ true
+  pub bound : bounded 1000000 t ≡ true
+  pub small : length (flat t) ≤ 1920
+
+pub known : (text : List ℕ) (t : Tree) → ruleOf text ≡ rule t → Known t
+known text t e =
+    let a = accepted text t .0 e in
+    let f = has-formula text t e in
+    let few = words-few text (a .ws) (a .words) in
+    record {
+      formula = f .0;
+      is = f .1;
+      tree = formula-raw t (f .0) (f .1);
+      led = a .lead;
+      bound = rule-numbers (a .ws) t (a .grammar) (word-bound text (a .ws) (a .words));
+      small = omega (arith, rule-size (a .ws) t (a .grammar));
+    }
+
+module _ {t : Tree} (k : Known t) where
+  led-raw : leads (raw (k .formula)) ≡ true
+  led-raw = subst (λ (u : Tree). leads u ≡ true) (k .tree) (k .led)
+
+  bound-raw : bounded 1000000 (raw (k .formula)) ≡ true
+  bound-raw = subst (λ (u : Tree). bounded 1000000 u ≡ true) (k .tree) (k .bound)
+
+  pub small-raw : length (flat (raw (k .formula))) ≤ 1920
+  small-raw = subst (λ (u : Tree). length (flat u) ≤ 1920) (k .tree) (k .small)
+
+  -- Whatever stands after them, the observer's equations observe the formula.
+  pub observes-rule : (junk : List ℕ)
+      → Observes standardCap (numbersOf (observer (k .formula)) ++ junk) (length (observer (k .formula))) (k .formula) (nodes t)
+  observes-rule junk =
+      let f = k .formula in
+      subst (λ (u : Tree). Observes standardCap (numbersOf (observer f) ++ junk) (length (observer f)) f (nodes u)) (sym (k .tree))
+      (observes standardCap (omega arith) f led-raw bound-raw small-raw junk)
+
+-- ---- the effect of compiling
+
+module _ (text before : List ℕ) where
+  -- A text that is refused.
+  pub refused-compiled : (n : ℕ) → ruleOf text ≡ refused n → afterCompile (Refused n) before ≡ compiled text before
+  unfolding compiled
+  refused-compiled n e = sym (ap (λ (o : Outcome). ofOutcome o before) e)
+
+  module _ (t : Tree) (e : ruleOf text ≡ rule t) where
+    -- Too short a table.
+    pub short-compiled : length before < 16384 → afterCompile (Refused 9) before ≡ compiled text before
+    unfolding compiled
+    short-compiled h =
+        sym (ap (λ (o : Outcome). ofOutcome o before) e
+        ∙ ap (λ (b : Bool). cond b (afterCompile (Refused 9) before) (stored (observerOf (formulaOf t)) before)) (lt-ltb _ _ h))
+
+    -- Long enough a table, with the observer es of the formula f at its front.
+    module _ (f : Formula) (is : formulaOf t ≡ some f) (room : 16384 ≤ length before) where
+      pub room-compiled : (es : List Equation) → observer f ≡ es → stored es before ≡ compiled text before
+      unfolding compiled
+      room-compiled es same =
+          ap (λ (x : List Equation). stored x before) (sym same)
+          ∙ sym (ap (λ (o : Outcome). ofOutcome o before) e
+          ∙ ap (λ (b : Bool). cond b (afterCompile (Refused 9) before) (stored (observerOf (formulaOf t)) before)) (le-ltb _ _ room)
+          ∙ ap (λ (x : Option Formula). stored (observerOf x) before) is)
+
+      pub room-compiles : (es : List Equation) → sets before 0 (numbersOf es) ≡ numbersOf es ++ drop (4 * length es) before
+          → Observes standardCap (numbersOf es ++ drop (4 * length es) before) (length es) f (nodes t)
+          → Compiles text before (Equations (length es)) (sets before 0 (numbersOf es))
+      room-compiles es front h =
+          observed {n = length es} {after = sets before 0 (numbersOf es)} {t = t} {f = f} e is room
+          (length-sets before 0 (numbersOf es))
+          (ap (drop (4 * length es)) front
+          ∙ drop-at (numbersOf es) (drop (4 * length es) before) (4 * length es) (numbers-length es))
+          (subst (λ (l : List ℕ). Observes standardCap l (length es) f (nodes t)) (sym front) h)
+
+-- What the pass over the tree's records left is what compiling is to leave.
+pub emitted-rule : (text before : List ℕ) (t : Tree) → ruleOf text ≡ rule t → 16384 ≤ length before
+    → (arena : List ℕ) (r : ℕ) (after : List ℕ) → arena ≡ flat t → Emitted arena before after r
+    → (afterCompile (Equations r) after ≡ compiled text before) × Compiles text before (Equations r) after
+emitted-rule text before t e room arena r after same h =
+    let k = known text t e in
+    let f = k .formula in
+    let records : arena ≡ flat (raw f) = same ∙ ap flat (k .tree) in
+    let many = h .many f records in
+    let written = h .written f records in (
+      ap₂ (λ (n : ℕ) (l : List ℕ). afterCompile (Equations n) l) many written
+          ∙ room-compiled text before t e f (k .is) room (observer f) refl,
+      subst₂ (λ (n : ℕ) (l : List ℕ). Compiles text before (Equations n) l) (sym many) (sym written)
+          (room-compiles text before t e f (k .is) room (observer f)
+          (observer-front f before (observer-few f (small-raw k)) room) (observes-rule k (drop (4 * length (observer f)) before))),
+    )

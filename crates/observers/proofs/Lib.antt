@@ -1,0 +1,2 @@
+-- Demand 3 from the text on, and what follows from it.
+pub mod Demand

@@ -1,0 +1,54 @@
+-- What compiling a text does (document 01: "Compile a text. 1 to 8 as above; 9: the lent table has under 16,384 numbers.").
+-- Which table it makes is free in document 01; here it is the observer of crates/agreement/specs/Emit.antt.
+-- Definitions only.
+use mathlib.Core.Bool.{cond}
+use mathlib.Core.List.{List, []}
+use mathlib.Core.Option.{Option, none, some}
+use Prim.Native.Nat.{ℕ}
+use lib.Dec.{ltb}
+use lib.ListN.{length}
+use lib.Seq.{sets}
+use Rattle.formulas.specs.Formula.{Formula}
+use Rattle.formulas.specs.Tree.{Tree, formulaOf}
+use Rattle.tables.specs.Table.{Equation}
+use Rattle.agreement.specs.Emit.{observer, numbersOf}
+use Rattle.rules.specs.Reading.{Outcome, ruleOf}
+use Rattle.rules.specs.Reading.Outcome.{refused, rule}
+use Rattle.observers.specs.declared.Compiled.{Compiled}
+use Rattle.observers.specs.declared.Compiled.the-variants.{Equations, Refused}
+
+-- What compiling answers, and the table that it leaves.
+pub record AfterCompile : Type 0 where
+  pub answer : Compiled
+  pub table : List ℕ
+
+abbrev pub afterCompile : Compiled → List ℕ → AfterCompile
+afterCompile r table = record { answer = r; table = table }
+
+-- The observer of a formula; a tree that is read has one.
+abbrev pub observerOf : Option Formula → List Equation
+observerOf none = []
+observerOf (some f) = observer f
+
+-- The equations at the front of the table, the rest kept.
+abbrev pub stored : List Equation → List ℕ → AfterCompile
+stored es table = afterCompile (Equations (length es)) (sets table 0 (numbersOf es))
+
+-- "A refusal .. changes no lent memory. The first that applies counts."
+abbrev pub ofOutcome : Outcome → List ℕ → AfterCompile
+ofOutcome (refused n) table = afterCompile (Refused n) table
+ofOutcome (rule t) table =
+    cond (ltb (length table) 16384) (afterCompile (Refused 9) table) (stored (observerOf (formulaOf t)) table)
+
+-- The whole effect of compiling a text into a lent table.
+unfoldable pub compiled : List ℕ → List ℕ → AfterCompile
+compiled text table = ofOutcome (ruleOf text) table
+
+-- Document 01's numbers for an answer: "compiling .. gives n", "A refusal gives its number and no other result".
+abbrev pub refusalOf : Compiled → ℕ
+refusalOf (Equations n) = 0
+refusalOf (Refused k) = k
+
+abbrev pub resultOf : Compiled → ℕ
+resultOf (Equations n) = n
+resultOf (Refused k) = 0

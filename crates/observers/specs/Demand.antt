@@ -1,0 +1,28 @@
+-- Demand 3 of a text, the table and n that compiling it gave: "For every rule that is read and compiled, and for every list
+-- of steps on its table from the fresh state, refused ones included, the number of ticks at which the step's verdict and
+-- document 01's interval meaning disagree is nought". `Observes` (crates/agreement/specs/Agreement.antt) is the statement
+-- about the list of steps. Definitions only.
+use mathlib.Core.List.{List}
+use mathlib.Core.Option.{some}
+use mathlib.Core.Path.{_≡_}
+use Prim.Native.Nat.{ℕ, _*_, _≤_, _<_}
+use lib.ListN.{length, drop}
+use Rattle.formulas.specs.Formula.{Formula}
+use Rattle.formulas.specs.Tree.{Tree, nodes, formulaOf}
+use Rattle.tables.specs.Flow.{standardCap}
+use Rattle.agreement.specs.Agreement.{Observes}
+use Rattle.rules.specs.Reading.{ruleOf}
+use Rattle.rules.specs.Reading.Outcome.{refused, rule}
+use Rattle.observers.specs.declared.Compiled.{Compiled}
+use Rattle.observers.specs.declared.Compiled.the-variants.{Equations, Refused}
+
+-- Compiling a text into a table: the answer, and the table before and after. It says nothing of how equations are chosen.
+pub data Compiles (text before : List ℕ) : Compiled → List ℕ → Type 0 where
+  -- "1 to 8 as above", the table unchanged
+  not-read : {k : ℕ} → ruleOf text ≡ refused k → Compiles text before (Refused k) before
+  -- "9: the lent table has under 16,384 numbers", the table unchanged
+  no-room : {t : Tree} → ruleOf text ≡ rule t → length before < 16384 → Compiles text before (Refused 9) before
+  -- Else the table's n equations observe the rule's formula, and all numbers after them are kept.
+  observed : {n : ℕ} {after : List ℕ} {t : Tree} {f : Formula} → ruleOf text ≡ rule t → formulaOf t ≡ some f
+      → 16384 ≤ length before → length after ≡ length before → drop (4 * n) after ≡ drop (4 * n) before
+      → Observes standardCap after n f (nodes t) → Compiles text before (Equations n) after
