@@ -1,2 +1,3 @@
 -- Demand 3 from the text on, and what follows from it.
 pub mod Demand
+pub mod Runs
