@@ -1,9 +1,20 @@
 -- The answers of the exported functions, as C gets them. Definitions only.
 use mathlib.Core.List.{List}
-use Prim.Native.Nat.{ℕ}
+use mathlib.Core.Path.{_≡_}
+use Prim.Native.Nat.{ℕ, _≤_}
 use Rattle.traces.specs.declared.Tick.{Tick}
 use Rattle.tables.specs.Step as step
 use Rattle.tables.specs.Step.{After, AfterFresh, freshened, stepped, freshAnswer, steppedAnswer}
+use Rattle.rules.specs.declared.Answer as rules
+use Rattle.rules.specs.declared.Same.{Same}
+use Rattle.rules.specs.Answer as read
+use Rattle.rules.specs.Same as same
+use Rattle.rules.specs.Same.{Compared}
+use Rattle.rules.specs.Reading.{ruleOf}
+use Rattle.observers.specs.declared.Compiled.{Compiled}
+use Rattle.observers.specs.declared.Compiled.the-variants.{Equations, Refused}
+use Rattle.observers.specs.Compile as compile-specs
+use Rattle.observers.specs.Compile.{AfterCompile}
 use Rattle.firmware.specs.declared.Answer.{Answer}
 
 -- "A refusal gives its number and no other result (0 elsewhere)."
@@ -14,13 +25,13 @@ answer x = record { refusal = x .refusal; result = x .result }
 abbrev pub tickOf : ℕ → ℕ → List ℕ → Tick
 tickOf s g ps = record { start = s; signals = g; parameters = ps }
 
--- What a call leaves: its answer and the state, and of a step the values too.
+-- What a call leaves: its answer and the buffer that it was lent for writing; of a step the state and the values.
 pub record Left : Type 0 where
   pub answer : Answer
-  pub state : List ℕ
+  pub buffer : List ℕ
 
 abbrev pub left : Answer → List ℕ → Left
-left r state = record { answer = r; state = state }
+left r buffer = record { answer = r; buffer = buffer }
 
 abbrev pub fresh : AfterFresh → Left
 fresh x = left (answer (freshAnswer (x .answer))) (x .state)
@@ -35,3 +46,27 @@ leftValues r state values = record { answer = r; state = state; values = values 
 
 abbrev pub tick : After → LeftValues
 tick x = leftValues (answer (steppedAnswer (x .answer))) (x .state) (x .values)
+
+-- The answers of reading, compiling and comparing rules, by the definitions that give document 01's numbers.
+abbrev pub readAnswer : rules.Answer → Answer
+readAnswer x = record { refusal = read.refusalOf x; result = read.resultOf x }
+
+abbrev pub compiledAnswer : Compiled → Answer
+compiledAnswer x = record { refusal = compile-specs.refusalOf x; result = compile-specs.resultOf x }
+
+abbrev pub compile : AfterCompile → Left
+compile x = left (compiledAnswer (x .answer)) (x .table)
+
+abbrev pub sameAnswer : Same → Answer
+sameAnswer x = record { refusal = same.refusalOf x; result = same.resultOf x }
+
+-- The answer of the comparison that document 01 has for the two texts.
+pub record SameTold (first second : List ℕ) (r : Answer) : Type 0 where
+  pub told : Same
+  pub compared : Compared (ruleOf first) (ruleOf second) told
+  pub answer : r ≡ sameAnswer told
+
+-- A number of equations that C's answer has room for.
+abbrev pub small : Compiled → Type 0
+small (Equations n) = n ≤ 4096
+small (Refused k) = Unit {0}

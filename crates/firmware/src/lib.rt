@@ -1,11 +1,19 @@
 // The functions that C calls: thin over the proved operations, on slices and numbers (include/towerwatch.h).
+use observers::Compiled;
+use rules::Same;
 use tables::Fresh;
 use tables::Stepped;
 use traces::Tick;
 ghost use mathlib.Core.Path.{_≡_};
 ghost use Rattle.tables.specs.Flow.{standardCap};
 ghost use Rattle.tables.specs.Step.{freshened, stepped, freshAnswer, steppedAnswer};
+ghost use Rattle.rules.specs.Reading.{ruleOf};
+ghost use Rattle.rules.specs.Answer.{answerOf};
+ghost use Rattle.observers.specs.Compile.{compiled};
 ghost use Rattle.firmware.specs.Face.{answer, tickOf, left, fresh, leftValues, tick};
+ghost use Rattle.firmware.specs.Face.{readAnswer, sameAnswer, compiledAnswer, compile, SameTold};
+ghost use Prim.Native.Nat.{_≤_};
+ghost use Rattle.firmware.specs.Face.{small};
 
 // An answer as C gets it: the refusal's number, 0 for none, and the result, 0 where there is none.
 #[repr(C)]
@@ -76,4 +84,81 @@ pub extern "C" fn towerwatch_step(
         parameters,
     };
     step_answer(tables::step(table, n, state, values, now))
+}
+
+// The answer of reading a rule.
+fn read_answer(a: rules::Answer) -> Answer
+    ensures { λ r. ⌜ r ≡ readAnswer a ⌝ }
+{
+    match a {
+        rules::Answer::Rule(nodes) => Answer {
+            refusal: 0,
+            result: nodes,
+        },
+        rules::Answer::Refused(number) => Answer {
+            refusal: number,
+            result: 0,
+        },
+    }
+}
+
+// The answer of compiling.
+fn compiled_answer(c: Compiled) -> Answer
+    requires { ⌜ small c ⌝ }
+    ensures { λ r. ⌜ r ≡ compiledAnswer c ⌝ }
+{
+    match c {
+        Compiled::Equations(n) => Answer {
+            refusal: 0,
+            result: n as u32,
+        },
+        Compiled::Refused(number) => Answer {
+            refusal: number,
+            result: 0,
+        },
+    }
+}
+
+// The answer of comparing two rules.
+fn same_answer(s: Same) -> Answer
+    ensures { λ r. ⌜ r ≡ sameAnswer s ⌝ }
+{
+    match s {
+        Same::Yes => Answer {
+            refusal: 0,
+            result: 1,
+        },
+        Same::No => Answer {
+            refusal: 0,
+            result: 0,
+        },
+        Same::Refused(number) => Answer {
+            refusal: number,
+            result: 0,
+        },
+    }
+}
+
+// Read a rule: its node count.
+#[no_mangle]
+pub extern "C" fn towerwatch_read_rule(text: &[u8]) -> Answer
+    ensures { λ r. ⌜ r ≡ readAnswer (answerOf (ruleOf (now (text .entry)))) ⌝ }
+{
+    read_answer(rules::read_rule(text))
+}
+
+// Compile a rule into a table: how many equations.
+#[no_mangle]
+pub extern "C" fn towerwatch_compile(text: &[u8], table: &mut [u32]) -> Answer
+    ensures { λ r. ⌜ left r (now (table .exit)) ≡ compile (compiled (now (text .entry)) (now (table .entry))) ⌝ }
+{
+    compiled_answer(observers::compile_rule(text, table))
+}
+
+// Same rule, two texts: 1 for yes, 0 for no.
+#[no_mangle]
+pub extern "C" fn towerwatch_same_rule(first: &[u8], second: &[u8]) -> Answer
+    ensures { λ r. ⌜ SameTold (now (first .entry)) (now (second .entry)) r ⌝ }
+{
+    same_answer(rules::same_rule(first, second))
 }
