@@ -1,0 +1,315 @@
+-- The forms and the equations: each form is the text of the equations that fit it, every equation of a well-formed
+-- table has a form, and two equations with the same text are the same. Assumes nothing.
+use mathlib.Core.Path.{_≡_, refl, _∙_, sym, ap, subst}
+use mathlib.Core.Logic.{⊎-elim}
+use mathlib.Core.Bool.{Bool, true, false, cond, _&&_}
+use mathlib.Core.List.{List, [], _∷_, _++_, append-assoc}
+use Prim.Native.Nat.{ℕ, zero, suc, _+_, _*_, _≤_, _<_}
+use native.Mathlib.Omega.{arith}
+use native.Mathlib.Nat.{eq-or-lt-of-le}
+use native.Mathlib.Decide.{ℕ-discrete, decLt}
+use lib.Dec.{ltb, leb, eqb}
+use lib.ListN.{length, getD, take}
+use borrow.Author.Tests.{ltb-true, leb-true, eqb-true, ne-eqb}
+use Rattle.lists.specs.Text.{bytes}
+use Rattle.traces.specs.Trace.{nonzero}
+use Rattle.tables.specs.Table.{all, Equation, kinds, kindOf, shapeOf, isFlow, operandFits, shapeFits, equationLimit}
+use Rattle.tables.specs.declared.Shape.{Shape}
+use Rattle.tables.specs.declared.Operand.{Operand}
+use Rattle.tables.specs.declared.Operand.the-variants.{Unused, Earlier, Anywhere, Below}
+use Rattle.tables.proofs.Tests.{and-true, all-at}
+use Rattle.tables.proofs.Numbers.{kind-beyond}
+use Rattle.lustre.specs.Text.{valueText, lineEnd}
+use Rattle.lustre.specs.Form.{equation, equationOf, Letter, isA, isB, isC, slot, render, absent, Agree, digitLimit}
+use Rattle.lustre.specs.Form.{Small, padded, formWidth, forms, formCount, formAt, formText, Fits, formNumber}
+use Rattle.lustre.specs.Form.{formOf, Plain}
+use Rattle.lustre.specs.Inner.{scanned, scan}
+use Rattle.lustre.specs.declared.Form.{Form}
+use Rattle.lustre.specs.declared.Numbers.{Numbers}
+use Rattle.lustre.proofs.Scans.{closed, once, small, scans, apart, never}
+
+-- A fact for each number from i up to n, as a list of proofs.
+data Each (P : ℕ → Type 0) (n : ℕ) : ℕ → Type 0 where
+  end : Each P n n
+  _also_ : {i : ℕ} → P i → Each P n (suc i) → Each P n i
+
+infixr 40 _also_
+each : {P : ℕ → Type 0} {n i : ℕ} → Each P n i → (x : ℕ) → i ≤ x → x < n → P x
+each end x h g = absurd (omega arith)
+each {P} (p also w) x h g = ⊎-elim (λ q. subst P q p) (λ q. each w x q g) (eq-or-lt-of-le h)
+
+-- What every form has, as a test that computes: room for its text, numbers that end where they should, no letter
+-- twice, and a digit for each number that it settles.
+abbrev settles : Numbers → Bool
+settles e = ltb (e .a) 10 && (ltb (e .b) 10 && ltb (e .c) 10)
+
+abbrev formFine : ℕ → Bool
+formFine f =
+    eqb (length (formAt f .text)) formWidth
+    && (leb (formAt f .len) formWidth
+    && (closed (formText (formAt f)) && (once (formText (formAt f)) && settles (formAt f .settled))))
+
+forms-fine : all formFine formCount ≡ true
+unfolding all formAt forms padded closed once absent
+forms-fine = refl
+
+pub record Fine (f : Form) : Type 0 where
+  pub width : length (f .text) ≡ formWidth
+  pub room : f .len ≤ formWidth
+  pub closes : closed (formText f) ≡ true
+  pub single : once (formText f) ≡ true
+  pub settled-small : Small (equationOf (f .settled))
+
+pub form-fine : (f : ℕ) → f < formCount → Fine (formAt f)
+form-fine f h =
+    let p = and-true (eqb (length (formAt f .text)) formWidth) _ (all-at formFine formCount forms-fine f h) in
+    let q = and-true (leb (formAt f .len) formWidth) _ (p .1) in
+    let r = and-true (closed (formText (formAt f))) _ (q .1) in
+    let s = and-true (once (formText (formAt f))) _ (r .1) in
+    let e = formAt f .settled in
+    let t = and-true (ltb (e .a) 10) _ (s .1) in
+    let u = and-true (ltb (e .b) 10) _ (t .1) in
+    let ha = ltb-true (e .a) 10 (t .0) in
+    let hb = ltb-true (e .b) 10 (u .0) in
+    let hc = ltb-true (e .c) 10 (u .1) in
+    record {
+      width = eqb-true (length (formAt f .text)) formWidth (p .0);
+      room = leb-true (formAt f .len) formWidth (q .0);
+      closes = r .0;
+      single = s .0;
+      settled-small = small (e .kind) (e .a) (e .b) (e .c) (omega arith) (omega arith) (omega arith);
+    }
+
+-- A form has room for its text.
+pub form-room : (f : ℕ) → f < formCount → formAt f .len ≤ length (formAt f .text)
+form-room f h = let w = form-fine f h in omega (arith, w .width, w .room)
+
+-- No two forms share a text.
+abbrev apartFrom : ℕ → ℕ → Bool
+apartFrom f g = cond (eqb f g) true (apart (formText (formAt f)) (formText (formAt g)))
+
+no-sharing : all (λ f. all (apartFrom f) formCount) formCount ≡ true
+unfolding all formAt forms padded apart
+no-sharing = refl
+
+forms-apart : (f g : ℕ) → f < formCount → g < formCount → (f ≡ g → ⊥)
+    → apart (formText (formAt f)) (formText (formAt g)) ≡ true
+forms-apart f g hf hg d =
+    let p = all-at (apartFrom f) formCount (all-at (λ f. all (apartFrom f) formCount) formCount no-sharing f hf) g hg in
+    rw (ne-eqb f g d) at p
+
+-- A form is the one of each equation that agrees with it, and gives its text.
+record Given (f : ℕ) (e : Equation) : Type 0 where
+  number : formOf e ≡ f
+  text : lineEnd e ≡ render e (formText (formAt f))
+
+abbrev Gives : ℕ → Type 0
+Gives f = (e : Equation) → Agree e (equationOf (formAt f .settled)) (formText (formAt f)) → Given f e
+
+of-form : (f : ℕ) → Gives f → Gives f
+of-form f p = p
+
+each-gives : Each Gives formCount 0
+unfolding formAt forms padded absent kindOf formNumber lineEnd valueText render
+each-gives =
+    of-form 0 (λ e w. rw (w .kinds) (record { number = refl; text = refl }))
+    also of-form 1 (λ e w. rw (w .kinds) (record { number = refl; text = refl }))
+    also of-form 2 (λ e w. rw (w .kinds, w .others 65 isA refl) (record { number = refl; text = refl }))
+    also of-form 3 (λ e w. rw (w .kinds, w .others 65 isA refl) (record { number = refl; text = refl }))
+    also of-form 4 (λ e w. rw (w .kinds) (record { number = refl; text = refl }))
+    also of-form 5 (λ e w. rw (w .kinds) (record { number = refl; text = rw (append-assoc, append-assoc) }))
+    also of-form 6 (λ e w. rw (w .kinds) (record { number = refl; text = rw (append-assoc, append-assoc) }))
+    also of-form 7 (λ e w. rw (w .kinds, w .others 67 isC refl) (record { number = refl; text = rw append-assoc }))
+    also of-form 8 (λ e w. rw (w .kinds, w .others 67 isC refl) (record { number = refl; text = rw append-assoc }))
+    also of-form 9 (λ e w. rw (w .kinds) (record { number = refl; text = rw append-assoc }))
+    also of-form 10 (λ e w. rw (w .kinds) (record { number = refl; text = rw (append-assoc, append-assoc, append-assoc) }))
+    also of-form 11 (λ e w. rw (w .kinds) (record { number = refl; text = rw (append-assoc, append-assoc, append-assoc) }))
+    also of-form 12 (λ e w. rw (w .kinds, w .others 66 isB refl) (record { number = refl; text = rw (append-assoc, append-assoc) }))
+    also of-form 13 (λ e w. rw (w .kinds, w .others 66 isB refl) (record { number = refl; text = rw (append-assoc, append-assoc) }))
+    also of-form 14 (λ e w. rw (w .kinds, w .others 66 isB refl) (record { number = refl; text = rw (append-assoc, append-assoc) }))
+    also of-form 15 (λ e w. rw (w .kinds, w .others 66 isB refl) (record { number = refl; text = rw (append-assoc, append-assoc) }))
+    also of-form 16 (λ e w. rw (w .kinds, w .others 66 isB refl) (record { number = refl; text = rw (append-assoc, append-assoc) }))
+    also of-form 17 (λ e w. rw (w .kinds, w .others 66 isB refl) (record { number = refl; text = rw (append-assoc, append-assoc, append-assoc) }))
+    also of-form 18 (λ e w. rw (w .kinds, w .others 66 isB refl) (record { number = refl; text = rw (append-assoc, append-assoc, append-assoc) }))
+    also of-form 19 (λ e w. rw (w .kinds, w .others 66 isB refl) (record { number = refl; text = rw (append-assoc, append-assoc, append-assoc) }))
+    also of-form 20 (λ e w. rw (w .kinds, w .others 66 isB refl) (record { number = refl; text = rw (append-assoc, append-assoc, append-assoc) }))
+    also of-form 21 (λ e w. rw (w .kinds, w .others 66 isB refl) (record { number = refl; text = rw (append-assoc, append-assoc, append-assoc) }))
+    also end
+
+gives : (f : ℕ) → f < formCount → Gives f
+gives f h = each each-gives f (omega arith) h
+
+-- An equation that fits a form has that form.
+pub form-plain : (f : ℕ) (e : Equation) → f < formCount → Fits (formAt f) e → Plain e
+form-plain f e h w =
+    let n = gives f h e (w .agrees) .number in
+    record { known = rw n h; fits = rw n w }
+
+-- The text of an equation after `fN=` is its form's.
+pub end-form : (e : Equation) → Plain e → lineEnd e ≡ render e (formText (formAt (formOf e)))
+end-form e w = gives (formOf e) (w .known) e (w .fits .agrees) .text
+
+pub end-as : (f : ℕ) (e : Equation) → f < formCount → Fits (formAt f) e → lineEnd e ≡ render e (formText (formAt f))
+end-as f e h w = gives f h e (w .agrees) .text
+
+-- The form r that was fetched for an equation.
+module _ (e : Equation) (f : ℕ) (r : Form) (w : Plain e) (ef : f ≡ formOf e) (er : r ≡ formAt f) where
+  pub fetched-known : f < formCount
+  fetched-known = rw ef (w .known)
+
+  pub fetched-room : r .len ≤ length (r .text)
+  fetched-room = rw er (form-room f fetched-known)
+
+  pub fetched-short : r .len ≤ formWidth
+  fetched-short = rw er (form-fine f fetched-known .room)
+
+  pub fetched-text : render e (formText r) ≡ lineEnd e
+  fetched-text = rw (er, ef) (sym (end-form e w))
+
+-- What a kind's row says of a number, without the table.
+abbrev Told : Operand → ℕ → Type 0
+Told Unused x = x ≡ 0
+Told (Earlier s) x = x < equationLimit
+Told (Anywhere s) x = x < equationLimit
+Told (Below m) x = x < m
+
+flow-told : (t : List ℕ) (m x : ℕ) (b : Bool) → m ≤ equationLimit → (ltb x m && b) ≡ true → x < equationLimit
+flow-told t m x b h e = omega (arith, ltb-true x m (and-true (ltb x m) b e .0))
+
+told : (t : List ℕ) (n i : ℕ) (o : Operand) (x : ℕ) → n ≤ equationLimit → i ≤ equationLimit
+    → operandFits t n i o x ≡ true → Told o x
+unfolding operandFits isFlow
+told t n i Unused x hn hi e = eqb-true x 0 e
+told t n i (Earlier s) x hn hi e = flow-told t i x _ hi e
+told t n i (Anywhere s) x hn hi e = flow-told t n x _ hn e
+told t n i (Below m) x hn hi e = ltb-true x m e
+
+-- Where a letter stands nowhere in the form, the equation has the number that the form settles.
+abbrev Keeps : Bool → ℕ → ℕ → Type 0
+Keeps true x y = x ≡ y
+Keeps false x y = Unit {0}
+
+kept : (b : Bool) {x y : ℕ} → Keeps b x y → b ≡ true → x ≡ y
+kept true k e = k
+kept false k e = absurd (let z : _≡_ {A = ℕ} 0 1 = cc in omega arith)
+
+-- An equation has form f if it has the kind and the numbers that the form settles.
+having : (f k a b c : ℕ) → formOf (equation k a b c) ≡ f → k ≡ formAt f .settled .kind
+    → Keeps (absent 65 (formText (formAt f))) a (formAt f .settled .a)
+    → Keeps (absent 66 (formText (formAt f))) b (formAt f .settled .b)
+    → Keeps (absent 67 (formText (formAt f))) c (formAt f .settled .c)
+    → (f < formCount) × (a < digitLimit) × (b < digitLimit) × (c < digitLimit) → Plain (equation k a b c)
+having f k a b c n hk ka kb kc h = form-plain f (equation k a b c) (h .0) (record {
+  agrees = record { kinds = hk; others = λ x i. others x i };
+  small = small k a b c (h .1) (h .2) (h .3);
+})
+  where
+    others : (x : ℕ) → Letter x → absent x (formText (formAt f)) ≡ true
+        → slot (equation k a b c) x ≡ slot (equationOf (formAt f .settled)) x
+    others x isA e = kept (absent 65 (formText (formAt f))) ka e
+    others x isB e = kept (absent 66 (formText (formAt f))) kb e
+    others x isC e = kept (absent 67 (formText (formAt f))) kc e
+
+-- Every equation that keeps the rules of its kind has a form.
+abbrev Formed : ℕ → Type 0
+Formed k =
+    (a b c : ℕ) → Told (shapeOf (kindOf k) .a) a → Told (shapeOf (kindOf k) .b) b → Told (shapeOf (kindOf k) .c) c
+    → Plain (equation k a b c)
+
+of-kind : (k : ℕ) → Formed k → Formed k
+of-kind k p = p
+
+-- Kinds 2 and 6 have two forms, kinds 10 and 11 have five.
+constants : (b c : ℕ) → b ≡ 0 → c ≡ 0 → Each (λ a. Plain (equation 2 a b c)) 2 0
+unfolding formAt forms padded absent kindOf formNumber
+constants b c q r =
+    having 2 2 0 b c refl refl refl q r (omega arith) also having 3 2 1 b c refl refl refl q r (omega arith) also end
+
+pres : (a b : ℕ) → a < equationLimit → b ≡ 0 → Each (λ c. Plain (equation 6 a b c)) 2 0
+unfolding formAt forms padded absent kindOf formNumber
+pres a b p q =
+    having 7 6 a b 0 refl refl tt q refl (omega arith) also having 8 6 a b 1 refl refl tt q refl (omega arith) also end
+
+literals : (a c : ℕ) → a < equationLimit → c < 1000000 → Each (λ b. Plain (equation 10 a b c)) 5 0
+unfolding formAt forms padded absent kindOf formNumber
+literals a c p r =
+    having 12 10 a 0 c refl refl tt refl tt (omega arith)
+    also having 13 10 a 1 c refl refl tt refl tt (omega arith)
+    also having 14 10 a 2 c refl refl tt refl tt (omega arith)
+    also having 15 10 a 3 c refl refl tt refl tt (omega arith)
+    also having 16 10 a 4 c refl refl tt refl tt (omega arith)
+    also end
+
+parameters : (a c : ℕ) → a < equationLimit → c < 8 → Each (λ b. Plain (equation 11 a b c)) 5 0
+unfolding formAt forms padded absent kindOf formNumber
+parameters a c p r =
+    having 17 11 a 0 c refl refl tt refl tt (omega arith)
+    also having 18 11 a 1 c refl refl tt refl tt (omega arith)
+    also having 19 11 a 2 c refl refl tt refl tt (omega arith)
+    also having 20 11 a 3 c refl refl tt refl tt (omega arith)
+    also having 21 11 a 4 c refl refl tt refl tt (omega arith)
+    also end
+
+each-formed : Each Formed 12 0
+unfolding formAt forms padded absent kindOf formNumber shapeOf
+each-formed =
+    of-kind 0 (λ a b c p q r. having 0 0 a b c refl refl tt q r (omega arith))
+    also of-kind 1 (λ a b c p q r. having 1 1 a b c refl refl p q r (omega arith))
+    also of-kind 2 (λ a b c p q r. each (constants b c q r) a (omega arith) p)
+    also of-kind 3 (λ a b c p q r. having 4 3 a b c refl refl tt q r (omega arith))
+    also of-kind 4 (λ a b c p q r. having 5 4 a b c refl refl tt tt r (omega arith))
+    also of-kind 5 (λ a b c p q r. having 6 5 a b c refl refl tt tt r (omega arith))
+    also of-kind 6 (λ a b c p q r. each (pres a b p q) c (omega arith) r)
+    also of-kind 7 (λ a b c p q r. having 9 7 a b c refl refl tt q r (omega arith))
+    also of-kind 8 (λ a b c p q r. having 10 8 a b c refl refl tt tt r (omega arith))
+    also of-kind 9 (λ a b c p q r. having 11 9 a b c refl refl tt tt r (omega arith))
+    also of-kind 10 (λ a b c p q r. each (literals a c p r) b (omega arith) q)
+    also of-kind 11 (λ a b c p q r. each (parameters a c p r) b (omega arith) q)
+    also end
+
+no-kind : (k a : ℕ) → 12 ≤ k → Told (shapeOf (kindOf k) .a) a → ⊥
+unfolding shapeOf
+no-kind k a h p = let z = rw (kind-beyond k h) at p in omega (arith, z)
+
+pub fitting-plain : (t : List ℕ) (n i : ℕ) (e : Equation) → n ≤ equationLimit → i ≤ equationLimit
+    → shapeFits t n i (shapeOf (kindOf (e .kind))) e ≡ true → Plain e
+unfolding shapeFits
+fitting-plain t n i e hn hi h =
+    let s = shapeOf (kindOf (e .kind)) in
+    let p = and-true (operandFits t n i (s .a) (e .a)) _ h in
+    let q = and-true (operandFits t n i (s .b) (e .b)) _ (p .1) in
+    let a = told t n i (s .a) (e .a) hn hi (p .0) in
+    let b = told t n i (s .b) (e .b) hn hi (q .0) in
+    let c = told t n i (s .c) (e .c) hn hi (q .1) in
+    elim (decLt (e .kind) 12) [
+      | yes k ↦ each each-formed (e .kind) (omega arith) k (e .a) (e .b) (e .c) a b c
+      | no k ↦ absurd (no-kind (e .kind) (e .a) (omega arith) a)
+    ]
+
+-- Two equations whose texts stand at the front of one text are the same, and so is what follows them.
+pub one-end : (e e′ : Equation) (l r : List ℕ) → Plain e → Plain e′ → lineEnd e ++ l ≡ lineEnd e′ ++ r
+    → (e ≡ e′) × (l ≡ r)
+one-end e e′ l r w w′ h = go (ℕ-discrete (formOf e) (formOf e′))
+  where
+    scans-back : (d : Equation) (k : List ℕ) → Plain d
+        → scan (formText (formAt (formOf d))) (lineEnd d ++ k) (equationOf (formAt (formOf d) .settled)) ≡ scanned d k
+    scans-back d k p =
+        let f = form-fine (formOf d) (p .known) in
+        rw (end-form d p) (scans d (p .fits .small) (formText (formAt (formOf d))) k _ (f .closes) (p .fits .agrees))
+
+    rendered : render e (formText (formAt (formOf e))) ++ l ≡ render e′ (formText (formAt (formOf e′))) ++ r
+    rendered = rw (← end-form e w, ← end-form e′ w′) h
+
+    go : Dec (formOf e ≡ formOf e′) → (e ≡ e′) × (l ≡ r)
+    go (yes p) =
+        let a = scans-back e l w in
+        let b = scans-back e′ r w′ in
+        let c : scan (formText (formAt (formOf e))) (lineEnd e ++ l) (equationOf (formAt (formOf e) .settled))
+        ≡ scan (formText (formAt (formOf e′))) (lineEnd e′ ++ r) (equationOf (formAt (formOf e′) .settled)) =
+        rw (p, h) in
+        let d : scanned e l ≡ scanned e′ r = sym a ∙ c ∙ b in
+        (cc, cc)
+    go (no p) = absurd
+        (never e e′ (w .fits .small) (w′ .fits .small) (formText (formAt (formOf e))) (formText (formAt (formOf e′))) l r
+        (form-fine (formOf e) (w .known) .closes) (form-fine (formOf e′) (w′ .known) .closes)
+        (forms-apart (formOf e) (formOf e′) (w .known) (w′ .known) p) rendered)

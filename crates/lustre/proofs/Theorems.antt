@@ -1,0 +1,122 @@
+-- What is proved of writing and reading together, for every table of up to 4,096 equations, over the definitions that
+-- the two operations' contracts cite. Assumes nothing.
+use mathlib.Core.Path.{_≡_, refl, _∙_, sym, ap}
+use mathlib.Core.Bool.{true, false}
+use mathlib.Core.List.{List, [], _∷_, _++_}
+use Prim.Native.Nat.{ℕ, _+_, _*_, _≤_, _<_}
+use native.Mathlib.Omega.{arith}
+use lib.Dec.{leb}
+use lib.ListN.{length, getD, take, drop, length-append, List·getD-append}
+use lib.Seq.{take-at, getD-take, length-take-le}
+use borrow.Author.Tests.{leb-true}
+use Rattle.tables.specs.Table.{numberAt, equationAt, Test, test, checked}
+use Rattle.tables.specs.declared.Checked.{Checked}
+use Rattle.tables.specs.declared.Checked.the-variants.{Passed, Refused as Failed}
+use Rattle.tables.proofs.Checks.{checked-fitting, refused-table}
+use Rattle.lustre.specs.Text.{textOf}
+use Rattle.lustre.specs.Write.{writeChecked, AfterWrite, afterWrite, afterText, writtenIf, written}
+use Rattle.lustre.specs.Read.{tableRoom, Writes, AfterRead, unread, no-room, read}
+use Rattle.lustre.specs.declared.Written.the-variants.{Length, Refused as NotWritten}
+use Rattle.lustre.specs.declared.Loaded.{Loaded}
+use Rattle.lustre.specs.declared.Loaded.the-variants.{Equations, Refused}
+use Rattle.lustre.proofs.Tables.{well-plain, same-equations, same-numbers, same-text, same-check}
+use Rattle.lustre.proofs.Whole.{write-passed}
+
+-- Two well-formed tables with the same text are the same table.
+pub same-table : (t u : List ℕ) (n m : ℕ) → checked t n ≡ Passed → checked u m ≡ Passed → textOf t n ≡ textOf u m
+    → (n ≡ m) × (take (4 * n) t ≡ take (4 * m) u)
+same-table t u n m p q e =
+    let r = same-equations (well-plain t n p) (well-plain u m q) e in
+    let a = checked-fitting t n p .whole in
+    let b = checked-fitting u m q .whole in
+    (r .0, same-numbers t u n (r .1) a (omega (arith, r .0)) ∙ ap (λ (k : ℕ). take (4 * k) u) (r .0))
+
+-- The promise of reading settles its answer and the lent table.
+pub one-answer : (text table : List ℕ) (r r′ : Loaded) (after after′ : List ℕ) → AfterRead text table r after
+    → AfterRead text table r′ after′ → (r ≡ r′) × (after ≡ after′)
+one-answer text table r r′ a a′ (unread h) (unread h′) = (refl, refl)
+one-answer text table r r′ a a′ (unread h) (no-room {t} {n} w l) = absurd (h t n w)
+one-answer text table r r′ a a′ (unread h) (read {t} {n} w l) = absurd (h t n w)
+one-answer text table r r′ a a′ (no-room {t} {n} w l) (unread h) = absurd (h t n w)
+one-answer text table r r′ a a′ (no-room w l) (no-room w′ l′) = (refl, refl)
+one-answer text table r r′ a a′ (no-room w l) (read w′ l′) = absurd (omega arith)
+one-answer text table r r′ a a′ (read {t} {n} w l) (unread h) = absurd (h t n w)
+one-answer text table r r′ a a′ (read w l) (no-room w′ l′) = absurd (omega arith)
+one-answer text table r r′ a a′ (read {t} {n} w l) (read {t = u} {n = m} w′ l′) =
+    let s = same-table t u n m (w .well-formed) (w′ .well-formed) (w .exactly ∙ sym (w′ .exactly)) in
+    (ap Equations (s .0), rw (s .1, s .0))
+
+-- A table whose text is read is left in the lent table.
+text-read : (t : List ℕ) (n : ℕ) (table : List ℕ) (r : Loaded) (after : List ℕ) → checked t n ≡ Passed
+    → tableRoom ≤ length table → AfterRead (textOf t n) table r after
+    → (r ≡ Equations n) × (after ≡ take (4 * n) t ++ drop (4 * n) table)
+text-read t n table r after e h w =
+    one-answer (textOf t n) table r (Equations n) after (take (4 * n) t ++ drop (4 * n) table) w
+    (read (record { well-formed = e; exactly = refl }) h)
+
+-- What was written is the text of a well-formed table.
+text-written : (t : List ℕ) (n l : ℕ) (buffer : List ℕ) → written t n buffer .answer ≡ Length l
+    → (checked t n ≡ Passed) × (take l (written t n buffer .buffer) ≡ textOf t n)
+unfolding written writeChecked afterText
+text-written t n l buffer e = go (writeChecked t n buffer) refl e
+  where
+    roomTest : Test
+    roomTest = test 15 (leb (length (textOf t n)) (length buffer))
+
+    well : (c : Checked) → checked t n ≡ c → writeChecked t n buffer ≡ Passed → checked t n ≡ Passed
+    well Passed p q = p
+    well (Failed r) p q = p ∙ sym (refused-table t n r (roomTest ∷ []) p) ∙ q
+
+    go : (c : Checked) → writeChecked t n buffer ≡ c → writtenIf c t n buffer .answer ≡ Length l
+        → (checked t n ≡ Passed) × (take l (writtenIf c t n buffer .buffer) ≡ textOf t n)
+    go Passed p q =
+        let k : length (textOf t n) ≡ l = cc in
+        (well (checked t n) refl p, take-at (textOf t n) _ l k)
+    go (Failed r) p q = absurd (let z : _≡_ {A = ℕ} 0 1 = cc in omega arith)
+
+-- Read of written is the table: what a call wrote, read into a table with room, is n and the table that was written.
+pub read-of-written : (t : List ℕ) (n l : ℕ) (buffer table : List ℕ) (r : Loaded) (after : List ℕ)
+    → written t n buffer .answer ≡ Length l → tableRoom ≤ length table
+    → AfterRead (take l (written t n buffer .buffer)) table r after
+    → (r ≡ Equations n) × (after ≡ take (4 * n) t ++ drop (4 * n) table)
+read-of-written t n l buffer table r after e h w =
+    let p = text-written t n l buffer e in
+    text-read t n table r after (p .0) h (rw (p .1) at w)
+
+-- The equations of a table and of its first 4 n numbers with others after them.
+front-same : (u r : List ℕ) (n j : ℕ) → 4 * n ≤ length u → j < n → equationAt u j ≡ equationAt (take (4 * n) u ++ r) j
+front-same u r n j h g = rw (
+  number (4 * j) (omega arith),
+  number (4 * j + 1) (omega arith),
+  number (4 * j + 2) (omega arith),
+  number (4 * j + 3) (omega arith),
+)
+  where
+    number : (x : ℕ) → x < 4 * n → numberAt u x ≡ numberAt (take (4 * n) u ++ r) x
+    number x k =
+        let l : x < length (take (4 * n) u) = omega (arith, length-take-le (4 * n) u h) in
+        sym (getD-take (4 * n) u x 0 k) ∙ sym (List·getD-append (take (4 * n) u) r 0 x l)
+
+-- Written of read is the text, byte for byte: the table that a call read, written to a buffer with room, is the text.
+pub written-of-read : (text table buffer : List ℕ) (n : ℕ) (after : List ℕ) → AfterRead text table (Equations n) after
+    → length text ≤ length buffer
+    → written after n buffer ≡ afterWrite (Length (length text)) (text ++ drop (length text) buffer)
+unfolding afterText
+written-of-read text table buffer n after w h = go (Equations n) after w refl
+  where
+    go : (r : Loaded) (a : List ℕ) → AfterRead text table r a → r ≡ Equations n
+        → written a n buffer ≡ afterWrite (Length (length text)) (text ++ drop (length text) buffer)
+    go r a (unread k) e = absurd (let z : _≡_ {A = ℕ} 0 1 = cc in omega arith)
+    go r a (no-room v l) e = absurd (let z : _≡_ {A = ℕ} 0 1 = cc in omega arith)
+    go r a (read {t = u} {n = m} v l) e =
+        let y : m ≡ n = cc in
+        let f = checked-fitting u m (v .well-formed) .whole in
+        let b = take (4 * m) u ++ drop (4 * m) table in
+        let s : (j : ℕ) → j < m → equationAt u j ≡ equationAt b j = λ j g. front-same u (drop (4 * m) table) m j f g in
+        let c = same-check u b m s (omega (
+          arith,
+          length-append (take (4 * m) u) (drop (4 * m) table),
+          length-take-le (4 * m) u f,
+        )) (v .well-formed) in
+        let x : textOf b m ≡ text = sym (same-text u b m s) ∙ v .exactly in
+        rw (← y) (write-passed b buffer m c (rw x h) ∙ rw x)

@@ -1,0 +1,18 @@
+-- Decimal numbers as texts. Definitions only.
+use mathlib.Core.Bool.{cond}
+use mathlib.Core.List.{List, [], _∷_, _++_}
+use Prim.Native.Nat.{ℕ, zero, suc, _+_, _/_, _%_}
+use lib.Dec.{ltb}
+
+-- The byte of a digit: 48 is the byte of `0`.
+abbrev pub digit : ℕ → ℕ
+digit d = 48 + d
+
+-- The digits of x, the last one apart, for x up to k.
+unfoldable pub digits : ℕ → ℕ → List ℕ
+digits zero x = digit x ∷ []
+digits (suc k) x = let more = digits k (x / 10) ++ (digit (x % 10) ∷ []) in cond (ltb x 10) (digit x ∷ []) more
+
+-- "Numerals are decimal"; "Numbers have no needless 0."
+unfoldable pub decimal : ℕ → List ℕ
+decimal x = digits x x

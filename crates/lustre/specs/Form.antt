@@ -1,0 +1,153 @@
+-- Forms: the texts that can follow `fN=` in a line, with the letters A, B and C where numbers stand. Definitions only.
+-- The one line writer and the one line parser both walk them; that they give the text of specs/Text.antt is proved.
+use mathlib.Core.Bool.{Bool, true, false, not, _&&_, cond}
+use mathlib.Core.List.{List, [], _∷_, _++_}
+use mathlib.Core.Path.{_≡_}
+use Prim.Native.Nat.{ℕ, zero, suc, _+_, _*_, _-_, _<_}
+use lib.Dec.{ltb, eqb}
+use lib.ListN.{length, getD, take}
+use Prim.Native.String.{String}
+use Rattle.lists.specs.Text.{bytes}
+use Rattle.tables.specs.Table.{Equation, Kind, kindOf}
+use Rattle.tables.specs.Table.Kind.{signal, start, constant, negation, conjunction, disjunction, booleanPre}
+use Rattle.tables.specs.Table.Kind.{countPre, capped, ifElse, compareLiteral, compareParameter, unknown}
+use Rattle.lustre.specs.Decimal.{decimal}
+use Rattle.lustre.specs.declared.Numbers.{Numbers}
+use Rattle.lustre.specs.declared.Form.{Form}
+
+abbrev pub equation : ℕ → ℕ → ℕ → ℕ → Equation
+equation k a b c = record { kind = k; a = a; b = b; c = c }
+
+-- The equation of four numbers.
+abbrev pub equationOf : Numbers → Equation
+equationOf e = equation (e .kind) (e .a) (e .b) (e .c)
+
+-- A, B or C.
+abbrev pub letter? : ℕ → Bool
+letter? x = cond (ltb 64 x) (ltb x 68) false
+
+pub data Letter : ℕ → Type 0 where
+  isA : Letter 65
+  isB : Letter 66
+  isC : Letter 67
+
+-- The number that a letter stands for.
+abbrev pub slot : Equation → ℕ → ℕ
+slot e x = cond (eqb x 65) (e .a) (cond (eqb x 66) (e .b) (e .c))
+
+-- The equation with v where that letter stands.
+abbrev pub put : Equation → ℕ → ℕ → Equation
+put e x v =
+    cond (eqb x 65) (equation (e .kind) v (e .b) (e .c))
+    (cond (eqb x 66) (equation (e .kind) (e .a) v (e .c)) (equation (e .kind) (e .a) (e .b) v))
+
+-- The text of one byte of a form.
+abbrev pub piece : Equation → ℕ → List ℕ
+piece e x = cond (letter? x) (decimal (slot e x)) (x ∷ [])
+
+-- The text of a form.
+unfoldable pub render : Equation → List ℕ → List ℕ
+render e [] = []
+render e (x ∷ f) = piece e x ++ render e f
+
+-- The letter stands nowhere in the form.
+unfoldable pub absent : ℕ → List ℕ → Bool
+absent x [] = true
+absent x (y ∷ f) = not (eqb x y) && absent x f
+
+-- The two equations have the same kind, and the same numbers but for the form's letters.
+pub record Agree (e e₀ : Equation) (f : List ℕ) : Type 0 where
+  pub kinds : e .kind ≡ e₀ .kind
+  pub others : (x : ℕ) → Letter x → absent x f ≡ true → slot e x ≡ slot e₀ x
+
+-- At most nine digits, as the number reader takes them.
+abbrev pub digitLimit : ℕ
+digitLimit = 1000000000
+
+abbrev pub Small : Equation → Type 0
+Small e = (x : ℕ) → slot e x < digitLimit
+
+-- A form in 22 bytes, filled up with spaces.
+unfoldable pub padded : ℕ → List ℕ → List ℕ
+padded zero f = []
+padded (suc k) [] = 32 ∷ padded k []
+padded (suc k) (x ∷ f) = x ∷ padded k f
+
+abbrev pub formWidth : ℕ
+formWidth = 22
+
+abbrev pub numbers : ℕ → ℕ → ℕ → ℕ → Numbers
+numbers k a b c = record { kind = k; a = a; b = b; c = c }
+
+-- A form with the kind and the numbers that it settles.
+abbrev pub form : Numbers → String → Form
+form e f = record { settled = e; len = length (bytes f); text = padded formWidth (bytes f) }
+
+-- Every form; those of one kind stand together, by the number that tells them apart.
+unfoldable pub forms : List Form
+forms =
+    form (numbers 0 0 0 0) "sA;\n"
+    ∷ form (numbers 1 0 0 0) "b;\n"
+    ∷ form (numbers 2 0 0 0) "false;\n"
+    ∷ form (numbers 2 1 0 0) "true;\n"
+    ∷ form (numbers 3 0 0 0) "not fA;\n"
+    ∷ form (numbers 4 0 0 0) "fA and fB;\n"
+    ∷ form (numbers 5 0 0 0) "fA or fB;\n"
+    ∷ form (numbers 6 0 0 0) "false->pre(fA);\n"
+    ∷ form (numbers 6 0 0 1) "true->pre(fA);\n"
+    ∷ form (numbers 7 0 0 0) "0->pre(fA);\n"
+    ∷ form (numbers 8 0 0 0) "cap(fA,fB);\n"
+    ∷ form (numbers 9 0 0 0) "if fA then fB else 0;\n"
+    ∷ form (numbers 10 0 0 0) "fA<=C;\n"
+    ∷ form (numbers 10 0 1 0) "fA<C;\n"
+    ∷ form (numbers 10 0 2 0) "fA=C;\n"
+    ∷ form (numbers 10 0 3 0) "fA>C;\n"
+    ∷ form (numbers 10 0 4 0) "fA>=C;\n"
+    ∷ form (numbers 11 0 0 0) "fA<=kC;\n"
+    ∷ form (numbers 11 0 1 0) "fA<kC;\n"
+    ∷ form (numbers 11 0 2 0) "fA=kC;\n"
+    ∷ form (numbers 11 0 3 0) "fA>kC;\n"
+    ∷ form (numbers 11 0 4 0) "fA>=kC;\n"
+    ∷ []
+
+abbrev pub formCount : ℕ
+formCount = 22
+
+abbrev pub noForm : Form
+noForm = record { settled = numbers 0 0 0 0; len = 0; text = [] }
+
+unfoldable pub formAt : ℕ → Form
+formAt f = getD forms f noForm
+
+-- The bytes of a form that count.
+abbrev pub formText : Form → List ℕ
+formText f = take (f .len) (f .text)
+
+-- The equation fits the form: it has the numbers that the form settles, and the others have at most nine digits.
+pub record Fits (f : Form) (e : Equation) : Type 0 where
+  pub agrees : Agree e (equationOf (f .settled)) (formText f)
+  pub small : Small e
+
+-- The number of the form of an equation.
+unfoldable pub formNumber : Kind → Equation → ℕ
+formNumber signal e = 0
+formNumber start e = 1
+formNumber constant e = 2 + e .a
+formNumber negation e = 4
+formNumber conjunction e = 5
+formNumber disjunction e = 6
+formNumber booleanPre e = 7 + e .c
+formNumber countPre e = 9
+formNumber capped e = 10
+formNumber ifElse e = 11
+formNumber compareLiteral e = 12 + e .b
+formNumber compareParameter e = 17 + e .b
+formNumber unknown e = 0
+
+abbrev pub formOf : Equation → ℕ
+formOf e = formNumber (kindOf (e .kind)) e
+
+-- The equation has a form.
+pub record Plain (e : Equation) : Type 0 where
+  pub known : formOf e < formCount
+  pub fits : Fits (formAt (formOf e)) e

@@ -1,0 +1,36 @@
+-- Reading Lustre text: which texts are read, what a call answers and the table that it leaves. Definitions only.
+-- The sentences quoted are document 01's, from "Each operation and its refusals".
+use mathlib.Core.List.{List, _++_}
+use mathlib.Core.Path.{_≡_}
+use Prim.Native.Nat.{ℕ, _*_, _≤_, _<_}
+use lib.ListN.{length, take, drop}
+use Rattle.tables.specs.Table.{checked}
+use Rattle.tables.specs.Step.{Answer, refused, gives}
+use Rattle.tables.specs.declared.Checked.the-variants.{Passed}
+use Rattle.lustre.specs.Text.{textOf}
+use Rattle.lustre.specs.declared.Loaded.{Loaded}
+use Rattle.lustre.specs.declared.Loaded.the-variants.{Equations, Refused}
+
+-- "compiling and reading Lustre text give n"
+abbrev pub loadedAnswer : Loaded → Answer
+loadedAnswer (Equations n) = gives n
+loadedAnswer (Refused r) = refused r
+
+-- "9: the lent table has under 16,384 numbers."
+abbrev pub tableRoom : ℕ
+tableRoom = 16384
+
+-- The table t of n equations is well formed, and writes exactly these bytes.
+pub record Writes (t : List ℕ) (n : ℕ) (text : List ℕ) : Type 0 where
+  pub well-formed : checked t n ≡ Passed
+  pub exactly : textOf t n ≡ text
+
+-- What reading answers, and the table that it leaves, by the lent text and the table as it was lent.
+pub data AfterRead (text table : List ℕ) : Loaded → List ℕ → Type 0 where
+  -- "16: no well-formed table writes exactly these bytes." A refusal "changes no lent memory".
+  unread : ((t : List ℕ) (n : ℕ) → Writes t n text → ⊥) → AfterRead text table (Refused 16) table
+  -- "9: as in compile."
+  no-room : {t : List ℕ} {n : ℕ} → Writes t n text → length table < tableRoom → AfterRead text table (Refused 9) table
+  -- The first 4 n numbers are those of such a table. "Lent memory past a result is kept."
+  read : {t : List ℕ} {n : ℕ} → Writes t n text → tableRoom ≤ length table
+      → AfterRead text table (Equations n) (take (4 * n) t ++ drop (4 * n) table)

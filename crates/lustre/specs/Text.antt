@@ -1,0 +1,66 @@
+-- The Lustre text of a table. Definitions only. The sentences quoted are document 01's, from "Equations".
+use mathlib.Core.Bool.{Bool, true, false}
+use mathlib.Core.List.{List, [], _++_}
+use Prim.Native.Nat.{ℕ, zero, suc, _-_}
+use Rattle.lists.specs.Text.{bytes}
+use Rattle.traces.specs.Trace.{nonzero}
+use Rattle.traces.specs.Compare.{Op, opOf}
+use Rattle.traces.specs.Compare.Op.{le, lt, eq, gt, ge}
+use Rattle.tables.specs.Table.{Equation, equationAt, Kind, kindOf}
+use Rattle.tables.specs.Table.Kind.{signal, start, constant, negation, conjunction, disjunction, booleanPre}
+use Rattle.tables.specs.Table.Kind.{countPre, capped, ifElse, compareLiteral, compareParameter, unknown}
+use Rattle.lustre.specs.Decimal.{decimal}
+
+-- The name of the flow of equation x.
+abbrev pub flow : ℕ → List ℕ
+flow x = bytes "f" ++ decimal x
+
+-- "In kinds 2 and 6 a 0 is written `false` and a 1 `true`."
+abbrev pub truthText : Bool → List ℕ
+truthText false = bytes "false"
+truthText true = bytes "true"
+
+-- "op is 0 `<=`, 1 `<`, 2 `=`, 3 `>`, 4 `>=`."
+abbrev pub opText : Op → List ℕ
+opText le = bytes "<="
+opText lt = bytes "<"
+opText eq = bytes "="
+opText gt = bytes ">"
+opText ge = bytes ">="
+
+-- The table of kinds, column "text after `fN=`". No number is that of an unknown kind in a well-formed table.
+unfoldable pub valueText : Kind → Equation → List ℕ
+valueText signal e = bytes "s" ++ decimal (e .a)
+valueText start e = bytes "b"
+valueText constant e = truthText (nonzero (e .a))
+valueText negation e = bytes "not " ++ flow (e .a)
+valueText conjunction e = flow (e .a) ++ bytes " and " ++ flow (e .b)
+valueText disjunction e = flow (e .a) ++ bytes " or " ++ flow (e .b)
+valueText booleanPre e = truthText (nonzero (e .c)) ++ bytes "->pre(" ++ flow (e .a) ++ bytes ")"
+valueText countPre e = bytes "0->pre(" ++ flow (e .a) ++ bytes ")"
+valueText capped e = bytes "cap(" ++ flow (e .a) ++ bytes "," ++ flow (e .b) ++ bytes ")"
+valueText ifElse e = bytes "if " ++ flow (e .a) ++ bytes " then " ++ flow (e .b) ++ bytes " else 0"
+valueText compareLiteral e = flow (e .a) ++ opText (opOf (e .b)) ++ decimal (e .c)
+valueText compareParameter e = flow (e .a) ++ opText (opOf (e .b)) ++ bytes "k" ++ decimal (e .c)
+valueText unknown e = []
+
+-- What follows `fN=` in the line of an equation; "each line ends in byte 10".
+unfoldable pub lineEnd : Equation → List ℕ
+lineEnd e = valueText (kindOf (e .kind)) e ++ bytes ";\n"
+
+-- "a line per equation as `f0=b;`"
+unfoldable pub lineText : ℕ → Equation → List ℕ
+lineText i e = flow i ++ bytes "=" ++ lineEnd e
+
+-- The lines of the first n equations.
+unfoldable pub lines : List ℕ → ℕ → List ℕ
+lines t zero = []
+lines t (suc i) = lines t i ++ lineText i (equationAt t i)
+
+-- "then `a=fN;` with the last N, then `tel`"
+unfoldable pub foot : ℕ → List ℕ
+foot n = bytes "a=" ++ flow (n - 1) ++ bytes ";\ntel\n"
+
+-- "Its text is the line `let`, a line per equation as `f0=b;`, then `a=fN;` with the last N, then `tel`"
+unfoldable pub textOf : List ℕ → ℕ → List ℕ
+textOf t n = bytes "let\n" ++ lines t n ++ foot n

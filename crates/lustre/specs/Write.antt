@@ -1,0 +1,47 @@
+-- Writing a table as Lustre text: the whole effect of a call as one record. Definitions only.
+-- The sentences quoted are document 01's, from "Each operation and its refusals".
+use mathlib.Core.List.{List, [], _∷_, _++_}
+use Prim.Native.Nat.{ℕ}
+use lib.Dec.{leb}
+use lib.ListN.{length, drop}
+use Rattle.tables.specs.Table.{Test, test, firstFailed, tableTests}
+use Rattle.tables.specs.Step.{Answer, refused, gives}
+use Rattle.tables.specs.declared.Checked.{Checked}
+use Rattle.tables.specs.declared.Checked.the-variants.{Passed, Refused as Failed}
+use Rattle.lustre.specs.Text.{textOf}
+use Rattle.lustre.specs.declared.Written.{Written}
+use Rattle.lustre.specs.declared.Written.the-variants.{Length, Refused}
+
+-- "writing gives the length in bytes"
+abbrev pub writtenAnswer : Written → Answer
+writtenAnswer (Length l) = gives l
+writtenAnswer (Refused r) = refused r
+
+-- "Write as Lustre text. 10, 11; 15: the buffer is shorter than that text."
+abbrev pub writeTests : List ℕ → ℕ → List ℕ → List Test
+writeTests t n buffer = tableTests t n ++ (test 15 (leb (length (textOf t n)) (length buffer)) ∷ [])
+
+-- The first refusal that applies, or none.
+unfoldable pub writeChecked : List ℕ → ℕ → List ℕ → Checked
+writeChecked t n buffer = firstFailed (writeTests t n buffer)
+
+-- What writing answers, and the buffer that it leaves.
+pub record AfterWrite : Type 0 where
+  pub answer : Written
+  pub buffer : List ℕ
+
+abbrev pub afterWrite : Written → List ℕ → AfterWrite
+afterWrite r buffer = record { answer = r; buffer = buffer }
+
+-- The text at the front of the buffer. "Lent memory past a result is kept."
+unfoldable pub afterText : List ℕ → List ℕ → AfterWrite
+afterText text buffer = afterWrite (Length (length text)) (text ++ drop (length text) buffer)
+
+-- A refusal "changes no lent memory".
+abbrev pub writtenIf : Checked → List ℕ → ℕ → List ℕ → AfterWrite
+writtenIf Passed t n buffer = afterText (textOf t n) buffer
+writtenIf (Failed r) t n buffer = afterWrite (Refused r) buffer
+
+-- The whole effect of writing.
+unfoldable pub written : List ℕ → ℕ → List ℕ → AfterWrite
+written t n buffer = writtenIf (writeChecked t n buffer) t n buffer
