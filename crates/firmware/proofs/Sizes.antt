@@ -1,14 +1,33 @@
--- A compiled table has at most 4,096 equations, so C's answer has room for their number. Assumes nothing.
+-- Compiled and loaded tables have at most 4,096 equations, and a table's text is short: C's answer has room for each number.
+-- Assumes nothing.
 use mathlib.Core.List.{List}
-use mathlib.Core.Path.{_≡_}
-use Prim.Native.Nat.{ℕ, _≤_}
+use mathlib.Core.Path.{_≡_, sym, ap}
+use Prim.Native.Nat.{ℕ, _≤_, _<_}
+use lib.ListN.{getD}
 use Rattle.tables.proofs.Checks.{checked-fitting}
+use Rattle.lustre.specs.Write.{AfterWrite, afterWrite, written}
+use Rattle.lustre.specs.Read.{AfterRead}
+use Rattle.lustre.specs.Read.AfterRead.{unread, no-room as no-table, read}
+use Rattle.lustre.specs.declared.Written.{Written}
+use Rattle.lustre.specs.declared.Written.the-variants.{Length, Refused}
+use Rattle.lustre.specs.declared.Loaded.{Loaded}
+use Rattle.lustre.proofs.Sizes.{written-few}
 use Rattle.observers.specs.Demand.{Compiles}
 use Rattle.observers.specs.Demand.Compiles.{not-read, no-room, observed}
 use Rattle.observers.specs.declared.Compiled.{Compiled}
-use Rattle.firmware.specs.Face.{small}
+use Rattle.firmware.specs.Face.{small, short, few}
 
 pub few-equations : {text before : List ℕ} {r : Compiled} {after : List ℕ} → Compiles text before r after → small r
 few-equations (not-read e) = tt
 few-equations (no-room e h) = tt
 few-equations (observed {n} {after} e f room same rest h) = checked-fitting after n (h .formed) .few
+
+pub few-loaded : {text before : List ℕ} {r : Loaded} {after : List ℕ} → AfterRead text before r after → few r
+few-loaded (unread h) = tt
+few-loaded (no-table w h) = tt
+few-loaded (read {t} {n} w h) = checked-fitting t n (w .well-formed) .few
+
+pub short-text : (t : List ℕ) → ((i : ℕ) → getD t i 0 < 4294967296) → (n : ℕ) (buffer : List ℕ) (r : Written) (after : List ℕ)
+    → afterWrite r after ≡ written t n buffer → short r
+short-text t bits n buffer (Length l) after e = written-few t bits n l buffer (sym (ap (λ (x : AfterWrite). x .answer) e))
+short-text t bits n buffer (Refused k) after e = tt

@@ -15,6 +15,12 @@ use Rattle.observers.specs.declared.Compiled.{Compiled}
 use Rattle.observers.specs.declared.Compiled.the-variants.{Equations, Refused}
 use Rattle.observers.specs.Compile as compile-specs
 use Rattle.observers.specs.Compile.{AfterCompile}
+use Rattle.lustre.specs.Write.{AfterWrite, writtenAnswer}
+use Rattle.lustre.specs.Read.{AfterRead, loadedAnswer}
+use Rattle.lustre.specs.declared.Written.{Written}
+use Rattle.lustre.specs.declared.Written.the-variants.{Length, Refused as No-text}
+use Rattle.lustre.specs.declared.Loaded.{Loaded}
+use Rattle.lustre.specs.declared.Loaded.the-variants.{Equations as Loads, Refused as No-table}
 use Rattle.firmware.specs.declared.Answer.{Answer}
 
 -- "A refusal gives its number and no other result (0 elsewhere)."
@@ -70,3 +76,28 @@ pub record SameTold (first second : List ℕ) (r : Answer) : Type 0 where
 abbrev pub small : Compiled → Type 0
 small (Equations n) = n ≤ 4096
 small (Refused k) = Unit {0}
+
+-- The answers of writing and reading Lustre text.
+abbrev pub writeAnswer : Written → Answer
+writeAnswer x = answer (writtenAnswer x)
+
+abbrev pub write : AfterWrite → Left
+write x = left (writeAnswer (x .answer)) (x .buffer)
+
+abbrev pub loadAnswer : Loaded → Answer
+loadAnswer x = answer (loadedAnswer x)
+
+-- The answer of the reading that document 01 has for the text, and the table that it leaves.
+pub record LoadTold (text before : List ℕ) (r : Answer) (after : List ℕ) : Type 0 where
+  pub told : Loaded
+  pub reads : AfterRead text before told after
+  pub answer : r ≡ loadAnswer told
+
+-- Lengths and numbers of equations that C's answer has room for.
+abbrev pub short : Written → Type 0
+short (Length l) = l ≤ 409700
+short (No-text k) = Unit {0}
+
+abbrev pub few : Loaded → Type 0
+few (Loads n) = n ≤ 4096
+few (No-table k) = Unit {0}

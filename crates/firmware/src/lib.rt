@@ -1,4 +1,6 @@
 // The functions that C calls: thin over the proved operations, on slices and numbers (include/towerwatch.h).
+use lustre::Loaded;
+use lustre::Written;
 use observers::Compiled;
 use rules::Same;
 use tables::Fresh;
@@ -11,6 +13,8 @@ ghost use Rattle.rules.specs.Reading.{ruleOf};
 ghost use Rattle.rules.specs.Answer.{answerOf};
 ghost use Rattle.observers.specs.Compile.{compiled};
 ghost use Rattle.firmware.specs.Face.{answer, tickOf, left, fresh, leftValues, tick};
+ghost use Rattle.lustre.specs.Write.{written};
+ghost use Rattle.firmware.specs.Face.{writeAnswer, write, loadAnswer, LoadTold, short, few};
 ghost use Rattle.firmware.specs.Face.{readAnswer, sameAnswer, compiledAnswer, compile, SameTold};
 ghost use Prim.Native.Nat.{_≤_};
 ghost use Rattle.firmware.specs.Face.{small};
@@ -161,4 +165,54 @@ pub extern "C" fn towerwatch_same_rule(first: &[u8], second: &[u8]) -> Answer
     ensures { λ r. ⌜ SameTold (now (first .entry)) (now (second .entry)) r ⌝ }
 {
     same_answer(rules::same_rule(first, second))
+}
+
+// The answer of writing Lustre text.
+fn written_answer(w: Written) -> Answer
+    requires { ⌜ short w ⌝ }
+    ensures { λ r. ⌜ r ≡ writeAnswer w ⌝ }
+{
+    match w {
+        Written::Length(length) => Answer {
+            refusal: 0,
+            result: length as u32,
+        },
+        Written::Refused(number) => Answer {
+            refusal: number,
+            result: 0,
+        },
+    }
+}
+
+// The answer of reading Lustre text.
+fn loaded_answer(l: Loaded) -> Answer
+    requires { ⌜ few l ⌝ }
+    ensures { λ r. ⌜ r ≡ loadAnswer l ⌝ }
+{
+    match l {
+        Loaded::Equations(n) => Answer {
+            refusal: 0,
+            result: n as u32,
+        },
+        Loaded::Refused(number) => Answer {
+            refusal: number,
+            result: 0,
+        },
+    }
+}
+
+// Write the table's n equations as Lustre text: the length in bytes.
+#[no_mangle]
+pub extern "C" fn towerwatch_write_lustre(table: &[u32], n: usize, text: &mut [u8]) -> Answer
+    ensures { λ r. ⌜ left r (now (text .exit)) ≡ write (written (now (table .entry)) n (now (text .entry))) ⌝ }
+{
+    written_answer(lustre::write_lustre(table, n, text))
+}
+
+// Read Lustre text into a table: how many equations.
+#[no_mangle]
+pub extern "C" fn towerwatch_read_lustre(text: &[u8], table: &mut [u32]) -> Answer
+    ensures { λ r. ⌜ LoadTold (now (text .entry)) (now (table .entry)) r (now (table .exit)) ⌝ }
+{
+    loaded_answer(lustre::read_lustre(text, table))
 }

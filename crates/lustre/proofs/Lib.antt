@@ -9,3 +9,4 @@ pub mod Lined
 pub mod Whole
 pub mod Answers
 pub mod Theorems
+pub mod Sizes

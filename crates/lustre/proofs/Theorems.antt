@@ -55,7 +55,7 @@ text-read t n table r after e h w =
     (read (record { well-formed = e; exactly = refl }) h)
 
 -- What was written is the text of a well-formed table.
-text-written : (t : List ℕ) (n l : ℕ) (buffer : List ℕ) → written t n buffer .answer ≡ Length l
+pub text-written : (t : List ℕ) (n l : ℕ) (buffer : List ℕ) → written t n buffer .answer ≡ Length l
     → (checked t n ≡ Passed) × (take l (written t n buffer .buffer) ≡ textOf t n)
 unfolding written writeChecked afterText
 text-written t n l buffer e = go (writeChecked t n buffer) refl e

@@ -1,0 +1,30 @@
+-- `firmware::towerwatch_write_lustre` meets its contract: it is `lustre::write_lustre`, its answer as C gets it.
+-- Assumes nothing.
+use mathlib.Core.Path.{_≡_, ap, _∙_}
+use native.Mathlib.Omega.{arith}
+use Rattle.firmware.specs.declared.Answer.{Answer}
+use Rattle.firmware.specs.Face.{left, write}
+use Rattle.firmware.proofs.Sizes.{short-text}
+use borrow.Author.Needs.{needs}
+use Rattle.firmware.proofs.towerwatch_write_lustre.Statement.{statement}
+use Rattle.firmware.proofs.towerwatch_write_lustre.Tie as tie
+
+write-lustre-requires : tie.Need-write-lustre-requires
+write-lustre-requires c κs = search needs
+
+written-answer-requires : tie.Need-written-answer-requires
+written-answer-requires c κs =
+    let small = c .before .before .before .before .before .shared-slice-known .given in
+    short-text (c .before .before .before .before .before .before .args .table .now) (λ i. omega (arith, small i)) _ _ _ _ (c .before .before .write-lustre .ensures)
+
+same-length : tie.Need-same-length
+same-length c = search needs
+
+returns : tie.Need-returns
+returns c =
+    let call = c .before .before .before .write-lustre in
+    ap (λ (r : Answer). left r (call .last .1 .1 .0)) (c .written-answer .ensures) ∙ ap write (call .ensures)
+
+pub towerwatch-write-lustre-spec : {M : Type 1} → statement M
+towerwatch-write-lustre-spec =
+    tie.close (tie.spec write-lustre-requires written-answer-requires same-length returns)

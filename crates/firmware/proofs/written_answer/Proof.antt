@@ -1,0 +1,28 @@
+-- `firmware::written_answer` meets its contract, case by case. Assumes nothing.
+use mathlib.Core.Path.{_≡_, sym, ap, subst}
+use Prim.Native.Nat.{_≤_}
+use native.Mathlib.Omega.{arith}
+use Rattle.firmware.specs.Face.{writeAnswer, short}
+use borrow.Author.Needs.{needs}
+use Rattle.firmware.proofs.written_answer.Statement.{statement}
+use Rattle.firmware.proofs.written_answer.Tie as tie
+
+enum-known-w : tie.Need-enum-known-w
+enum-known-w c = search needs
+
+cast-t5 : tie.Need-cast-t5
+cast-t5 c =
+    let fits : c .before .w .given .0 .0 ≤ 409700 = subst short (c .before .w .given .1) (c .before .before .before .pre) in
+    omega (arith, fits)
+
+enum-known-w-2 : tie.Need-enum-known-w-2
+enum-known-w-2 c = search needs
+
+returns : tie.Need-returns
+returns c = ap writeAnswer (sym (c .before .w .given .1))
+
+returns-2 : tie.Need-returns-2
+returns-2 c = ap writeAnswer (sym (c .before .w2 .given .1))
+
+pub written-answer-spec : {M : Type 1} → statement M
+written-answer-spec = tie.close (tie.spec enum-known-w cast-t5 enum-known-w-2 returns returns-2)
