@@ -26,6 +26,18 @@ struct towerwatch_answer {
 #define TOWERWATCH_EQUATIONS 4096
 #define TOWERWATCH_TABLE_NUMBERS 16384
 
+/* Reads a rule text. Result: its node count. Refused: 1 to 8 (docs/RULES.md says what each means). */
+struct towerwatch_answer towerwatch_read_rule(const uint8_t *text, size_t text_len);
+
+/* Compiles a rule text. table: TOWERWATCH_TABLE_NUMBERS numbers or more; its front is set to the n equations, four numbers
+ * each, and the rest of it is kept.
+ * Result: n. Refused: 1 to 8 as reading, 9 (the table has under 16,384 numbers). */
+struct towerwatch_answer towerwatch_compile(const uint8_t *text, size_t text_len, uint32_t *table, size_t table_len);
+
+/* Whether two texts are the same rule. Result: 1 for yes, 0 for no. Refused: 1 to 8 of the first text, then of the second. */
+struct towerwatch_answer towerwatch_same_rule(const uint8_t *first, size_t first_len, const uint8_t *second,
+                                              size_t second_len);
+
 /* Makes a fresh state for the table's n equations: cell i belongs to equation i. Cells of memories are set to their initial
  * value, all other cells are kept.
  * table: 4 * n numbers or more, only read. state: n numbers or more.
@@ -44,6 +56,15 @@ struct towerwatch_answer towerwatch_fresh_state(const uint32_t *table, size_t ta
 struct towerwatch_answer towerwatch_step(const uint32_t *table, size_t table_len, size_t n, uint32_t *state,
                                          size_t state_len, uint32_t *values, size_t values_len, uint32_t start,
                                          uint64_t signals, const uint32_t parameters[8]);
+
+/* Writes the table's n equations as Lustre text. text: as many bytes as the text has or more; what stands after the text is
+ * kept. Result: the length in bytes, at most 409,700. Refused: 10, 11, 15 (the buffer is shorter than the text). */
+struct towerwatch_answer towerwatch_write_lustre(const uint32_t *table, size_t table_len, size_t n, uint8_t *text,
+                                                 size_t text_len);
+
+/* Reads Lustre text. table: TOWERWATCH_TABLE_NUMBERS numbers or more; its front is set to the n equations, the rest is kept.
+ * It needs about 64 KiB of stack. Result: n. Refused: 16 (no well-formed table writes exactly these bytes), 9. */
+struct towerwatch_answer towerwatch_read_lustre(const uint8_t *text, size_t text_len, uint32_t *table, size_t table_len);
 
 #ifdef __cplusplus
 }

@@ -173,6 +173,14 @@ fn random_text(random: &mut Random) -> Vec<u8> {
             }
         }
     }
+    if random.once_in(30) {
+        let deep = 14 + random.below(5);
+        let (open, close) = (vec![b'('; deep], vec![b')'; deep]);
+        text = [open, text, close].concat();
+    }
+    if random.once_in(30) {
+        text = [vec![b'!'; 28 + random.below(7)], text].concat();
+    }
     if random.once_in(200) {
         text.resize(2040 + random.below(20), b' ');
     }

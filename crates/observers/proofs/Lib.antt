@@ -1,3 +1,4 @@
 -- Demand 3 from the text on, and what follows from it.
 pub mod Demand
+pub mod SameRule
 pub mod Runs

@@ -1,0 +1,93 @@
+-- Two texts that are the same rule compile to tables that answer alike on every list of calls. Assumes nothing.
+use mathlib.Core.List.{List}
+use mathlib.Core.Option.{Option, some}
+use mathlib.Core.Path.{_≡_, refl, sym, ap, _∙_, subst, subst₂}
+use Prim.Native.Nat.{ℕ, _≤_}
+use native.Mathlib.Omega.{arith}
+use lib.ListN.{length}
+use Rattle.formulas.specs.Formula.{Formula}
+use Rattle.formulas.specs.Tree.{Tree, nodes, formulaOf}
+use Rattle.formulas.specs.Meaning.{verdict}
+use Rattle.tables.specs.Flow.{standardCap}
+use Rattle.tables.specs.Step.{AfterFresh, freshened}
+use Rattle.tables.specs.Run.{Call, answers, ticks, expected}
+use Rattle.agreement.specs.Agreement.{SameParameters, traceOfTicks, Observes}
+use Rattle.agreement.specs.Emit.{observer}
+use Rattle.rules.specs.Reading.{ruleOf}
+use Rattle.rules.specs.Reading.Outcome.{refused, rule}
+use Rattle.rules.proofs.SameRule.{SameRule, yes-tree}
+use Rattle.observers.specs.Compile.{AfterCompile, afterCompile, compiled}
+use Rattle.observers.proofs.Demand.{room-compiled}
+use Rattle.observers.specs.Demand.{Compiles}
+use Rattle.observers.specs.Demand.Compiles.{not-read, no-room, observed}
+use Rattle.observers.specs.declared.Compiled.{Compiled}
+use Rattle.observers.specs.declared.Compiled.the-variants.{Equations, Refused}
+
+-- Two tables of as many equations that observe one formula answer alike.
+pub alike : (n : ℕ) (t u : List ℕ) (f : Formula) (k m : ℕ) → Observes standardCap t n f k → Observes standardCap u n f m
+    → (old old′ : List ℕ) → n ≤ length old → n ≤ length old′ → (ps : List ℕ) (calls : List Call)
+    → SameParameters ps (ticks standardCap n calls)
+    → answers standardCap t n (freshened t n old .state) calls ≡ answers standardCap u n (freshened u n old′ .state) calls
+alike n t u f k m h h′ old old′ room room′ ps calls same =
+    h .agrees old room ps calls same ∙ sym (h′ .agrees old′ room′ ps calls same)
+
+-- What compiling a text into a table left.
+record Left (text : List ℕ) (n : ℕ) (after : List ℕ) : Type 0 where
+  pub tree : Tree
+  pub formula : Formula
+  pub is-read : ruleOf text ≡ rule tree
+  pub is-formula : formulaOf tree ≡ some formula
+  pub many : n ≡ length (observer formula)
+  pub observes : Observes standardCap after n formula (nodes tree)
+
+of-observed : (text before : List ℕ) (n m : ℕ) (after : List ℕ) (t : Tree) (f : Formula) → ruleOf text ≡ rule t
+    → formulaOf t ≡ some f → 16384 ≤ length before → Observes standardCap after m f (nodes t) → m ≡ n
+    → afterCompile (Equations n) after ≡ compiled text before → Left text n after
+of-observed text before n m after t f e is room h number c =
+    let whole = c ∙ sym (room-compiled text before t e f is room (observer f) refl) in
+    let told : Equations n ≡ Equations (length (observer f)) = ap (λ (x : AfterCompile). x .answer) whole in
+    record {
+      tree = t;
+      formula = f;
+      is-read = e;
+      is-formula = is;
+      many = number-of told;
+      observes = subst (λ (x : ℕ). Observes standardCap after x f (nodes t)) number h;
+    }
+  where
+    number-of : {x y : ℕ} → Equations x ≡ Equations y → x ≡ y
+    number-of e = cc
+
+left : (text before : List ℕ) (n : ℕ) (after : List ℕ) (r : Compiled) → Compiles text before r after → r ≡ Equations n
+    → afterCompile (Equations n) after ≡ compiled text before → Left text n after
+left text before n after r (not-read e) q c = absurd (let z : _≡_ {A = ℕ} 0 1 = cc in omega arith)
+left text before n after r (no-room e h) q c = absurd (let z : _≡_ {A = ℕ} 0 1 = cc in omega arith)
+left text before n after r (observed {n = m} {after = l} {t} {f} e is room same rest h) q c =
+    of-observed text before n m l t f e is room h (cc) c
+
+-- The same rule, compiled twice: as many equations, and the same answers to every list of calls.
+pub same-answers : (a b : List ℕ) → SameRule a b → (before before′ : List ℕ) (n m : ℕ) (t u : List ℕ)
+    → afterCompile (Equations n) t ≡ compiled a before → Compiles a before (Equations n) t
+    → afterCompile (Equations m) u ≡ compiled b before′ → Compiles b before′ (Equations m) u
+    → (n ≡ m) × ((old old′ : List ℕ) → n ≤ length old → m ≤ length old′ → (ps : List ℕ) (calls : List Call)
+    → SameParameters ps (ticks standardCap n calls)
+    → answers standardCap t n (freshened t n old .state) calls ≡ answers standardCap u m (freshened u m old′ .state) calls)
+same-answers a b same before before′ n m t u c h c′ h′ =
+    let x = left a before n t (Equations n) h refl c in
+    let y = left b before′ m u (Equations m) h′ refl c′ in
+    let one = yes-tree same refl in
+    let f = x .formula in
+    let formulas : x .formula ≡ y .formula =
+    equal (x .is-formula) (y .is-formula) (x .is-read) (y .is-read) (one .1) (one .2) in
+    let numbers : n ≡ m = x .many ∙ ap (λ (g : Formula). length (observer g)) formulas ∙ sym (y .many) in
+    let observes : Observes standardCap u n f (nodes (y .tree)) =
+    subst₂ (λ (i : ℕ) (g : Formula). Observes standardCap u i g (nodes (y .tree))) (sym numbers) (sym formulas) (y .observes) in (
+      numbers,
+      λ old old′ room room′ ps calls params.
+          alike n t u f _ _ (x .observes) observes old old′ room (omega arith) ps calls params
+          ∙ ap (λ (i : ℕ). answers standardCap u i (freshened u i old′ .state) calls) numbers,
+    )
+  where
+    equal : {p q r : Tree} {f g : Formula} → formulaOf p ≡ some f → formulaOf q ≡ some g
+        → ruleOf a ≡ rule p → ruleOf b ≡ rule q → ruleOf a ≡ rule r → ruleOf b ≡ rule r → f ≡ g
+    equal e e′ i i′ o o′ = cc
