@@ -24,7 +24,8 @@ use Rattle.agreement.specs.Emit.{observer, numbersOf}
 use Rattle.agreement.specs.Agreement.{Observes}
 use Rattle.agreement.proofs.Theorem.{observes}
 use Rattle.emitter.specs.Contract.{Emitted}
-use Rattle.emitter.proofs.Size.{observer-few, observer-front}
+use Rattle.agreement.proofs.Sizes.{observer-size}
+use Rattle.emitter.proofs.Size.{observer-front}
 use Rattle.emitter.proofs.Written.{numbers-length}
 use Rattle.rules.specs.Reading.{Outcome, ruleOf}
 use Rattle.rules.specs.Reading.Outcome.{refused, rule}
@@ -127,5 +128,5 @@ emitted-rule text before t e room arena r after same h =
           ∙ room-compiled text before t e f (k .is) room (observer f) refl,
       subst₂ (λ (n : ℕ) (l : List ℕ). Compiles text before (Equations n) l) (sym many) (sym written)
           (room-compiles text before t e f (k .is) room (observer f)
-          (observer-front f before (observer-few f (small-raw k)) room) (observes-rule k (drop (4 * length (observer f)) before))),
+          (observer-front f before (observer-size f (small-raw k)) room) (observes-rule k (drop (4 * length (observer f)) before))),
     )
