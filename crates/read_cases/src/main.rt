@@ -3,25 +3,6 @@
 use libc::STDIN_FILENO;
 use libc::STDOUT_FILENO;
 use rules::Answer;
-ghost use mathlib.Core.Path.{_≡_};
-ghost use Prim.Native.Nat.{_+_, _≤_};
-ghost use lib.ListN.{length, drop};
-ghost use Rattle.read_cases.specs.Lines.{line};
-
-// The end of the line that starts at `from`: its byte 10, or the end of the text.
-fn line_end(s: &[u8], from: usize) -> usize
-    requires { ⌜ from ≤ length (now s) ⌝ }
-    ensures { λ r. ⌜ (r ≡ from + length (line (drop from (now (s .entry))))) × (r ≤ length (now (s .entry))) ⌝ }
-{
-    let mut e = from;
-    while e < s.len() {
-        if s[e] == 10 {
-            return e;
-        }
-        e += 1;
-    }
-    e
-}
 
 // Prints the answer for a text, and the text.
 fn show(text: &[u8]) {
@@ -44,7 +25,7 @@ fn show(text: &[u8]) {
 fn show_lines(s: &[u8]) {
     let mut at = 0;
     while at < s.len() {
-        let end = line_end(s, at);
+        let end = lines::line_end(s, at);
         show(&s[at..end]);
         at = end + 1;
     }

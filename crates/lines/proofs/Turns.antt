@@ -7,7 +7,7 @@ use native.Mathlib.Numerals.{add-one}
 use lib.ListN.{length, getD, drop, drop-of-length-le}
 use lib.Seq.{drop-cons}
 use borrow.Author.Tests.{eq-eqb, ne-eqb}
-use Rattle.read_cases.specs.Lines.{line}
+use Rattle.lines.specs.Lines.{line}
 
 module _ (s : List ℕ) (i : ℕ) where
   bytes-at : i < length s → drop i s ≡ getD s i 0 ∷ drop (i + 1) s

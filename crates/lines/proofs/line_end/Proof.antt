@@ -1,14 +1,14 @@
--- `read_cases::line_end` meets its contract. The loop's invariant: the line from `e` on ends where the one from `from` on
+-- `lines::line_end` meets its contract. The loop's invariant: the line from `e` on ends where the one from `from` on
 -- does. Assumes nothing.
 use mathlib.Core.Path.{_≡_, refl}
 use Prim.Native.Nat.{_+_, _-_, _≤_}
 use native.Mathlib.Omega.{arith}
 use borrow.Author.Needs.{needs}
 use lib.ListN.{length, drop}
-use Rattle.read_cases.specs.Lines.{line}
-use Rattle.read_cases.proofs.Turns.{line-stops, line-goes-on, line-ends}
-use Rattle.read_cases.proofs.line_end.Statement.{statement}
-use Rattle.read_cases.proofs.line_end.Tie as tie
+use Rattle.lines.specs.Lines.{line}
+use Rattle.lines.proofs.Turns.{line-stops, line-goes-on, line-ends}
+use Rattle.lines.proofs.line_end.Statement.{statement}
+use Rattle.lines.proofs.line_end.Tie as tie
 
 abbrev Inv-loop : tie.InvT-loop
 Inv-loop s from e₀ e = (e ≤ length s) × (e + length (line (drop e s)) ≡ from + length (line (drop from s)))
