@@ -1,4 +1,4 @@
-/* The time of a step beside a hand-written C interpreter, on random well-formed tables.
+/* The time of a step beside a hand-written C interpreter, on random well-formed tables and on tables compiled from rules.
  * Usage: step time            a line for each size: nanoseconds a step of both, and their ratio
  *        step run N WHICH     1,000 steps of N equations, WHICH 0 ours, 1 the interpreter's: for counting instructions
  * Both are run on the same ticks and must answer and leave the same. */
@@ -90,6 +90,17 @@ static void check(uint32_t n) {
     printf("%5u equations: same answers over 2000 ticks, verdict 1 at %u of them\n", n, ones);
 }
 
+/* The observer of a rule: how many equations. */
+static uint32_t compile(const char *rule) {
+    struct towerwatch_answer a = towerwatch_compile((const uint8_t *)rule, strlen(rule), table, 16384);
+    if (a.refusal) {
+        printf("the rule is refused by %u\n", a.refusal);
+        exit(1);
+    }
+    for (int w = 0; w < 2; w++) towerwatch_fresh_state(table, 4 * a.result, a.result, state[w], a.result);
+    return a.result;
+}
+
 static double seconds(void) {
     struct timespec t;
     clock_gettime(CLOCK_MONOTONIC, &t);
@@ -109,6 +120,11 @@ static double best(int which, uint32_t n) {
     return least * 1e9;
 }
 
+static void report(uint32_t n) {
+    double ours = best(0, n), other = best(1, n);
+    printf("%5u equations: %9.1f ns a step, C interpreter %9.1f ns, ratio %.2f\n", n, ours, other, ours / other);
+}
+
 int main(int argc, char **argv) {
     if (argc == 4) {
         uint32_t n = (uint32_t)atoi(argv[2]);
@@ -120,8 +136,18 @@ int main(int argc, char **argv) {
     for (int i = 0; i < 3; i++) {
         prepare(sizes[i]);
         check(sizes[i]);
-        double ours = best(0, sizes[i]), other = best(1, sizes[i]);
-        printf("%5u equations: %9.1f ns a step, C interpreter %9.1f ns, ratio %.2f\n", sizes[i], ours, other, ours / other);
+        report(sizes[i]);
+    }
+    static char large[2048];
+    for (int i = 0; i < 24; i++) /* 23 `then`s, each with a lead of three atoms: 240 words at most */
+        strcat(large, i < 23 ? "kept[s0]|len<=9 then " : "age[s1]<=k2");
+    const char *rules[3] = {"kept[s0] then end[s1]",
+                            "(age[s0] <= 4) & (len <= 12 | sum[s1] >= 2) & !(kept[s2] then (sum[s3] < k1 then end[!s3]))", large};
+    for (int i = 0; i < 3; i++) {
+        printf("compiled: %.60s%s\n", rules[i], strlen(rules[i]) > 60 ? " .." : "");
+        uint32_t n = compile(rules[i]);
+        check(n);
+        report(n);
     }
     return 0;
 }

@@ -1,0 +1,55 @@
+/* The time of reading, compiling and comparing rule texts, and of writing and reading Lustre text. */
+#include <stdio.h>
+#include <stdlib.h>
+#include <string.h>
+#include <time.h>
+
+#include "towerwatch.h"
+
+static uint32_t table[16384], loaded[16384];
+static uint8_t text[409700];
+
+static double seconds(void) {
+    struct timespec t;
+    clock_gettime(CLOCK_MONOTONIC, &t);
+    return t.tv_sec + t.tv_nsec * 1e-9;
+}
+
+#define TIME(what, turns, call)                                                  \
+    do {                                                                         \
+        double least = 1e9;                                                      \
+        for (int round = 0; round < 7; round++) {                                \
+            double begin = seconds();                                            \
+            for (int turn = 0; turn < (turns); turn++)                           \
+                if ((call).refusal) printf("refused\n"), exit(1);               \
+            double each = (seconds() - begin) / (turns);                         \
+            if (each < least) least = each;                                      \
+        }                                                                        \
+        printf("%-52s %10.1f microseconds\n", what, least * 1e6);               \
+    } while (0)
+
+int main(void) {
+    /* a rule of 239 words */
+    static char rule[2048];
+    for (int i = 0; i < 60; i++) strcat(rule, i ? "|len<=1" : "len<=1");
+    size_t length = strlen(rule);
+    const uint8_t *bytes = (const uint8_t *)rule;
+    TIME("read a rule of 239 words", 200, towerwatch_read_rule(bytes, length));
+    TIME("compile it", 200, towerwatch_compile(bytes, length, table, 16384));
+    TIME("compare it with itself", 200, towerwatch_same_rule(bytes, length, bytes, length));
+
+    /* a table of 4,096 equations with long lines: a signal, a count, then comparisons and gates */
+    memset(table, 0, sizeof table);
+    table[4] = 7, table[5] = 1;
+    for (uint32_t i = 2; i < 4096; i++) {
+        uint32_t *e = table + 4 * i;
+        if (i % 2 == 0) e[0] = 9, e[1] = i == 2 ? 0 : i - 1, e[2] = i == 2 ? 1 : i - 2;
+        else e[0] = 10, e[1] = i - 1, e[2] = 4, e[3] = 999999;
+    }
+    uint32_t bytes_written = towerwatch_write_lustre(table, 16384, 4096, text, sizeof text).result;
+    printf("the Lustre text of 4,096 equations has %u bytes\n", bytes_written);
+    TIME("write Lustre text of 4,096 equations", 5, towerwatch_write_lustre(table, 16384, 4096, text, sizeof text));
+    TIME("read it", 5, towerwatch_read_lustre(text, bytes_written, loaded, 16384));
+    if (memcmp(table, loaded, sizeof table)) printf("the table read is another\n"), exit(1);
+    return 0;
+}
