@@ -43,25 +43,36 @@ pub data Symbol : Type 0 where
 pub data Derives : Bool → Symbol → List ℕ → Tree → Type 0 where
   -- "F: D, or D `then` F, or D `chop` F."
   F-one : {inside : Bool} {s : List ℕ} {t : Tree} → Derives inside D s t → Derives inside F s t
-  F-then : {s u : List ℕ} {a b : Tree} → Derives false D s a → Derives false F u b → Derives false F (s ++ THEN ∷ u) (then a b)
-  F-chop : {s u : List ℕ} {a b : Tree} → Derives false D s a → Derives false F u b → Derives false F (s ++ CHOP ∷ u) (chop a b)
+  F-then : {s u : List ℕ} {a b : Tree}
+      → Derives false D s a → Derives false F u b → Derives false F (s ++ THEN ∷ u) (then a b)
+  F-chop : {s u : List ℕ} {a b : Tree}
+      → Derives false D s a → Derives false F u b → Derives false F (s ++ CHOP ∷ u) (chop a b)
   -- "D: one or more C joined by `|`, grouped from the left."
   D-one : {inside : Bool} {s : List ℕ} {t : Tree} → Derives inside C s t → Derives inside D s t
-  D-or : {inside : Bool} {s u : List ℕ} {a b : Tree} → Derives inside D s a → Derives inside C u b → Derives inside D (s ++ OR ∷ u) (or a b)
+  D-or : {inside : Bool} {s u : List ℕ} {a b : Tree}
+      → Derives inside D s a → Derives inside C u b → Derives inside D (s ++ OR ∷ u) (or a b)
   -- "C: likewise U joined by `&`."
   C-one : {inside : Bool} {s : List ℕ} {t : Tree} → Derives inside U s t → Derives inside C s t
-  C-and : {inside : Bool} {s u : List ℕ} {a b : Tree} → Derives inside C s a → Derives inside U u b → Derives inside C (s ++ AND ∷ u) (and a b)
+  C-and : {inside : Bool} {s u : List ℕ} {a b : Tree}
+      → Derives inside C s a → Derives inside U u b → Derives inside C (s ++ AND ∷ u) (and a b)
   -- "U: `!` U, or `exists` signal U, or `(` F `)`, or an atom."
   U-not : {inside : Bool} {s : List ℕ} {t : Tree} → Derives inside U s t → Derives inside U (NOT ∷ s) (neg t)
-  U-exists : {w : ℕ} {s : List ℕ} {t : Tree} → isSignal w ≡ true → Derives false U s t → Derives false U (EXISTS ∷ w ∷ s) (exists (signalWord w) t)
-  U-round : {inside : Bool} {s : List ℕ} {t : Tree} → Derives inside F s t → Derives inside U (ROUND ∷ s ++ ROUND-END ∷ []) t
+  U-exists : {w : ℕ} {s : List ℕ} {t : Tree}
+      → isSignal w ≡ true → Derives false U s t
+      → Derives false U (EXISTS ∷ w ∷ s) (exists (signalWord w) t)
+  U-round : {inside : Bool} {s : List ℕ} {t : Tree}
+      → Derives inside F s t → Derives inside U (ROUND ∷ s ++ ROUND-END ∷ []) t
   -- In P: "`0`, `1` and signals".
   U-constant : {w : ℕ} → isBit w ≡ true → Derives true U (w ∷ []) (constant (bitWord w))
   U-signal : {w : ℕ} → isSignal w ≡ true → Derives true U (w ∷ []) (signal (signalWord w))
   -- "Atoms: `begin[P]`, `end[P]`, `point[P]`, `held[P]`, `kept[P]`, `len` op n, `sum[P]` op n, `age[P]` op n."
-  U-test : {k : ℕ} {s : List ℕ} {p : Tree} → isTest k ≡ true → Derives false B s p → Derives false U (k ∷ s) (test (testWord k) p)
-  U-len : {o n : ℕ} → isOp o ≡ true → isNum n ≡ true → Derives false U (LEN ∷ o ∷ n ∷ []) (len (opWord o) (numWord n))
-  U-count : {k : ℕ} {s : List ℕ} {p : Tree} (o n : ℕ) → isCount k ≡ true → Derives false B s p → isOp o ≡ true → isNum n ≡ true → Derives false U (k ∷ s ++ o ∷ n ∷ []) (count (countWord k) p (opWord o) (numWord n))
+  U-test : {k : ℕ} {s : List ℕ} {p : Tree}
+      → isTest k ≡ true → Derives false B s p → Derives false U (k ∷ s) (test (testWord k) p)
+  U-len : {o n : ℕ}
+      → isOp o ≡ true → isNum n ≡ true → Derives false U (LEN ∷ o ∷ n ∷ []) (len (opWord o) (numWord n))
+  U-count : {k : ℕ} {s : List ℕ} {p : Tree} (o n : ℕ)
+      → isCount k ≡ true → Derives false B s p → isOp o ≡ true → isNum n ≡ true
+      → Derives false U (k ∷ s ++ o ∷ n ∷ []) (count (countWord k) p (opWord o) (numWord n))
   B-square : {s : List ℕ} {p : Tree} → Derives true F s p → Derives false B (SQUARE ∷ s ++ SQUARE-END ∷ []) p
 
 -- The words are a rule of the grammar, with that tree.

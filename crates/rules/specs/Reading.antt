@@ -24,13 +24,17 @@ pub data Reads (text : List ℕ) : Outcome → Type 0 where
   -- "5: more than 16 round brackets open at some word .."
   over-limits : {ws : List ℕ} → splitOf text ≡ made ws → over ws ≡ true → Reads text (refused 5)
   -- "6: not the grammar."
-  no-rule : {ws : List ℕ} → splitOf text ≡ made ws → over ws ≡ false → ((t : Tree) → Rule ws t → ⊥) → Reads text (refused 6)
+  no-rule : {ws : List ℕ} → splitOf text ≡ made ws
+      → over ws ≡ false → ((t : Tree) → Rule ws t → ⊥) → Reads text (refused 6)
   -- "7: `chop` or `exists` stands in it."
-  outside : {ws : List ℕ} {t : Tree} → splitOf text ≡ made ws → over ws ≡ false → Rule ws t → beyond ws ≡ true → Reads text (refused 7)
+  outside : {ws : List ℕ} {t : Tree} → splitOf text ≡ made ws
+      → over ws ≡ false → Rule ws t → beyond ws ≡ true → Reads text (refused 7)
   -- "8: the left of some `then` is no lead."
-  no-lead : {ws : List ℕ} {t : Tree} → splitOf text ≡ made ws → over ws ≡ false → Rule ws t → beyond ws ≡ false → leads t ≡ false → Reads text (refused 8)
+  no-lead : {ws : List ℕ} {t : Tree} → splitOf text ≡ made ws
+      → over ws ≡ false → Rule ws t → beyond ws ≡ false → leads t ≡ false → Reads text (refused 8)
   -- Else the text is a rule.
-  is-rule : {ws : List ℕ} {t : Tree} → splitOf text ≡ made ws → over ws ≡ false → Rule ws t → beyond ws ≡ false → leads t ≡ true → Reads text (rule t)
+  is-rule : {ws : List ℕ} {t : Tree} → splitOf text ≡ made ws
+      → over ws ≡ false → Rule ws t → beyond ws ≡ false → leads t ≡ true → Reads text (rule t)
 
 -- The same as a computation, by the parser of `grammar`. That the two agree is shown in proofs/Theorems.antt.
 abbrev pub ofTree : List ℕ → Option Tree → Outcome
