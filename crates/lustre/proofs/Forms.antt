@@ -1,28 +1,26 @@
 -- The forms and the equations: each form is the text of the equations that fit it, every equation of a well-formed
 -- table has a form, and two equations with the same text are the same. Assumes nothing.
-use mathlib.Core.Path.{_≡_, refl, _∙_, sym, ap, subst}
+use mathlib.Core.Path.{_≡_, refl, _∙_, sym, subst}
 use mathlib.Core.Logic.{⊎-elim}
 use mathlib.Core.Bool.{Bool, true, false, cond, _&&_}
-use mathlib.Core.List.{List, [], _∷_, _++_, append-assoc}
-use Prim.Native.Nat.{ℕ, zero, suc, _+_, _*_, _≤_, _<_}
+use mathlib.Core.List.{List, _++_}
+use mathlib.Core.List.{append-assoc as assoc}
+use Prim.Native.Nat.{ℕ, suc, _≤_, _<_}
 use native.Mathlib.Omega.{arith}
 use native.Mathlib.Nat.{eq-or-lt-of-le}
 use native.Mathlib.Decide.{ℕ-discrete, decLt}
 use lib.Dec.{ltb, leb, eqb}
-use lib.ListN.{length, getD, take}
+use lib.ListN.{length}
 use borrow.Author.Tests.{ltb-true, leb-true, eqb-true, ne-eqb}
-use Rattle.lists.specs.Text.{bytes}
-use Rattle.traces.specs.Trace.{nonzero}
 use Rattle.tables.specs.Table.{all, Equation, kinds, kindOf, shapeOf, isFlow, operandFits, shapeFits, equationLimit}
-use Rattle.tables.specs.declared.Shape.{Shape}
 use Rattle.tables.specs.declared.Operand.{Operand}
 use Rattle.tables.specs.declared.Operand.the-variants.{Unused, Earlier, Anywhere, Below}
 use Rattle.tables.proofs.Tests.{and-true, all-at}
 use Rattle.tables.proofs.Numbers.{kind-beyond}
 use Rattle.lustre.specs.Text.{valueText, lineEnd}
-use Rattle.lustre.specs.Form.{equation, equationOf, Letter, isA, isB, isC, slot, render, absent, Agree, digitLimit}
-use Rattle.lustre.specs.Form.{Small, padded, formWidth, forms, formCount, formAt, formText, Fits, formNumber}
-use Rattle.lustre.specs.Form.{formOf, Plain}
+use Rattle.lustre.specs.Form.{equation, equationOf, Letter, isA, isB, isC, slot, render, absent}
+use Rattle.lustre.specs.Form.{Agree, digitLimit, Small, padded, formWidth, forms, formCount, formAt}
+use Rattle.lustre.specs.Form.{formText, Fits, formNumber, formOf, Plain}
 use Rattle.lustre.specs.Inner.{scanned, scan}
 use Rattle.lustre.specs.declared.Form.{Form}
 use Rattle.lustre.specs.declared.Numbers.{Numbers}
@@ -100,40 +98,52 @@ forms-apart f g hf hg d =
 
 -- A form is the one of each equation that agrees with it, and gives its text.
 record Given (f : ℕ) (e : Equation) : Type 0 where
-  number : formOf e ≡ f
+  form : formOf e ≡ f
   text : lineEnd e ≡ render e (formText (formAt f))
 
 abbrev Gives : ℕ → Type 0
 Gives f = (e : Equation) → Agree e (equationOf (formAt f .settled)) (formText (formAt f)) → Given f e
 
+-- A number that the form settles.
+module _ {e e₀ : Equation} {f : List ℕ} (w : Agree e e₀ f) where
+  a-settled : absent 65 f ≡ true → e .a ≡ e₀ .a
+  a-settled h = w .others 65 isA h
+
+  b-settled : absent 66 f ≡ true → e .b ≡ e₀ .b
+  b-settled h = w .others 66 isB h
+
+  c-settled : absent 67 f ≡ true → e .c ≡ e₀ .c
+  c-settled h = w .others 67 isC h
+
 of-form : (f : ℕ) → Gives f → Gives f
 of-form f p = p
 
+-- In the order of the forms. Those of kinds 2, 6, 10 and 11 are told apart by a number that they settle.
 each-gives : Each Gives formCount 0
 unfolding formAt forms padded absent kindOf formNumber lineEnd valueText render
 each-gives =
-    of-form 0 (λ e w. rw (w .kinds) (record { number = refl; text = refl }))
-    also of-form 1 (λ e w. rw (w .kinds) (record { number = refl; text = refl }))
-    also of-form 2 (λ e w. rw (w .kinds, w .others 65 isA refl) (record { number = refl; text = refl }))
-    also of-form 3 (λ e w. rw (w .kinds, w .others 65 isA refl) (record { number = refl; text = refl }))
-    also of-form 4 (λ e w. rw (w .kinds) (record { number = refl; text = refl }))
-    also of-form 5 (λ e w. rw (w .kinds) (record { number = refl; text = rw (append-assoc, append-assoc) }))
-    also of-form 6 (λ e w. rw (w .kinds) (record { number = refl; text = rw (append-assoc, append-assoc) }))
-    also of-form 7 (λ e w. rw (w .kinds, w .others 67 isC refl) (record { number = refl; text = rw append-assoc }))
-    also of-form 8 (λ e w. rw (w .kinds, w .others 67 isC refl) (record { number = refl; text = rw append-assoc }))
-    also of-form 9 (λ e w. rw (w .kinds) (record { number = refl; text = rw append-assoc }))
-    also of-form 10 (λ e w. rw (w .kinds) (record { number = refl; text = rw (append-assoc, append-assoc, append-assoc) }))
-    also of-form 11 (λ e w. rw (w .kinds) (record { number = refl; text = rw (append-assoc, append-assoc, append-assoc) }))
-    also of-form 12 (λ e w. rw (w .kinds, w .others 66 isB refl) (record { number = refl; text = rw (append-assoc, append-assoc) }))
-    also of-form 13 (λ e w. rw (w .kinds, w .others 66 isB refl) (record { number = refl; text = rw (append-assoc, append-assoc) }))
-    also of-form 14 (λ e w. rw (w .kinds, w .others 66 isB refl) (record { number = refl; text = rw (append-assoc, append-assoc) }))
-    also of-form 15 (λ e w. rw (w .kinds, w .others 66 isB refl) (record { number = refl; text = rw (append-assoc, append-assoc) }))
-    also of-form 16 (λ e w. rw (w .kinds, w .others 66 isB refl) (record { number = refl; text = rw (append-assoc, append-assoc) }))
-    also of-form 17 (λ e w. rw (w .kinds, w .others 66 isB refl) (record { number = refl; text = rw (append-assoc, append-assoc, append-assoc) }))
-    also of-form 18 (λ e w. rw (w .kinds, w .others 66 isB refl) (record { number = refl; text = rw (append-assoc, append-assoc, append-assoc) }))
-    also of-form 19 (λ e w. rw (w .kinds, w .others 66 isB refl) (record { number = refl; text = rw (append-assoc, append-assoc, append-assoc) }))
-    also of-form 20 (λ e w. rw (w .kinds, w .others 66 isB refl) (record { number = refl; text = rw (append-assoc, append-assoc, append-assoc) }))
-    also of-form 21 (λ e w. rw (w .kinds, w .others 66 isB refl) (record { number = refl; text = rw (append-assoc, append-assoc, append-assoc) }))
+    of-form 0 (λ e w. rw (w .kinds) (record { form = refl; text = refl }))
+    also of-form 1 (λ e w. rw (w .kinds) (record { form = refl; text = refl }))
+    also of-form 2 (λ e w. rw (w .kinds, a-settled w refl) (record { form = refl; text = refl }))
+    also of-form 3 (λ e w. rw (w .kinds, a-settled w refl) (record { form = refl; text = refl }))
+    also of-form 4 (λ e w. rw (w .kinds) (record { form = refl; text = refl }))
+    also of-form 5 (λ e w. rw (w .kinds) (record { form = refl; text = rw (assoc, assoc) }))
+    also of-form 6 (λ e w. rw (w .kinds) (record { form = refl; text = rw (assoc, assoc) }))
+    also of-form 7 (λ e w. rw (w .kinds, c-settled w refl) (record { form = refl; text = rw assoc }))
+    also of-form 8 (λ e w. rw (w .kinds, c-settled w refl) (record { form = refl; text = rw assoc }))
+    also of-form 9 (λ e w. rw (w .kinds) (record { form = refl; text = rw assoc }))
+    also of-form 10 (λ e w. rw (w .kinds) (record { form = refl; text = rw (assoc, assoc, assoc) }))
+    also of-form 11 (λ e w. rw (w .kinds) (record { form = refl; text = rw (assoc, assoc, assoc) }))
+    also of-form 12 (λ e w. rw (w .kinds, b-settled w refl) (record { form = refl; text = rw (assoc, assoc) }))
+    also of-form 13 (λ e w. rw (w .kinds, b-settled w refl) (record { form = refl; text = rw (assoc, assoc) }))
+    also of-form 14 (λ e w. rw (w .kinds, b-settled w refl) (record { form = refl; text = rw (assoc, assoc) }))
+    also of-form 15 (λ e w. rw (w .kinds, b-settled w refl) (record { form = refl; text = rw (assoc, assoc) }))
+    also of-form 16 (λ e w. rw (w .kinds, b-settled w refl) (record { form = refl; text = rw (assoc, assoc) }))
+    also of-form 17 (λ e w. rw (w .kinds, b-settled w refl) (record { form = refl; text = rw (assoc, assoc, assoc) }))
+    also of-form 18 (λ e w. rw (w .kinds, b-settled w refl) (record { form = refl; text = rw (assoc, assoc, assoc) }))
+    also of-form 19 (λ e w. rw (w .kinds, b-settled w refl) (record { form = refl; text = rw (assoc, assoc, assoc) }))
+    also of-form 20 (λ e w. rw (w .kinds, b-settled w refl) (record { form = refl; text = rw (assoc, assoc, assoc) }))
+    also of-form 21 (λ e w. rw (w .kinds, b-settled w refl) (record { form = refl; text = rw (assoc, assoc, assoc) }))
     also end
 
 gives : (f : ℕ) → f < formCount → Gives f
@@ -142,7 +152,7 @@ gives f h = each each-gives f (omega arith) h
 -- An equation that fits a form has that form.
 pub form-plain : (f : ℕ) (e : Equation) → f < formCount → Fits (formAt f) e → Plain e
 form-plain f e h w =
-    let n = gives f h e (w .agrees) .number in
+    let n = gives f h e (w .agrees) .form in
     record { known = rw n h; fits = rw n w }
 
 -- The text of an equation after `fN=` is its form's.
@@ -310,6 +320,7 @@ one-end e e′ l r w w′ h = go (ℕ-discrete (formOf e) (formOf e′))
         let d : scanned e l ≡ scanned e′ r = sym a ∙ c ∙ b in
         (cc, cc)
     go (no p) = absurd
-        (never e e′ (w .fits .small) (w′ .fits .small) (formText (formAt (formOf e))) (formText (formAt (formOf e′))) l r
+        (never e e′ (w .fits .small) (w′ .fits .small) (formText (formAt (formOf e)))
+        (formText (formAt (formOf e′))) l r
         (form-fine (formOf e) (w .known) .closes) (form-fine (formOf e′) (w′ .known) .closes)
         (forms-apart (formOf e) (formOf e′) (w .known) (w′ .known) p) rendered)

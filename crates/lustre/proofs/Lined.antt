@@ -3,7 +3,7 @@ use mathlib.Core.Path.{_≡_, refl, _∙_, sym, ap, subst}
 use mathlib.Core.Bool.{true, false}
 use mathlib.Core.List.{List, [], _∷_, _++_, append-assoc}
 use mathlib.Core.Logic.{⊎-elim}
-use Prim.Native.Nat.{ℕ, zero, suc, _+_, _*_, _≤_, _<_}
+use Prim.Native.Nat.{ℕ, suc, _+_, _*_, _≤_, _<_}
 use native.Mathlib.Omega.{arith}
 use native.Mathlib.Nat.{eq-or-lt-of-le, le-of-suc-le-suc}
 use native.Mathlib.Numerals.{add-one}
@@ -13,8 +13,8 @@ use Rattle.lists.specs.Text.{bytes}
 use Rattle.tables.specs.Table.{numberAt, Equation, equationAt, equationLimit}
 use Rattle.lustre.specs.Text.{lineEnd, lineText, lines}
 use Rattle.lustre.specs.Read.{tableRoom}
-use Rattle.lustre.specs.Form.{equation, equationOf, Letter, isA, isB, isC, slot, render, absent, Agree, digitLimit}
-use Rattle.lustre.specs.Form.{Small, formCount, formAt, formText, formOf, Fits, Plain}
+use Rattle.lustre.specs.Form.{equation, equationOf, Letter, isA, isB, isC, slot, render, absent}
+use Rattle.lustre.specs.Form.{Agree, digitLimit, Small, formCount, formAt, formText, formOf, Fits, Plain}
 use Rattle.lustre.specs.Inner.{Scanned, unlike, scanned, scan, NoEnd, EndAt, endSeen, NoLine, LineAt, lineSeen}
 use Rattle.lustre.specs.Inner.{stored, LinesAt, AllLinesAt}
 use Rattle.lustre.specs.declared.Form.{Form}

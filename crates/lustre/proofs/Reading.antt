@@ -1,9 +1,8 @@
 -- Reading numbers and forms at a place of the text. Assumes nothing.
 use mathlib.Core.Path.{_≡_, refl, _∙_, sym, ap}
 use mathlib.Core.Bool.{Bool, true, false, cond, not}
-use mathlib.Core.List.{List, [], _∷_, _++_}
-use Prim.Native.Nat.{ℕ, zero, suc, _+_, _*_, _-_, _≤_, _<_}
-use native.Mathlib.Omega.{arith}
+use mathlib.Core.List.{List, [], _∷_}
+use Prim.Native.Nat.{ℕ, _+_, _*_, _-_, _≤_, _<_}
 use native.Mathlib.Numerals.{add-one}
 use lib.Dec.{eqb}
 use lib.ListN.{length, drop, getD, drop-of-length-le}
@@ -133,7 +132,8 @@ scan-step x f l e = go (letter? x) (numberIn l) l
 module _ (f l : List ℕ) (j p : ℕ) (e : Equation) where
   steps : j < length f → goOn (scanPiece (getD f j 0) (drop p l) e) (drop (j + 1) f) ≡ scan (drop j f) (drop p l) e
   steps h =
-      sym (ap (λ (k : List ℕ). scan k (drop p l) e) (drop-at f j h) ∙ scan-step (getD f j 0) (drop (j + 1) f) (drop p l) e)
+      sym (ap (λ (k : List ℕ). scan k (drop p l) e) (drop-at f j h)
+      ∙ scan-step (getD f j 0) (drop (j + 1) f) (drop p l) e)
 
   pub scan-goes : (q : ℕ) (m : Equation) → j < length f → scanned m (drop q l) ≡ scanPiece (getD f j 0) (drop p l) e
       → scan (drop (j + 1) f) (drop q l) m ≡ scan (drop j f) (drop p l) e

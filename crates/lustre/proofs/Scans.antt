@@ -3,14 +3,14 @@
 use mathlib.Core.Path.{_≡_, refl, _∙_, sym, ap}
 use mathlib.Core.Bool.{Bool, true, false, cond, not, _&&_}
 use mathlib.Core.List.{List, [], _∷_, _++_, append-assoc}
-use Prim.Native.Nat.{ℕ, zero, suc, _<_}
+use Prim.Native.Nat.{ℕ, _<_}
 use native.Mathlib.Omega.{arith}
 use lib.Dec.{ltb, eqb}
 use borrow.Author.Tests.{ltb-true, eq-eqb, eqb-true, eqb-false, not-true}
 use Rattle.tables.specs.Table.{Equation}
 use Rattle.tables.proofs.Tests.{and-true}
 use Rattle.lustre.specs.Decimal.{decimal}
-use Rattle.lustre.specs.Form.{equation, letter?, Letter, isA, isB, isC, slot, put, piece, render, absent, Agree}
+use Rattle.lustre.specs.Form.{equation, letter?, Letter, isA, isB, isC, slot, put, render, absent, Agree}
 use Rattle.lustre.specs.Form.{digitLimit, Small}
 use Rattle.lustre.specs.Inner.{digit?, Number, missing, number, numberIn}
 use Rattle.lustre.specs.Inner.{Scanned, unlike, scanned, afterNumber, afterByte, scan}

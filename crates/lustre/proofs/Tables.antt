@@ -1,20 +1,19 @@
 -- The text of a table determines it. Assumes nothing.
 use mathlib.Core.Path.{_≡_, refl, _∙_, sym, ap, subst}
-use mathlib.Core.Bool.{Bool, true, _&&_}
-use mathlib.Core.List.{List, [], _∷_, _++_, append-assoc, append-nil}
+use mathlib.Core.Bool.{true}
+use mathlib.Core.List.{List, [], _++_, append-assoc, append-nil}
 use mathlib.Core.Logic.{⊎-elim}
 use Prim.Native.Nat.{ℕ, zero, suc, _+_, _*_, _-_, _/_, _%_, _≤_, _<_}
 use native.Mathlib.Omega.{arith}
 use native.Mathlib.Nat.{add-zero, zero-add, eq-or-lt-of-le}
 use lib.Dec.{ltb}
-use lib.ListN.{length, getD, take}
+use lib.ListN.{length, take}
 use lib.Seq.{getD-take, length-take-le, ext-getD}
 use borrow.Author.Tests.{ltb-true}
 use Rattle.lists.specs.Text.{bytes}
-use Rattle.tables.specs.Table.{numberAt, all, Equation, equationAt, kindOf, kindAt, shapeOf, sortOf, sameSort, isFlow}
+use Rattle.tables.specs.Table.{numberAt, all, Equation, equationAt, kindOf, kindAt, shapeOf, isFlow}
 use Rattle.tables.specs.Table.{operandFits, shapeFits, equationFits, equationLimit, equationsFit, checked}
 use Rattle.tables.specs.declared.Sort.{Sort}
-use Rattle.tables.specs.declared.Sort.the-variants.{Boolean}
 use Rattle.tables.specs.declared.Shape.{Shape}
 use Rattle.tables.specs.declared.Operand.{Operand}
 use Rattle.tables.specs.declared.Operand.the-variants.{Unused, Earlier, Anywhere, Below}

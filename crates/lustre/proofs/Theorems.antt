@@ -1,24 +1,22 @@
 -- What is proved of writing and reading together, for every table of up to 4,096 equations, over the definitions that
 -- the two operations' contracts cite. Assumes nothing.
 use mathlib.Core.Path.{_≡_, refl, _∙_, sym, ap}
-use mathlib.Core.Bool.{true, false}
 use mathlib.Core.List.{List, [], _∷_, _++_}
 use Prim.Native.Nat.{ℕ, _+_, _*_, _≤_, _<_}
 use native.Mathlib.Omega.{arith}
 use lib.Dec.{leb}
-use lib.ListN.{length, getD, take, drop, length-append, List·getD-append}
+use lib.ListN.{length, take, drop, length-append, List·getD-append}
 use lib.Seq.{take-at, getD-take, length-take-le}
-use borrow.Author.Tests.{leb-true}
 use Rattle.tables.specs.Table.{numberAt, equationAt, Test, test, checked}
 use Rattle.tables.specs.declared.Checked.{Checked}
 use Rattle.tables.specs.declared.Checked.the-variants.{Passed, Refused as Failed}
 use Rattle.tables.proofs.Checks.{checked-fitting, refused-table}
 use Rattle.lustre.specs.Text.{textOf}
-use Rattle.lustre.specs.Write.{writeChecked, AfterWrite, afterWrite, afterText, writtenIf, written}
-use Rattle.lustre.specs.Read.{tableRoom, Writes, AfterRead, unread, no-room, read}
-use Rattle.lustre.specs.declared.Written.the-variants.{Length, Refused as NotWritten}
+use Rattle.lustre.specs.Write.{writeChecked, afterWrite, afterText, writtenIf, written}
+use Rattle.lustre.specs.Read.{tableRoom, AfterRead, unread, no-room, read}
+use Rattle.lustre.specs.declared.Written.the-variants.{Length}
 use Rattle.lustre.specs.declared.Loaded.{Loaded}
-use Rattle.lustre.specs.declared.Loaded.the-variants.{Equations, Refused}
+use Rattle.lustre.specs.declared.Loaded.the-variants.{Equations}
 use Rattle.lustre.proofs.Tables.{well-plain, same-equations, same-numbers, same-text, same-check}
 use Rattle.lustre.proofs.Whole.{write-passed}
 

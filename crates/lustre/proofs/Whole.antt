@@ -1,23 +1,21 @@
 -- The whole text: what writing leaves, and what parsing finds. Assumes nothing.
 use mathlib.Core.Path.{_≡_, refl, _∙_, sym, ap}
-use mathlib.Core.Bool.{true, false}
-use mathlib.Core.List.{List, [], _∷_, _++_, append-assoc, append-nil}
-use Prim.Native.Nat.{ℕ, zero, suc, _+_, _*_, _-_, _≤_, _<_}
+use mathlib.Core.List.{List, [], _++_, append-nil}
+use Prim.Native.Nat.{ℕ, _+_, _-_, _≤_, _<_}
 use native.Mathlib.Omega.{arith}
 use native.Mathlib.Nat.{zero-add}
 use lib.ListN.{length, drop, length-drop, drop-of-length-le}
-use lib.Seq.{sets, sets-eq}
+use lib.Seq.{sets-eq}
 use borrow.Author.Tests.{le-leb, lt-leb}
 use Rattle.lists.specs.Text.{bytes}
-use Rattle.tables.specs.Table.{Equation, equationAt, equationLimit, checked}
+use Rattle.tables.specs.Table.{Equation, checked}
 use Rattle.tables.specs.declared.Checked.the-variants.{Passed, Refused as Failed}
 use Rattle.tables.proofs.Checks.{passed-both, refused-table}
 use Rattle.lustre.specs.Text.{lineEnd, lineText, lines, foot, textOf}
 use Rattle.lustre.specs.Write.{writeChecked, afterWrite, afterText, written}
 use Rattle.lustre.specs.Read.{Writes}
-use Rattle.lustre.specs.Form.{equationOf, render, absent}
-use Rattle.lustre.specs.Inner.{Placed, Scanned, unlike, scanned, scan, AllLinesAt, Proposed}
-use Rattle.lustre.specs.declared.Numbers.{Numbers}
+use Rattle.lustre.specs.Form.{render, absent, Agree}
+use Rattle.lustre.specs.Inner.{Placed, unlike, scanned, scan, AllLinesAt, Proposed}
 use Rattle.lustre.specs.declared.Written.the-variants.{Length, Refused}
 use Rattle.lustre.proofs.Scans.{closed, once, scans}
 use Rattle.lustre.proofs.Placing.{cut, lent, back, joined, placed-as, sets-out}
@@ -104,8 +102,9 @@ no-opening text d e h t m s =
     let a : text ≡ render (own 0) opening ++ (lines t m ++ foot m) =
     sym (s .exactly) ∙ after-let t m ∙ rw (opening-text (own 0)) in
     let b = own-small 0 (omega arith) in
-    let c : scan opening text (own 0) ≡ scanned (own 0) (lines t m ++ foot m) =
-    rw a (scans (own 0) b opening (lines t m ++ foot m) (own 0) refl (record { kinds = refl; others = λ x i g. refl })) in
+    let o = lines t m ++ foot m in
+    let g : Agree (own 0) (own 0) opening = record { kinds = refl; others = λ x i h. refl } in
+    let c : scan opening text (own 0) ≡ scanned (own 0) o = rw a (scans (own 0) b opening o (own 0) refl g) in
     let f : unlike ≡ scan opening text (own 0) = h ∙ ap (scan opening text) e in
     let z : _≡_ {A = ℕ} 0 1 = cc in omega arith
 
@@ -120,7 +119,8 @@ module _ {text u : List ℕ} {p n q : ℕ} (start : text ≡ opening ++ drop p t
   reached : (t : List ℕ) (m : ℕ) → Writes t m text → (n ≡ m) × (drop q text ≡ foot m)
   reached t m s =
       let v = well-plain t m (s .well-formed) in
-      let a : opening ++ drop p text ≡ opening ++ (lines t m ++ foot m) = sym start ∙ sym (s .exactly) ∙ after-let t m in
+      let a : opening ++ drop p text ≡ opening ++ (lines t m ++ foot m) =
+      sym start ∙ sym (s .exactly) ∙ after-let t m in
       let b : drop p text ≡ lines t m ++ foot m = cc in
       let r = same-lines u t n m (drop q text) (foot m) (w .lines-at .few) (v .few) (w .lines-at .plain) (v .plain)
       (λ h. w .stops (omega (arith, v .few))) (λ h. foot-stops m m) (sym (w .lines-at .says) ∙ b) in

@@ -10,7 +10,7 @@ use lib.Seq.{sets}
 use Rattle.tables.specs.Table.{Equation, equationAt, equationLimit}
 use Rattle.lustre.specs.Text.{lineEnd, lineText, lines, textOf}
 use Rattle.lustre.specs.Read.{Writes}
-use Rattle.lustre.specs.Form.{letter?, put, digitLimit, Plain, equationOf}
+use Rattle.lustre.specs.Form.{letter?, put, Plain, equationOf}
 use Rattle.lustre.specs.declared.Numbers.{Numbers}
 use Rattle.lustre.specs.declared.NumberRead.{NumberRead}
 use Rattle.lustre.specs.declared.NumberRead.the-variants.{Missing, Value}

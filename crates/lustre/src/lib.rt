@@ -13,12 +13,13 @@ ghost use Rattle.lustre.specs.Decimal.{decimal};
 ghost use Rattle.lustre.specs.Text.{lineEnd, lineText, lines, textOf};
 ghost use Rattle.lustre.specs.Write.{afterWrite, written};
 ghost use Rattle.lustre.specs.Read.{tableRoom, AfterRead};
-ghost use Rattle.lustre.specs.Form.{equation, equationOf, letter?, slot, put, piece, render, formWidth, formCount, formAt};
-ghost use Rattle.lustre.specs.Form.{formOf, Plain};
+ghost use Rattle.lustre.specs.Form.{equation, equationOf, letter?, slot, put, piece, render};
+ghost use Rattle.lustre.specs.Form.{digitLimit, formWidth, formCount, formAt, formOf, Plain};
 ghost use Rattle.lustre.specs.Inner.{Placed, PlainTable, digit?, room?, further, numberIn, scan, scanPiece};
-ghost use Rattle.lustre.specs.Inner.{numberSeen, scanSeen, endSeen, lineSeen, stored, AllLinesAt, parsedSeen, tableSeen};
+ghost use Rattle.lustre.specs.Inner.{numberSeen, scanSeen, endSeen, lineSeen, stored, AllLinesAt};
+ghost use Rattle.lustre.specs.Inner.{parsedSeen, tableSeen};
 
-// What writing answers: the length of the text, or the number of a refusal.
+// What writing answers: the length of the text in bytes, or the number of a refusal.
 pub enum Written {
     Length(usize),
     Refused(u32),
@@ -31,7 +32,7 @@ pub enum Loaded {
 }
 
 // The four numbers of an equation.
-pub struct Numbers {
+struct Numbers {
     pub kind: u32,
     pub a: u32,
     pub b: u32,
@@ -40,7 +41,7 @@ pub struct Numbers {
 
 // A form: a text that can follow `fN=` in a line, with the letters A, B and C where numbers stand, and the kind and the
 // numbers that it settles. The first len bytes of its text count.
-pub struct Form {
+struct Form {
     pub settled: Numbers,
     pub len: usize,
     pub text: [u8; 22],
@@ -290,7 +291,7 @@ fn form_at(f: usize) -> Form
     FORMS[f]
 }
 
-// Whether a byte of a form stands for a number.
+// Whether a byte of a form stands for a number: A, B and C are the bytes 65 to 67.
 fn is_letter(x: u8) -> bool
     ensures { λ r. ⌜ r ≡ letter? x ⌝ }
 {
@@ -302,8 +303,8 @@ fn number_of(e: Numbers, x: u8) -> u32
     ensures { λ r. ⌜ r ≡ slot (equationOf e) x ⌝ }
 {
     match x {
-        65 => e.a,
-        66 => e.b,
+        b'A' => e.a,
+        b'B' => e.b,
         _ => e.c,
     }
 }
@@ -313,13 +314,13 @@ fn put_in(e: Numbers, x: u8, v: u32) -> Numbers
     ensures { λ r. ⌜ equationOf r ≡ put (equationOf e) x v ⌝ }
 {
     match x {
-        65 => Numbers {
+        b'A' => Numbers {
             kind: e.kind,
             a: v,
             b: e.b,
             c: e.c,
         },
-        66 => Numbers {
+        b'B' => Numbers {
             kind: e.kind,
             a: e.a,
             b: v,
@@ -356,6 +357,7 @@ fn store(out: &mut [u8], i: usize, x: u8)
     }
 }
 
+// The smaller of two numbers.
 fn least(x: usize, y: usize) -> usize
     ensures { λ r. ⌜ r ≡ cond (leb x y) x y ⌝ }
 {
@@ -367,11 +369,11 @@ fn write_number(x: u32, out: &mut [u8]) -> usize
     ensures { λ r. ⌜ Placed 10 (decimal x) (now (out .entry)) (now (out .exit)) r ⌝ }
 {
     if x < 10 {
-        store(out, 0, 48 + x as u8);
+        store(out, 0, b'0' + x as u8);
         return 1;
     }
     let at = write_number(x / 10, out);
-    store(out, at, 48 + (x % 10) as u8);
+    store(out, at, b'0' + (x % 10) as u8);
     at + 1
 }
 
@@ -457,7 +459,8 @@ fn write_end(e: Numbers, out: &mut [u8]) -> usize
 // The line of equation i, into the unfilled tail of the text.
 fn write_line(table: &[u32], i: usize, out: &mut [u8]) -> usize
     requires { ⌜ (i < equationLimit) × Plain (equationAt (now table) i) ⌝ }
-    ensures { λ r. ⌜ Placed 440 (lineText i (equationAt (now (table .entry)) i)) (now (out .entry)) (now (out .exit)) r ⌝ }
+    ensures { λ r. ⌜ Placed 440 (lineText i (equationAt (now (table .entry)) i))
+        (now (out .entry)) (now (out .exit)) r ⌝ }
 {
     let p = write_form(b"fA=", only(i), out);
     let q = least(p, out.len());
@@ -482,7 +485,8 @@ fn write_lines(table: &[u32], n: usize, out: &mut [u8]) -> usize
 // The text of a table.
 fn write_text(table: &[u32], n: usize, out: &mut [u8]) -> usize
     requires { ⌜ PlainTable (now table) n ⌝ }
-    ensures { λ r. ⌜ Placed (220 + 440 * n + 220) (textOf (now (table .entry)) n) (now (out .entry)) (now (out .exit)) r ⌝ }
+    ensures { λ r. ⌜ Placed (220 + 440 * n + 220) (textOf (now (table .entry)) n)
+        (now (out .entry)) (now (out .exit)) r ⌝ }
 {
     let last = n - 1;
     let p = write_form(b"let\n", only(0), out);
@@ -518,18 +522,19 @@ pub fn write_lustre(table: &[u32], n: usize, text: &mut [u8]) -> Written
 }
 
 // A number that was read, and where it ends.
-pub enum NumberRead {
+enum NumberRead {
     Missing,
     Value { value: u32, next: usize },
 }
 
+// The digits 0 to 9 are the bytes 48 to 57.
 fn is_digit(d: u8) -> bool
     ensures { λ r. ⌜ r ≡ digit? d ⌝ }
 {
     if d < 58 { 47 < d } else { false }
 }
 
-// Whether a digit may follow x.
+// Whether a digit may follow x: no needless 0 stands before it, and nine digits are enough.
 fn has_room(x: u32) -> bool
     ensures { λ r. ⌜ r ≡ room? x ⌝ }
 {
@@ -538,7 +543,7 @@ fn has_room(x: u32) -> bool
 
 // The digits at p, after those of x.
 fn read_further(text: &[u8], x: u32, p: usize) -> NumberRead
-    requires { ⌜ x < 1000000000 ⌝ }
+    requires { ⌜ x < digitLimit ⌝ }
     ensures { λ r. ⌜ numberSeen (now (text .entry)) r ≡ further x (drop p (now (text .entry))) ⌝ }
 {
     let mut value = x;
@@ -551,7 +556,7 @@ fn read_further(text: &[u8], x: u32, p: usize) -> NumberRead
         if !has_room(value) {
             return NumberRead::Missing;
         }
-        value = 10 * value + (d - 48) as u32;
+        value = 10 * value + (d - b'0') as u32;
         next += 1;
     }
     NumberRead::Value { value, next }
@@ -568,11 +573,11 @@ fn read_number(text: &[u8], p: usize) -> NumberRead
     if !is_digit(d) {
         return NumberRead::Missing;
     }
-    read_further(text, (d - 48) as u32, p + 1)
+    read_further(text, (d - b'0') as u32, p + 1)
 }
 
 // Whether a form stands in the text, with which numbers, and where it ends.
-pub enum Scan {
+enum Scan {
     Unlike,
     Found { numbers: Numbers, next: usize },
 }
@@ -604,7 +609,8 @@ fn scan_piece(x: u8, text: &[u8], p: usize, e: Numbers) -> Scan
 
 // A form at p.
 fn scan_form(form: &[u8], text: &[u8], p: usize, e: Numbers) -> Scan
-    ensures { λ r. ⌜ scanSeen (now (text .entry)) r ≡ scan (now (form .entry)) (drop p (now (text .entry))) (equationOf e) ⌝ }
+    ensures { λ r. ⌜ scanSeen (now (text .entry)) r
+        ≡ scan (now (form .entry)) (drop p (now (text .entry))) (equationOf e) ⌝ }
 {
     let mut numbers = e;
     let mut next = p;
@@ -671,7 +677,7 @@ fn store_equation(table: &mut [u32], i: usize, e: Numbers)
 }
 
 // How many equations' lines stand in the text, and where they end.
-pub struct Lines {
+struct Lines {
     pub n: usize,
     pub next: usize,
 }
@@ -696,7 +702,7 @@ fn read_lines(text: &[u8], p: usize, table: &mut [u32]) -> Lines
 }
 
 // The equations that the text proposes, or none.
-pub enum Parsed {
+enum Parsed {
     Not,
     Table(usize),
 }

@@ -23,8 +23,12 @@ loop-holds c =
 loop-again : tie.Need-loop-again Inv-loop μ-loop
 loop-again c =
     let the-loop = c .before .before .loop in
-    let the-args = c .before .before .before .args in
-    (omega arith, rw length-set (the-loop .inv .1), copied-more (the-args .to .now) (the-args .from .now) (the-loop .to) (the-loop .i) (omega arith) (omega arith) (the-loop .inv .2))
+    let the-args = c .before .before .before .args in (
+      omega arith,
+      rw length-set (the-loop .inv .1),
+      copied-more (the-args .to .now) (the-args .from .now) (the-loop .to) (the-loop .i) (omega arith) (omega arith)
+          (the-loop .inv .2),
+    )
 
 same-length : tie.Need-same-length Inv-loop μ-loop
 same-length c =

@@ -33,7 +33,9 @@ unfolding padded forms formAt
 slice-aggregate-scan-form c =
     let the-loop = c .before .before .before .before .before .loop in
     let the-loop-test = c .before .before .before .before .loop-test in
-    sym (length-take-le (formAt (the-loop .f) .len) (formAt (the-loop .f) .text) (form-room (the-loop .f) (the-loop-test .taken)))
+    sym
+    (length-take-le (formAt (the-loop .f) .len) (formAt (the-loop .f) .text)
+    (form-room (the-loop .f) (the-loop-test .taken)))
 
 returns : tie.Need-returns Inv-loop μ-loop
 unfolding padded forms formAt
@@ -43,7 +45,10 @@ returns c =
     let the-s = c .before .s in
     let the-loop-test = c .before .before .before .before .before .before .before .before .loop-test in
     let the-scan-form = c .before .before .before .scan-form in
-    end-found (the-args .text .now) (the-args .p) (the-loop .f) (the-s .given .0 .1 .0) (formAt (the-loop .f)) (equationOf (the-s .given .0 .0)) (the-loop-test .taken) refl (found-told (the-args .text .now) (the-scan-form .result) (the-s .given .0 .0) (the-s .given .0 .1 .0) (the-s .given .1) (the-scan-form .ensures))
+    end-found (the-args .text .now) (the-args .p) (the-loop .f) (the-s .given .0 .1 .0) (formAt (the-loop .f))
+    (equationOf (the-s .given .0 .0)) (the-loop-test .taken) refl
+    (found-told (the-args .text .now) (the-scan-form .result) (the-s .given .0 .0) (the-s .given .0 .1 .0)
+    (the-s .given .1) (the-scan-form .ensures))
 
 loop-again : tie.Need-loop-again Inv-loop μ-loop
 unfolding padded forms formAt
@@ -52,7 +57,8 @@ loop-again c =
     let the-loop = c .before .before .before .before .before .before .before .before .loop in
     let the-scan-form = c .before .before .scan-form in
     let the-enum-told = c .enum-told in
-    none-more (the-args .text .now) (the-args .p) (the-loop .f) (formAt (the-loop .f)) refl (the-loop .inv) (unlike-told (the-args .text .now) (the-scan-form .result) (the-enum-told .given .1) (the-scan-form .ensures))
+    none-more (the-args .text .now) (the-args .p) (the-loop .f) (formAt (the-loop .f)) refl (the-loop .inv)
+    (unlike-told (the-args .text .now) (the-scan-form .result) (the-enum-told .given .1) (the-scan-form .ensures))
 
 returns-2 : tie.Need-returns-2 Inv-loop μ-loop
 returns-2 c =

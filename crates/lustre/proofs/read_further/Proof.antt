@@ -12,7 +12,8 @@ use Rattle.lustre.proofs.read_further.Tie as tie
 
 -- What is left to read after the value is what there was to read after x.
 abbrev Inv-loop : tie.InvT-loop
-Inv-loop text x p value₀ next₀ value next = (further value (drop next text) ≡ further x (drop p text)) × (value < digitLimit)
+Inv-loop text x p value₀ next₀ value next =
+    (further value (drop next text) ≡ further x (drop p text)) × (value < digitLimit)
 
 abbrev μ-loop : tie.MeasureT-loop
 μ-loop text x p value₀ next₀ value next = length text - next
@@ -38,7 +39,9 @@ returns-2 c =
     let the-has-room = c .before .has-room in
     let the-if2 = c .if2 in
     let the-loop = c .before .before .before .before .before .before .loop in
-    further-stuck _ _ _ _ _ (the-loop-test .taken) (the-is-digit .ensures) (the-if1 .left) (the-has-room .ensures) (the-if2 .taken) ∙ the-loop .inv .0
+    further-stuck _ _ _ _ _ (the-loop-test .taken) (the-is-digit .ensures) (the-if1 .left) (the-has-room .ensures)
+    (the-if2 .taken)
+    ∙ the-loop .inv .0
 
 mul-value : tie.Need-mul-value Inv-loop μ-loop
 mul-value c =
@@ -71,7 +74,11 @@ add-value c =
     let the-if1 = c .before .before .if1 in
     let the-has-room = c .before .has-room in
     let the-if2 = c .if2 in
-    omega (arith, digit-told _ (getD (the-args .text .now) (the-loop .next) 0) (the-is-digit .ensures) (the-if1 .left), room-told _ (the-loop .value) (the-has-room .ensures) (the-if2 .left))
+    omega (
+      arith,
+      digit-told _ (getD (the-args .text .now) (the-loop .next) 0) (the-is-digit .ensures) (the-if1 .left),
+      room-told _ (the-loop .value) (the-has-room .ensures) (the-if2 .left),
+    )
 
 loop-again : tie.Need-loop-again Inv-loop μ-loop
 loop-again c =
@@ -83,8 +90,11 @@ loop-again c =
     let the-if2 = c .if2 in
     let the-loop-test = c .before .before .before .before .before .loop-test in
     let d = digit-told _ (getD (the-args .text .now) (the-loop .next) 0) (the-is-digit .ensures) (the-if1 .left) in
-    let r = room-told _ (the-loop .value) (the-has-room .ensures) (the-if2 .left) in
-    (further-goes _ _ _ _ _ (the-loop-test .taken) (the-is-digit .ensures) (the-if1 .left) (the-has-room .ensures) (the-if2 .left) ∙ the-loop .inv .0, omega (arith, d, r))
+    let r = room-told _ (the-loop .value) (the-has-room .ensures) (the-if2 .left) in (
+      further-goes _ _ _ _ _ (the-loop-test .taken) (the-is-digit .ensures) (the-if1 .left) (the-has-room .ensures)
+          (the-if2 .left) ∙ the-loop .inv .0,
+      omega (arith, d, r),
+    )
 
 returns-3 : tie.Need-returns-3 Inv-loop μ-loop
 returns-3 c =

@@ -1,10 +1,10 @@
 -- `lustre::read_line` meets its contract. Assumes nothing.
 use borrow.Author.Needs.{needs}
-use mathlib.Core.Path.{_≡_, _∙_, sym, ap}
+use mathlib.Core.Path.{_≡_, _∙_, ap}
 use lib.ListN.{drop}
 use Rattle.lists.specs.Text.{bytes}
 use Rattle.lustre.specs.Form.{equationOf}
-use Rattle.lustre.specs.Inner.{unlike, scanned, scan}
+use Rattle.lustre.specs.Inner.{scanned, scan}
 use Rattle.lustre.proofs.Reading.{found-told, unlike-told}
 use Rattle.lustre.proofs.Lined.{own, line-absent, line-other, end-told}
 use Rattle.lustre.proofs.read_line.Statement.{statement}
@@ -13,13 +13,16 @@ use Rattle.lustre.proofs.read_line.Tie as tie
 begun : (c : tie.After-known-told) →
     let the-s = c .before .s in
     let the-args = c .before .before .before .before .before .before .before .args in
-    scanned (equationOf (the-s .given .0 .0)) (drop (the-s .given .0 .1 .0) (the-args .text .now)) ≡ scan (bytes "fA=") (drop (the-args .p) (the-args .text .now)) (own 0)
+    scanned (equationOf (the-s .given .0 .0)) (drop (the-s .given .0 .1 .0) (the-args .text .now))
+    ≡ scan (bytes "fA=") (drop (the-args .p) (the-args .text .now)) (own 0)
 begun c =
     let the-args = c .before .before .before .before .before .before .before .args in
     let the-scan-form = c .before .before .before .scan-form in
     let the-s = c .before .s in
     let the-only = c .before .before .before .before .only in
-    found-told (the-args .text .now) (the-scan-form .result) (the-s .given .0 .0) (the-s .given .0 .1 .0) (the-s .given .1) (the-scan-form .ensures) ∙ ap (scan (bytes "fA=") (drop (the-args .p) (the-args .text .now))) (the-only .ensures)
+    found-told (the-args .text .now) (the-scan-form .result) (the-s .given .0 .0) (the-s .given .0 .1 .0)
+    (the-s .given .1) (the-scan-form .ensures)
+    ∙ ap (scan (bytes "fA=") (drop (the-args .p) (the-args .text .now))) (the-only .ensures)
 
 returns : tie.Need-returns
 returns c =
@@ -28,7 +31,9 @@ returns c =
     let the-scan-form = c .before .before .scan-form in
     let the-enum-told = c .enum-told in
     let the-only = c .before .before .before .only in
-    line-absent (the-args .text .now) (the-args .p) (the-args .i) (the-pre) (unlike-told (the-args .text .now) (the-scan-form .result) (the-enum-told .given .1) (the-scan-form .ensures) ∙ ap (scan (bytes "fA=") (drop (the-args .p) (the-args .text .now))) (the-only .ensures))
+    line-absent (the-args .text .now) (the-args .p) (the-args .i) (the-pre)
+    (unlike-told (the-args .text .now) (the-scan-form .result) (the-enum-told .given .1) (the-scan-form .ensures)
+    ∙ ap (scan (bytes "fA=") (drop (the-args .p) (the-args .text .now))) (the-only .ensures))
 
 returns-2 : tie.Need-returns-2
 returns-2 c =
@@ -37,7 +42,8 @@ returns-2 c =
     let the-pre = c .before .before .before .before .before .before .before .before .before .pre in
     let the-s = c .before .before .before .s in
     let the-if1 = c .if1 in
-    line-other (the-args .text .now) (the-args .p) (the-args .i) (the-pre) (equationOf (the-s .given .0 .0)) (the-s .given .0 .1 .0) (begun at-after-known-told) (the-if1 .taken)
+    line-other (the-args .text .now) (the-args .p) (the-args .i) (the-pre) (equationOf (the-s .given .0 .0))
+    (the-s .given .0 .1 .0) (begun at-after-known-told) (the-if1 .taken)
 
 returns-3 : tie.Need-returns-3
 returns-3 c =
@@ -47,7 +53,8 @@ returns-3 c =
     let the-s = c .before .before .before .before .s in
     let the-read-end = c .read-end in
     let the-if1 = c .before .if1 in
-    end-told (the-args .text .now) (the-args .p) (the-args .i) (the-pre) (equationOf (the-s .given .0 .0)) (the-s .given .0 .1 .0) (the-read-end .result) (begun at-after-known-told) (the-if1 .left) (the-read-end .ensures)
+    end-told (the-args .text .now) (the-args .p) (the-args .i) (the-pre) (equationOf (the-s .given .0 .0))
+    (the-s .given .0 .1 .0) (the-read-end .result) (begun at-after-known-told) (the-if1 .left) (the-read-end .ensures)
 
 pub read-line-spec : {M : Type 1} → statement M
 read-line-spec =

@@ -1,12 +1,13 @@
 -- `lustre::read_lines` meets its contract. Assumes nothing.
 use borrow.Author.Needs.{needs}
 use mathlib.Core.Path.{_≡_, refl, _∙_, ap}
-use Prim.Native.Nat.{_≤_, _-_}
+use Prim.Native.Nat.{_-_}
 use native.Mathlib.Omega.{arith}
 use lib.ListN.{length}
 use Rattle.tables.specs.Table.{equationLimit}
 use Rattle.lustre.specs.Inner.{LinesAt}
-use Rattle.lustre.proofs.Lined.{line-told, no-line-told, stored-length, lines-none, lines-next, lines-stop, lines-full}
+use Rattle.lustre.proofs.Lined.{line-told, no-line-told, stored-length}
+use Rattle.lustre.proofs.Lined.{lines-none, lines-next, lines-stop, lines-full}
 use Rattle.lustre.proofs.read_lines.Statement.{statement}
 use Rattle.lustre.proofs.read_lines.Tie as tie
 
@@ -31,7 +32,9 @@ returns c =
     let the-args = c .before .before .before .before .before .before .before .args in
     let the-read-line = c .before .before .read-line in
     let the-enum-told = c .enum-told in
-    lines-stop (the-loop .inv .1) (no-line-told (the-args .text .now) (the-loop .next) (the-loop .i) (the-read-line .result) (the-enum-told .given .1) (the-read-line .ensures))
+    lines-stop (the-loop .inv .1)
+    (no-line-told (the-args .text .now) (the-loop .next) (the-loop .i) (the-read-line .result)
+    (the-enum-told .given .1) (the-read-line .ensures))
 
 store-equation-requires : tie.Need-store-equation-requires Inv-loop μ-loop
 store-equation-requires c κs =
@@ -42,15 +45,23 @@ store-equation-requires c κs =
 
 loop-again : tie.Need-loop-again Inv-loop μ-loop
 loop-again c =
-    let the-args = c .before .before .before .before .before .before .before .before .before .before .before .before .args in
+    let the-args =
+    c .before .before .before .before .before .before .before .before .before .before .before .before .args in
     let the-loop = c .before .before .before .before .before .before .before .before .before .loop in
     let the-s = c .before .before .before .before .before .s in
     let the-read-line = c .before .before .before .before .before .before .before .read-line in
     let the-store-equation = c .before .before .store-equation in
     let the-loop-test = c .before .before .before .before .before .before .before .before .loop-test in
-    let the-pre = c .before .before .before .before .before .before .before .before .before .before .before .before .pre in
-    let found = line-told (the-args .text .now) (the-loop .next) (the-loop .i) (the-s .given .0 .1 .0) (the-s .given .0 .0) (the-read-line .result) (the-s .given .1) (the-read-line .ensures) in
-    (ap length (the-store-equation .ensures) ∙ stored-length (the-loop .table) (the-loop .i) (the-s .given .0 .0) ∙ the-loop .inv .0, lines-next _ (the-s .given .0 .0) (the-loop .inv .1) found (the-loop-test .taken) (omega (arith, the-loop .inv .0, the-pre)) (the-store-equation .ensures))
+    let the-pre =
+    c .before .before .before .before .before .before .before .before .before .before .before .before .pre in
+    let found =
+    line-told (the-args .text .now) (the-loop .next) (the-loop .i) (the-s .given .0 .1 .0) (the-s .given .0 .0)
+    (the-read-line .result) (the-s .given .1) (the-read-line .ensures) in
+    let stored = stored-length (the-loop .table) (the-loop .i) (the-s .given .0 .0) in (
+      ap length (the-store-equation .ensures) ∙ stored ∙ the-loop .inv .0,
+      lines-next _ (the-s .given .0 .0) (the-loop .inv .1) found (the-loop-test .taken)
+          (omega (arith, the-loop .inv .0, the-pre)) (the-store-equation .ensures),
+    )
 
 same-length-2 : tie.Need-same-length-2 Inv-loop μ-loop
 same-length-2 c =

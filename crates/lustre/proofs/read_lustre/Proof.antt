@@ -16,14 +16,17 @@ writes c =
     let the-args = c .before .before .before .before .before .before .before .before .args in
     let the-read-table = c .before .before .before .before .read-table in
     let the-found = c .before .found in
-    some-read (the-args .text .now) (the-read-table .last .1 .0) (the-read-table .result) (the-found .given .0 .0) (the-found .given .1) (the-read-table .ensures)
+    some-read (the-args .text .now) (the-read-table .last .1 .0) (the-read-table .result) (the-found .given .0 .0)
+    (the-found .given .1) (the-read-table .ensures)
 
 returns : tie.Need-returns
 returns c =
     let the-args = c .before .before .before .before .before .before .before .args in
     let the-read-table = c .before .before .before .read-table in
     let the-enum-told = c .enum-told in
-    unread (none-read (the-args .text .now) (the-read-table .last .1 .0) (the-read-table .result) (the-enum-told .given .1) (the-read-table .ensures))
+    unread
+    (none-read (the-args .text .now) (the-read-table .last .1 .0) (the-read-table .result) (the-enum-told .given .1)
+    (the-read-table .ensures))
 
 returns-2 : tie.Need-returns-2
 returns-2 c =
@@ -45,7 +48,9 @@ copy-requires c κs =
 returns-3 : tie.Need-returns-3
 returns-3 c =
     let at-after-known-told = c .before .before .before .before .before .before in
-    let the-args = c .before .before .before .before .before .before .before .before .before .before .before .before .before .before .args in
+    let the-args =
+    c .before .before .before .before .before .before .before .before .before .before .before .before .before
+    .before .args in
     let the-if1 = c .before .before .before .before .before .if1 in
     let the-copy = c .before .before .copy in
     copied (the-args .table .now) _ (writes at-after-known-told) (the-if1 .left) (the-copy .ensures)

@@ -1,6 +1,6 @@
 -- `lustre::read_table` meets its contract. Assumes nothing.
 use borrow.Author.Needs.{needs}
-use mathlib.Core.Path.{_≡_, sym, _∙_}
+use mathlib.Core.Path.{sym, _∙_}
 use native.Mathlib.Omega.{arith}
 use Rattle.lustre.specs.Inner.{Proposed}
 use Rattle.lustre.proofs.Answers.{none-parsed, some-parsed, ill-formed, well-formed}
@@ -17,21 +17,24 @@ proposed c =
     let the-args = c .before .before .before .before .before .before .before .before .before .args in
     let the-parse = c .before .before .before .before .before .parse in
     let the-parsed = c .before .parsed in
-    some-parsed (the-args .text .now) (the-parse .last .1 .0) (the-parse .result) (the-parsed .given .0 .0) (the-parsed .given .1) (the-parse .ensures)
+    some-parsed (the-args .text .now) (the-parse .last .1 .0) (the-parse .result) (the-parsed .given .0 .0)
+    (the-parsed .given .1) (the-parse .ensures)
 
 returns : tie.Need-returns
 returns c =
     let the-args = c .before .before .before .before .before .before .before .before .args in
     let the-parse = c .before .before .before .before .parse in
     let the-enum-told = c .enum-told in
-    none-parsed (the-args .text .now) (the-parse .last .1 .0) (the-parse .result) (the-enum-told .given .1) (the-parse .ensures)
+    none-parsed (the-args .text .now) (the-parse .last .1 .0) (the-parse .result) (the-enum-told .given .1)
+    (the-parse .ensures)
 
 returns-2 : tie.Need-returns-2
 returns-2 c =
     let at-after-known-told = c .before .before .before .before in
     let the-enum-told3 = c .enum-told3 in
     let the-check-table = c .before .before .check-table in
-    ill-formed (the-enum-told3 .given .0 .0) (proposed at-after-known-told) (omega arith) (sym (the-enum-told3 .given .1) ∙ the-check-table .ensures)
+    ill-formed (the-enum-told3 .given .0 .0) (proposed at-after-known-told) (omega arith)
+    (sym (the-enum-told3 .given .1) ∙ the-check-table .ensures)
 
 returns-3 : tie.Need-returns-3
 returns-3 c =

@@ -28,7 +28,10 @@ returns c =
     let the-loop-test = c .before .before .before .before .loop-test in
     let the-scan-piece = c .before .before .scan-piece in
     let the-enum-told = c .enum-told in
-    scan-stuck (the-args .form .now) (the-args .text .now) (the-loop .j) (the-loop .next) (equationOf (the-loop .numbers)) (the-loop-test .taken) (unlike-told (the-args .text .now) (the-scan-piece .result) (the-enum-told .given .1) (the-scan-piece .ensures)) ∙ the-loop .inv
+    scan-stuck (the-args .form .now) (the-args .text .now) (the-loop .j) (the-loop .next)
+    (equationOf (the-loop .numbers)) (the-loop-test .taken)
+    (unlike-told (the-args .text .now) (the-scan-piece .result) (the-enum-told .given .1) (the-scan-piece .ensures))
+    ∙ the-loop .inv
 
 loop-again : tie.Need-loop-again Inv-loop μ-loop
 loop-again c =
@@ -37,14 +40,20 @@ loop-again c =
     let the-m = c .before .m in
     let the-loop-test = c .before .before .before .before .before .loop-test in
     let the-scan-piece = c .before .before .before .scan-piece in
-    scan-goes (the-args .form .now) (the-args .text .now) (the-loop .j) (the-loop .next) (equationOf (the-loop .numbers)) (the-m .given .0 .1 .0) (equationOf (the-m .given .0 .0)) (the-loop-test .taken) (found-told (the-args .text .now) (the-scan-piece .result) (the-m .given .0 .0) (the-m .given .0 .1 .0) (the-m .given .1) (the-scan-piece .ensures)) ∙ the-loop .inv
+    scan-goes (the-args .form .now) (the-args .text .now) (the-loop .j) (the-loop .next)
+    (equationOf (the-loop .numbers)) (the-m .given .0 .1 .0) (equationOf (the-m .given .0 .0)) (the-loop-test .taken)
+    (found-told (the-args .text .now) (the-scan-piece .result) (the-m .given .0 .0) (the-m .given .0 .1 .0)
+    (the-m .given .1) (the-scan-piece .ensures))
+    ∙ the-loop .inv
 
 returns-2 : tie.Need-returns-2 Inv-loop μ-loop
 returns-2 c =
     let the-args = c .before .before .before .before .args in
     let the-loop = c .before .loop in
     let the-loop-test = c .loop-test in
-    scan-ends (the-args .form .now) (the-args .text .now) (the-loop .j) (the-loop .next) (equationOf (the-loop .numbers)) (the-loop-test .left) ∙ the-loop .inv
+    scan-ends (the-args .form .now) (the-args .text .now) (the-loop .j) (the-loop .next)
+    (equationOf (the-loop .numbers)) (the-loop-test .left)
+    ∙ the-loop .inv
 
 pub scan-form-spec : {M : Type 1} → statement M
 scan-form-spec =

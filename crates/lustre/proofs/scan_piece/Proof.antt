@@ -13,7 +13,9 @@ returns c =
     let the-if1 = c .before .before .before .if1 in
     let the-read-number = c .before .before .read-number in
     let the-enum-told = c .enum-told in
-    piece-missing (the-args .x) (the-args .text .now) (the-args .p) (equationOf (the-args .e)) _ (the-is-letter .ensures) (the-if1 .taken) (missing-told (the-args .text .now) (the-read-number .result) (the-enum-told .given .1) (the-read-number .ensures))
+    piece-missing (the-args .x) (the-args .text .now) (the-args .p) (equationOf (the-args .e)) _
+    (the-is-letter .ensures) (the-if1 .taken)
+    (missing-told (the-args .text .now) (the-read-number .result) (the-enum-told .given .1) (the-read-number .ensures))
 
 returns-2 : tie.Need-returns-2
 returns-2 c =
@@ -23,7 +25,10 @@ returns-2 c =
     let the-if1 = c .before .before .before .before .before .if1 in
     let the-read-number = c .before .before .before .before .read-number in
     let the-put-in = c .put-in in
-    piece-number (the-args .x) (the-args .text .now) (the-args .p) (equationOf (the-args .e)) _ (the-value .given .0 .0) (the-value .given .0 .1 .0) _ (the-is-letter .ensures) (the-if1 .taken) (value-told (the-args .text .now) (the-read-number .result) (the-value .given .0 .0) (the-value .given .0 .1 .0) (the-value .given .1) (the-read-number .ensures)) (the-put-in .ensures)
+    piece-number (the-args .x) (the-args .text .now) (the-args .p) (equationOf (the-args .e)) _
+    (the-value .given .0 .0) (the-value .given .0 .1 .0) _ (the-is-letter .ensures) (the-if1 .taken)
+    (value-told (the-args .text .now) (the-read-number .result) (the-value .given .0 .0) (the-value .given .0 .1 .0)
+    (the-value .given .1) (the-read-number .ensures)) (the-put-in .ensures)
 
 returns-3 : tie.Need-returns-3
 returns-3 c =
@@ -31,7 +36,8 @@ returns-3 c =
     let the-is-letter = c .before .before .is-letter in
     let the-if1 = c .before .if1 in
     let the-if2 = c .if2 in
-    piece-end (the-args .x) (the-args .text .now) (the-args .p) (equationOf (the-args .e)) _ (the-is-letter .ensures) (the-if1 .left) (the-if2 .taken)
+    piece-end (the-args .x) (the-args .text .now) (the-args .p) (equationOf (the-args .e)) _ (the-is-letter .ensures)
+    (the-if1 .left) (the-if2 .taken)
 
 returns-4 : tie.Need-returns-4
 returns-4 c =
@@ -40,7 +46,8 @@ returns-4 c =
     let the-if1 = c .before .before .before .if1 in
     let the-if2 = c .before .before .if2 in
     let the-if3 = c .if3 in
-    piece-other (the-args .x) (the-args .text .now) (the-args .p) (equationOf (the-args .e)) _ (the-is-letter .ensures) (the-if1 .left) (the-if2 .left) (the-if3 .taken)
+    piece-other (the-args .x) (the-args .text .now) (the-args .p) (equationOf (the-args .e)) _
+    (the-is-letter .ensures) (the-if1 .left) (the-if2 .left) (the-if3 .taken)
 
 returns-5 : tie.Need-returns-5
 returns-5 c =
@@ -49,7 +56,8 @@ returns-5 c =
     let the-if1 = c .before .before .before .if1 in
     let the-if2 = c .before .before .if2 in
     let the-if3 = c .if3 in
-    piece-same (the-args .x) (the-args .text .now) (the-args .p) (equationOf (the-args .e)) _ (the-is-letter .ensures) (the-if1 .left) (the-if2 .left) (the-if3 .left)
+    piece-same (the-args .x) (the-args .text .now) (the-args .p) (equationOf (the-args .e)) _ (the-is-letter .ensures)
+    (the-if1 .left) (the-if2 .left) (the-if3 .left)
 
 pub scan-piece-spec : {M : Type 1} → statement M
 scan-piece-spec =

@@ -19,7 +19,8 @@ slice-write-table-4 c = simp length-set (omega arith)
 returns : tie.Need-returns
 returns c =
     let the-args = c .args in
-    sets-four (the-args .table .now) (4 * the-args .i) (the-args .e .kind) (the-args .e .a) (the-args .e .b) (the-args .e .c)
+    sets-four (the-args .table .now) (4 * the-args .i) (the-args .e .kind) (the-args .e .a) (the-args .e .b)
+    (the-args .e .c)
 
 pub store-equation-spec : {M : Type 1} → statement M
 store-equation-spec =

@@ -1,6 +1,6 @@
 -- `lustre::write_end` meets its contract. Assumes nothing.
 use borrow.Author.Needs.{needs}
-use mathlib.Core.Path.{_≡_, refl, sym}
+use mathlib.Core.Path.{refl, sym}
 use Prim.Native.Nat.{_≤_}
 use lib.ListN.{length}
 use lib.Seq.{length-take-le}
@@ -18,7 +18,8 @@ room c =
     let the-form-of = c .before .form-of in
     let the-form-at = c .form-at in
     let the-pre = c .before .before .before .pre in
-    fetched-room (equationOf (the-args .e)) (the-form-of .result) (the-form-at .result) (the-pre) (the-form-of .ensures) (the-form-at .ensures)
+    fetched-room (equationOf (the-args .e)) (the-form-of .result) (the-form-at .result) (the-pre)
+    (the-form-of .ensures) (the-form-at .ensures)
 
 form-at-requires : tie.Need-form-at-requires
 form-at-requires c κs =
@@ -45,7 +46,9 @@ write-form-requires c κs =
     let the-args = c .before .before .before .before .before .before .args in
     let the-form-of = c .before .before .before .before .form-of in
     let the-pre = c .before .before .before .before .before .before .pre in
-    rw (length-take-le (the-form-at .result .len) (the-form-at .result .text) (room at-after-form-at)) (fetched-short (equationOf (the-args .e)) (the-form-of .result) (the-form-at .result) (the-pre) (the-form-of .ensures) (the-form-at .ensures))
+    rw (length-take-le (the-form-at .result .len) (the-form-at .result .text) (room at-after-form-at))
+    (fetched-short (equationOf (the-args .e)) (the-form-of .result) (the-form-at .result) (the-pre)
+    (the-form-of .ensures) (the-form-at .ensures))
 
 returns : tie.Need-returns
 returns c =
@@ -54,7 +57,9 @@ returns c =
     let the-form-at = c .before .before .before .before .before .before .form-at in
     let the-pre = c .before .before .before .before .before .before .before .before .before .pre in
     let the-write-form = c .before .before .write-form in
-    placed-as (fetched-text (equationOf (the-args .e)) (the-form-of .result) (the-form-at .result) (the-pre) (the-form-of .ensures) (the-form-at .ensures)) (the-write-form .ensures)
+    placed-as
+    (fetched-text (equationOf (the-args .e)) (the-form-of .result) (the-form-at .result) (the-pre)
+    (the-form-of .ensures) (the-form-at .ensures)) (the-write-form .ensures)
 
 pub write-end-spec : {M : Type 1} → statement M
 write-end-spec =

@@ -44,8 +44,10 @@ loop-again c =
     let the-loop = c .before .before .before .before .before .before .before .loop in
     let the-loop-test = c .before .before .before .before .before .before .loop-test in
     let the-least = c .before .before .before .before .before .least in
-    let the-write-piece = c .before .before .write-piece in
-    (omega arith, form-more _ _ _ _ (the-loop .inv .1) (the-loop-test .taken) refl (the-least .ensures) (the-write-piece .ensures))
+    let the-write-piece = c .before .before .write-piece in (
+      omega arith,
+      form-more _ _ _ _ (the-loop .inv .1) (the-loop-test .taken) refl (the-least .ensures) (the-write-piece .ensures),
+    )
 
 same-length : tie.Need-same-length Inv-loop μ-loop
 same-length c =

@@ -2,7 +2,7 @@
 use borrow.Author.Needs.{needs}
 use native.Mathlib.Omega.{arith}
 use Rattle.tables.specs.Table.{equationAt}
-use Rattle.lustre.specs.Form.{equationOf, Plain}
+use Rattle.lustre.specs.Form.{equationOf}
 use Rattle.lustre.proofs.Placing.{cut-least}
 use Rattle.lustre.proofs.Whole.{line-placed}
 use Rattle.lustre.proofs.write_line.Statement.{statement}
@@ -42,13 +42,17 @@ add-result c =
 
 returns : tie.Need-returns
 returns c =
-    let the-args = c .before .before .before .before .before .before .before .before .before .before .before .before .before .before .args in
+    let the-args =
+    c .before .before .before .before .before .before .before .before .before .before .before .before .before
+    .before .args in
     let the-least = c .before .before .before .before .before .least in
     let the-only = c .before .before .before .before .before .before .before .before .before .before .only in
     let the-equation-at = c .before .before .before .before .equation-at in
     let the-write-form = c .before .before .before .before .before .before .before .before .write-form in
     let the-write-end = c .before .before .write-end in
-    line-placed (the-args .i) (the-least .result) (equationOf (the-only .result)) (equationOf (the-equation-at .result)) (equationAt (the-args .table .now) (the-args .i)) (the-only .ensures) (the-equation-at .ensures) (the-write-form .ensures) (the-least .ensures) (the-write-end .ensures)
+    line-placed (the-args .i) (the-least .result) (equationOf (the-only .result))
+    (equationOf (the-equation-at .result)) (equationAt (the-args .table .now) (the-args .i)) (the-only .ensures)
+    (the-equation-at .ensures) (the-write-form .ensures) (the-least .ensures) (the-write-end .ensures)
 
 pub write-line-spec : {M : Type 1} → statement M
 write-line-spec =

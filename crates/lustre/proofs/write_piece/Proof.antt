@@ -13,7 +13,8 @@ returns c =
     let the-if1 = c .before .before .before .before .before .if1 in
     let the-number-of = c .before .before .before .before .number-of in
     let the-write-number = c .before .before .write-number in
-    piece-letter (equationOf (the-args .e)) (the-args .x) _ (sym (the-is-letter .ensures) ∙ the-if1 .taken) (the-number-of .ensures) (the-write-number .ensures)
+    piece-letter (equationOf (the-args .e)) (the-args .x) _ (sym (the-is-letter .ensures) ∙ the-if1 .taken)
+    (the-number-of .ensures) (the-write-number .ensures)
 
 returns-2 : tie.Need-returns-2
 returns-2 c =
@@ -21,7 +22,8 @@ returns-2 c =
     let the-is-letter = c .before .before .before .before .before .is-letter in
     let the-if1 = c .before .before .before .before .if1 in
     let the-store = c .before .before .store in
-    piece-byte (equationOf (the-args .e)) (the-args .x) _ _ (sym (the-is-letter .ensures) ∙ the-if1 .left) (the-store .ensures)
+    piece-byte (equationOf (the-args .e)) (the-args .x) _ _ (sym (the-is-letter .ensures) ∙ the-if1 .left)
+    (the-store .ensures)
 
 pub write-piece-spec : {M : Type 1} → statement M
 write-piece-spec =

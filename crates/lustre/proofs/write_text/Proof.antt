@@ -26,12 +26,16 @@ add-s : tie.Need-add-s
 add-s c =
     let the-write-form = c .before .before .before .before .before .before .before .write-form in
     let the-write-lines = c .before .before .write-lines in
-    let the-pre = c .before .before .before .before .before .before .before .before .before .before .before .before .before .pre in
+    let the-pre =
+    c .before .before .before .before .before .before .before .before .before .before .before .before .before
+    .pre in
     omega (arith, the-write-form .ensures .short, the-write-lines .ensures .short, the-pre .few)
 
 only-requires-2 : tie.Need-only-requires-2
 only-requires-2 c κs =
-    let the-pre = c .before .before .before .before .before .before .before .before .before .before .before .before .before .before .before .pre in
+    let the-pre =
+    c .before .before .before .before .before .before .before .before .before .before .before .before .before
+    .before .before .pre in
     omega (arith, the-pre .some, the-pre .few)
 
 sub-write-form : tie.Need-sub-write-form
@@ -46,22 +50,38 @@ part-write-form-start c =
 
 add-result : tie.Need-add-result
 add-result c =
-    let the-write-form = c .before .before .before .before .before .before .before .before .before .before .before .before .before .before .write-form in
+    let the-write-form =
+    c .before .before .before .before .before .before .before .before .before .before .before .before .before
+    .before .write-form in
     let the-write-lines = c .before .before .before .before .before .before .before .before .before .write-lines in
     let the-write-form2 = c .before .before .write-form2 in
-    let the-pre = c .before .before .before .before .before .before .before .before .before .before .before .before .before .before .before .before .before .before .before .before .pre in
-    omega (arith, the-write-form .ensures .short, the-write-lines .ensures .short, the-write-form2 .ensures .short, the-pre .few)
+    let the-pre =
+    c .before .before .before .before .before .before .before .before .before .before .before .before .before
+    .before .before .before .before .before .before .before .pre in
+    omega (
+      arith,
+      the-write-form .ensures .short,
+      the-write-lines .ensures .short,
+      the-write-form2 .ensures .short,
+      the-pre .few,
+    )
 
 returns : tie.Need-returns
 returns c =
-    let the-only = c .before .before .before .before .before .before .before .before .before .before .before .before .before .before .before .before .only in
+    let the-only =
+    c .before .before .before .before .before .before .before .before .before .before .before .before .before
+    .before .before .before .only in
     let the-only2 = c .before .before .before .before .only2 in
-    let the-write-form = c .before .before .before .before .before .before .before .before .before .before .before .before .before .before .write-form in
+    let the-write-form =
+    c .before .before .before .before .before .before .before .before .before .before .before .before .before
+    .before .write-form in
     let the-least = c .before .before .before .before .before .before .before .before .before .before .before .least in
     let the-write-lines = c .before .before .before .before .before .before .before .before .before .write-lines in
     let the-least2 = c .before .before .before .before .before .before .least2 in
     let the-write-form2 = c .before .before .write-form2 in
-    text-placed _ _ _ _ (equationOf (the-only .result)) (equationOf (the-only2 .result)) (the-write-form .ensures) (the-least .ensures) (the-write-lines .ensures) (the-least2 .ensures) (the-only2 .ensures) (the-write-form2 .ensures)
+    text-placed _ _ _ _ (equationOf (the-only .result)) (equationOf (the-only2 .result)) (the-write-form .ensures)
+    (the-least .ensures) (the-write-lines .ensures) (the-least2 .ensures) (the-only2 .ensures)
+    (the-write-form2 .ensures)
 
 pub write-text-spec : {M : Type 1} → statement M
 write-text-spec =

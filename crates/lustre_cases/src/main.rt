@@ -1,0 +1,354 @@
+// Cases of writing and reading Lustre text. Each prints a line; what it must print is written from document 01.
+use libc::STDOUT_FILENO;
+use lustre::Loaded;
+use lustre::Written;
+use lustre::read_lustre;
+use lustre::write_lustre;
+
+fn say(text: &[u8]) {
+    io::write_all(STDOUT_FILENO, text);
+}
+
+fn say_number(x: usize) {
+    io::print_decimal(STDOUT_FILENO, x as u64);
+}
+
+// Whether a begins with the first k numbers of b.
+fn same_numbers(a: &[u32], b: &[u32], k: usize) -> bool {
+    let mut i = 0;
+    while i < k {
+        if a.len() <= i {
+            return false;
+        }
+        if b.len() <= i {
+            return false;
+        }
+        if a[i] != b[i] {
+            return false;
+        }
+        i += 1;
+    }
+    true
+}
+
+// Whether each number from k on is 7, as in a table that nobody has written.
+fn fresh_numbers(a: &[u32], k: usize) -> bool {
+    let mut i = k;
+    while i < a.len() {
+        if a[i] != 7 {
+            return false;
+        }
+        i += 1;
+    }
+    true
+}
+
+// Whether each byte from k on is 33, as in a buffer that nobody has written.
+fn fresh_bytes(a: &[u8], k: usize) -> bool {
+    let mut i = k;
+    while i < a.len() {
+        if a[i] != 33 {
+            return false;
+        }
+        i += 1;
+    }
+    true
+}
+
+fn say_kept(kept: bool) {
+    if kept {
+        say(b", rest kept\n");
+    } else {
+        say(b", rest CHANGED\n");
+    }
+}
+
+// Reads the text into a table whose numbers are all 7.
+fn reads_into(name: &[u8], text: &[u8], table: &mut [u32]) {
+    say(name);
+    let loaded = read_lustre(text, table);
+    match loaded {
+        Loaded::Equations(n) => {
+            say(b": equations=");
+            say_number(n);
+            if n <= 4096 {
+                say_kept(fresh_numbers(table, 4 * n));
+            }
+        },
+        Loaded::Refused(r) => {
+            say(b": refused=");
+            say_number(r as usize);
+            say_kept(fresh_numbers(table, 0));
+        },
+    }
+}
+
+fn reads(name: &[u8], text: &[u8]) {
+    let mut table = [7u32; 16384];
+    reads_into(name, text, &mut table);
+}
+
+// Compares what was written with the text, and what it is read back as with the table.
+fn compare(table: &[u32], n: usize, bytes: &[u8], text: &[u8]) {
+    if check::same(bytes, text) {
+        say(b", text as expected");
+    } else {
+        say(b", text OTHERWISE");
+    }
+    let mut back = [7u32; 16384];
+    let loaded = read_lustre(bytes, &mut back);
+    let Loaded::Equations(m) = loaded else {
+        say(b", read REFUSED");
+        return;
+    };
+    say(b", read equations=");
+    say_number(m);
+    if n <= 4096 {
+        if same_numbers(&back, table, 4 * n) {
+            say(b", numbers the same");
+        } else {
+            say(b", numbers OTHERS");
+        }
+    }
+}
+
+// Writes the table to a buffer whose bytes are all 33.
+fn writes_into(name: &[u8], table: &[u32], n: usize, buffer: &mut [u8], text: &[u8]) {
+    say(name);
+    let written = write_lustre(table, n, buffer);
+    match written {
+        Written::Length(l) => {
+            say(b": length=");
+            say_number(l);
+            if l <= buffer.len() {
+                compare(table, n, &buffer[..l], text);
+                say_kept(fresh_bytes(buffer, l));
+            }
+        },
+        Written::Refused(r) => {
+            say(b": refused=");
+            say_number(r as usize);
+            say_kept(fresh_bytes(buffer, 0));
+        },
+    }
+}
+
+fn writes(name: &[u8], table: &[u32], n: usize, text: &[u8]) {
+    let mut buffer = [33u8; 128];
+    writes_into(name, table, n, &mut buffer, text);
+}
+
+// Kinds 0 to 2, with both constants.
+fn leaves() {
+    writes(b"signal", &[0, 63, 0, 0], 1, b"let\nf0=s63;\na=f0;\ntel\n");
+    writes(b"start", &[1, 0, 0, 0], 1, b"let\nf0=b;\na=f0;\ntel\n");
+    writes(b"false", &[2, 0, 0, 0], 1, b"let\nf0=false;\na=f0;\ntel\n");
+    writes(b"true", &[2, 1, 0, 0], 1, b"let\nf0=true;\na=f0;\ntel\n");
+}
+
+// Kinds 3 to 5.
+fn connectives() {
+    writes(
+        b"not",
+        &[1, 0, 0, 0, 3, 0, 0, 0],
+        2,
+        b"let\nf0=b;\nf1=not f0;\na=f1;\ntel\n",
+    );
+    writes(
+        b"and",
+        &[0, 5, 0, 0, 1, 0, 0, 0, 4, 0, 1, 0],
+        3,
+        b"let\nf0=s5;\nf1=b;\nf2=f0 and f1;\na=f2;\ntel\n",
+    );
+    writes(
+        b"or",
+        &[0, 0, 0, 0, 1, 0, 0, 0, 5, 1, 0, 0],
+        3,
+        b"let\nf0=s0;\nf1=b;\nf2=f1 or f0;\na=f2;\ntel\n",
+    );
+}
+
+// Kinds 6 to 9.
+fn memories() {
+    writes(
+        b"false before",
+        &[6, 1, 0, 0, 1, 0, 0, 0],
+        2,
+        b"let\nf0=false->pre(f1);\nf1=b;\na=f1;\ntel\n",
+    );
+    writes(
+        b"true before",
+        &[6, 0, 0, 1],
+        1,
+        b"let\nf0=true->pre(f0);\na=f0;\ntel\n",
+    );
+    writes(
+        b"counts",
+        &[1, 0, 0, 0, 7, 2, 0, 0, 8, 1, 0, 0, 9, 0, 2, 0, 10, 3, 0, 12],
+        5,
+        b"let\nf0=b;\nf1=0->pre(f2);\nf2=cap(f1,f0);\nf3=if f0 then f2 else 0;\nf4=f3<=12;\na=f4;\ntel\n",
+    );
+}
+
+// Kind 10, with each operator.
+fn literals() {
+    writes(
+        b"literals, op 0 to 2",
+        &[7, 0, 0, 0, 10, 0, 0, 0, 10, 0, 1, 999999, 10, 0, 2, 10],
+        4,
+        b"let\nf0=0->pre(f0);\nf1=f0<=0;\nf2=f0<999999;\nf3=f0=10;\na=f3;\ntel\n",
+    );
+    writes(
+        b"literals, op 3 and 4",
+        &[7, 0, 0, 0, 10, 0, 3, 7, 10, 0, 4, 100],
+        3,
+        b"let\nf0=0->pre(f0);\nf1=f0>7;\nf2=f0>=100;\na=f2;\ntel\n",
+    );
+}
+
+// Kind 11, with each operator.
+fn parameters() {
+    writes(
+        b"parameters, op 0 to 2",
+        &[7, 0, 0, 0, 11, 0, 0, 0, 11, 0, 1, 3, 11, 0, 2, 7],
+        4,
+        b"let\nf0=0->pre(f0);\nf1=f0<=k0;\nf2=f0<k3;\nf3=f0=k7;\na=f3;\ntel\n",
+    );
+    writes(
+        b"parameters, op 3 and 4",
+        &[7, 0, 0, 0, 11, 0, 3, 1, 11, 0, 4, 2],
+        3,
+        b"let\nf0=0->pre(f0);\nf1=f0>k1;\nf2=f0>=k2;\na=f2;\ntel\n",
+    );
+}
+
+// Writing refused by 10,
+fn write_sizes() {
+    writes(b"no equation", &[1, 0, 0, 0], 0, b"");
+    writes(b"one equation too many", &[1, 0, 0, 0], 4097, b"");
+    writes(b"table too short", &[1, 0, 0, 0, 1, 0, 0], 2, b"");
+}
+
+// by 11,
+fn write_rules() {
+    writes(b"unknown kind", &[12, 0, 0, 0], 1, b"");
+    writes(b"unused number", &[1, 0, 0, 1], 1, b"");
+    writes(b"operand not earlier", &[3, 0, 0, 0], 1, b"");
+    writes(b"last a count", &[7, 0, 0, 0], 1, b"");
+}
+
+// and by 15.
+fn write_room() {
+    let mut short = [33u8; 19];
+    writes_into(b"11 before 15", &[7, 0, 0, 0], 1, &mut short, b"");
+    writes_into(b"one byte short", &[1, 0, 0, 0], 1, &mut short, b"");
+    let mut enough = [33u8; 20];
+    writes_into(
+        b"just long enough",
+        &[1, 0, 0, 0],
+        1,
+        &mut enough,
+        b"let\nf0=b;\na=f0;\ntel\n",
+    );
+}
+
+// Texts that are read, and 9.
+fn read_room() {
+    reads(
+        b"eleven",
+        b"let\nf0=b;\nf1=b;\nf2=b;\nf3=b;\nf4=b;\nf5=b;\nf6=b;\nf7=b;\nf8=b;\nf9=b;\nf10=not f9;\na=f10;\ntel\n",
+    );
+    let mut short = [7u32; 16383];
+    reads_into(b"one number short", b"let\nf0=b;\na=f0;\ntel\n", &mut short);
+    reads_into(b"16 before 9", b"let\nf0=b;\na=f0;\ntel", &mut short);
+}
+
+// Texts that no well-formed table writes: a needless 0,
+fn needless_zeros() {
+    reads(b"needless 0 in a line number", b"let\nf00=b;\na=f0;\ntel\n");
+    reads(b"needless 0 in a signal", b"let\nf0=s05;\na=f0;\ntel\n");
+    reads(
+        b"needless 0 in the last number",
+        b"let\nf0=b;\na=f00;\ntel\n",
+    );
+    reads(
+        b"needless 0 in a literal",
+        b"let\nf0=0->pre(f0);\nf1=f0<=012;\na=f1;\ntel\n",
+    );
+}
+
+// a wrong number of a line,
+fn wrong_numbers() {
+    reads(b"wrong line number", b"let\nf1=b;\na=f1;\ntel\n");
+    reads(b"line left out", b"let\nf0=b;\nf2=b;\na=f2;\ntel\n");
+    reads(b"wrong last number", b"let\nf0=b;\nf1=b;\na=f0;\ntel\n");
+}
+
+// something missing or too much,
+fn wrong_frames() {
+    reads(b"empty", b"");
+    reads(b"last byte 10 missing", b"let\nf0=b;\na=f0;\ntel");
+    reads(b"bytes after tel", b"let\nf0=b;\na=f0;\ntel\n\n");
+    reads(b"no let", b"f0=b;\na=f0;\ntel\n");
+    reads(b"no line", b"let\na=f0;\ntel\n");
+}
+
+// another spelling,
+fn wrong_spellings() {
+    reads(b"no semicolon", b"let\nf0=b\na=f0;\ntel\n");
+    reads(b"a space", b"let\nf0= b;\na=f0;\ntel\n");
+    reads(
+        b"unknown operator",
+        b"let\nf0=0->pre(f0);\nf1=f0=<1;\na=f1;\ntel\n",
+    );
+}
+
+// operands against the rules,
+fn wrong_operands() {
+    reads(
+        b"wrong sort",
+        b"let\nf0=0->pre(f0);\nf1=not f0;\na=f1;\ntel\n",
+    );
+    reads(b"not earlier", b"let\nf0=not f0;\na=f0;\ntel\n");
+    reads(b"later", b"let\nf0=not f1;\nf1=b;\na=f1;\ntel\n");
+    reads(
+        b"no such equation",
+        b"let\nf0=false->pre(f4096);\na=f0;\ntel\n",
+    );
+    reads(b"last a count", b"let\nf0=0->pre(f0);\na=f0;\ntel\n");
+}
+
+// numbers above their range.
+fn wrong_ranges() {
+    reads(b"signal 64", b"let\nf0=s64;\na=f0;\ntel\n");
+    reads(
+        b"parameter 8",
+        b"let\nf0=0->pre(f0);\nf1=f0<k8;\na=f1;\ntel\n",
+    );
+    reads(
+        b"literal 1000000",
+        b"let\nf0=0->pre(f0);\nf1=f0<1000000;\na=f1;\ntel\n",
+    );
+    reads(
+        b"number past 32 bits",
+        b"let\nf0=s4294967296;\na=f0;\ntel\n",
+    );
+}
+
+fn main() {
+    leaves();
+    connectives();
+    memories();
+    literals();
+    parameters();
+    write_sizes();
+    write_rules();
+    write_room();
+    read_room();
+    needless_zeros();
+    wrong_numbers();
+    wrong_frames();
+    wrong_spellings();
+    wrong_operands();
+    wrong_ranges();
+}
