@@ -1,0 +1,2 @@
+-- Which part of a card is the rule text.
+pub mod Part

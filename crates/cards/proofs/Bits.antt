@@ -1,0 +1,99 @@
+-- "16 lowercase hexadecimal digits whose bit j is signal j" (document 01, "towerwatch"): of the number that a tick
+-- line has, bit 4 · i + b is bit b of the i-th digit from the right. Assumes nothing.
+use mathlib.Core.Path.{_≡_, refl, _∙_, sym, ap}
+use mathlib.Core.Bool.{Bool, true, false, cond}
+use mathlib.Core.List.{List, [], _∷_}
+use Prim.Native.Nat.{ℕ, zero, suc, _+_, _-_, _*_, _/_, _%_, _^_, _≤_, _<_}
+use native.Mathlib.Omega.{arith}
+use lib.Dec.{ltb, eqb}
+use lib.ListN.{length, getD, drop, length-drop}
+use lib.Pow.{high, shr-shr}
+use lib.Seq.{getD-drop}
+use borrow.Author.Tests.{eqb-true, ltb-true, ltb-false}
+use Rattle.traces.specs.Trace.{bit}
+use Rattle.cards.specs.Ticks.{hexOf, hexes, tickLine}
+use Rattle.cards.specs.declared.Ticked.{Ticked}
+use Rattle.cards.specs.declared.Ticked.the-variants.{Is, Broken}
+
+-- One more digit is the four lowest bits, and moves the others up by four.
+bit-low : (x d b : ℕ) → b < 4 → bit (x * 16 + d) b ≡ bit d b
+bit-low x d zero h = omega arith
+bit-low x d (suc zero) h = omega arith
+bit-low x d (suc (suc zero)) h = omega arith
+bit-low x d (suc (suc (suc zero))) h = omega arith
+bit-low x d (suc (suc (suc (suc b)))) h = absurd (omega arith)
+
+bit-high : (x d k : ℕ) → d ≤ 15 → bit (x * 16 + d) (4 + k) ≡ bit x k
+bit-high x d k h =
+    ap (λ (n : ℕ). n % 2)
+    (sym (shr-shr (x * 16 + d) 4 k) ∙ ap (λ (n : ℕ). n / 2 ^ k) (high x 4 {lo = d} (omega arith)))
+
+-- The digits l after the number x make the number y.
+record Digits (l : List ℕ) (x y : ℕ) : Type 0 where
+  inside : (i b : ℕ) → i < length l → b < 4 → bit y (4 * i + b) ≡ bit (hexOf (getD l (length l - 1 - i) 0)) b
+  above : (k : ℕ) → bit y (4 * length l + k) ≡ bit x k
+
+module _ (c : ℕ) (l : List ℕ) (x y : ℕ) (small : hexOf c ≤ 15) (h : Digits l (x * 16 + hexOf c) y) where
+  digit : (i b : ℕ) → i < suc (length l) → b < 4 → (t : Bool) → ltb i (length l) ≡ t
+      → bit y (4 * i + b) ≡ bit (hexOf (getD (c ∷ l) (suc (length l) - 1 - i) 0)) b
+  digit i b p q true e =
+      let g : i < length l = ltb-true _ _ e in
+      let z : suc (length l) - 1 - i ≡ suc (length l - 1 - i) = omega arith in
+      rw z (h .inside i b g q)
+  digit i b p q false e =
+      let g : length l ≤ i = ltb-false _ _ e in
+      let z : suc (length l) - 1 - i ≡ 0 = omega arith in
+      let w : 4 * i + b ≡ 4 * length l + b = omega arith in
+      rw z (ap (bit y) w ∙ h .above b ∙ bit-low x (hexOf c) b q)
+
+  more : Digits (c ∷ l) x y
+  more =
+      record {
+        inside = λ i b p q. digit i b p q (ltb i (length l)) refl;
+        above = λ k.
+            let z : 4 * suc (length l) + k ≡ 4 * length l + (4 + k) = omega arith in
+            ap (bit y) z ∙ h .above (4 + k) ∙ bit-high x (hexOf c) k small;
+      }
+
+split : (c : ℕ) (l : List ℕ) (s x s' y : ℕ) (t : Bool) → ltb 15 (hexOf c) ≡ t
+    → ((z : ℕ) → hexes s z l ≡ Is s' y → Digits l z y) → hexes s x (c ∷ l) ≡ Is s' y → Digits (c ∷ l) x y
+unfolding hexes
+split c l s x s' y true e ih h = absurd (let g = rw e at h in let z : _≡_ {A = ℕ} 0 1 = cc in omega arith)
+split c l s x s' y false e ih h = more c l x y (ltb-false _ _ e) (ih (x * 16 + hexOf c) (rw e at h))
+
+made : (l : List ℕ) (s x s' y : ℕ) → hexes s x l ≡ Is s' y → Digits l x y
+unfolding hexes
+made [] s x s' y e =
+    let z : x ≡ y = cc in
+    record {
+      inside = λ i b p q. absurd (omega arith);
+      above = λ k. let w : 0 + k ≡ k = omega arith in rw w (ap (λ (n : ℕ). bit n k) (sym z));
+    }
+made (c ∷ l) s x s' y e = split c l s x s' y (ltb 15 (hexOf c)) refl (λ z. made l s z s' y) e
+
+-- A line that is not broken passes each test.
+module _ {s x : ℕ} where
+  passed : (t : Bool) {a : Ticked} → cond t a Broken ≡ Is s x → (t ≡ true) × (a ≡ Is s x)
+  passed true e = (refl, e)
+  passed false e = absurd (let z : _≡_ {A = ℕ} 0 1 = cc in omega arith)
+
+  not-passed : (t : Bool) {a : Ticked} → cond t Broken a ≡ Is s x → a ≡ Is s x
+  not-passed true e = absurd (let z : _≡_ {A = ℕ} 0 1 = cc in omega arith)
+  not-passed false e = e
+
+pub signal-bits : (l : List ℕ) (s x : ℕ) → tickLine l ≡ Is s x → (i b : ℕ) → i < 16 → b < 4
+    → bit x (4 * i + b) ≡ bit (hexOf (getD l (19 - i) 0)) b
+unfolding tickLine
+signal-bits l s x e i b p q =
+    let size = passed (eqb (length l) 20) e in
+    let t = passed (eqb (getD l 0 0) 116) (size .1) in
+    let equals = passed (eqb (getD l 1 0) 61) (t .1) in
+    let comma = passed (eqb (getD l 3 0) 44) (equals .1) in
+    let start = not-passed (ltb 49 (getD l 2 0)) (not-passed (ltb (getD l 2 0) 48) (comma .1)) in
+    let twenty : length l ≡ 20 = eqb-true _ _ (size .0) in
+    let sixteen : length (drop 4 l) ≡ 16 = omega (arith, length-drop 4 l) in
+    let digits = made (drop 4 l) (getD l 2 0 - 48) 0 s x start in
+    let z : 4 + (length (drop 4 l) - 1 - i) ≡ 19 - i = omega arith in
+    digits .inside i b (omega arith) q
+    ∙ ap (λ (c : ℕ). bit (hexOf c) b)
+    (getD-drop 4 l (length (drop 4 l) - 1 - i) 0 ∙ ap (λ (n : ℕ). getD l n 0) z)

@@ -1,0 +1,175 @@
+-- The feeder's loop, in terms of lists: what stands between two lines of a piece, and what a line makes of it.
+-- Assumes nothing.
+use mathlib.Core.Path.{_≡_, refl, _∙_, sym, ap}
+use mathlib.Core.List.{List, [], _++_}
+use Prim.Native.Nat.{ℕ, suc, _+_, _-_, _≤_, _<_}
+use native.Mathlib.Omega.{arith}
+use lib.ListN.{length, take, drop, length-drop, drop-of-length-le}
+use lib.Seq.{drop-drop}
+use Rattle.cards.specs.Lines.{line, lineFrom}
+use Rattle.cards.specs.Card.{World, worldOf, Turned, stoppedTurn, brokenBy, lined, sayBytes}
+use Rattle.cards.specs.Feed.{Goes, Short, Room, Feeds, fedWorld, leftOver, placed}
+use Rattle.cards.specs.declared.Turn.{Turn}
+use Rattle.cards.specs.declared.Fed.{Fed}
+use Rattle.cards.proofs.Cutting.{take-line, line-within}
+use Rattle.cards.proofs.Moving.{put-takes, put-keeps, put-length}
+use Rattle.cards.proofs.Paying.{debt, debt-small, lined-pays, broken-room}
+use Rattle.cards.proofs.Resuming.{goes-none, goes-line, goes-on, goes-out, goes-rest, goes-long}
+use Rattle.cards.proofs.Resuming.{fed-line, left-line, fed-short, left-short, fed-long, left-long}
+use Rattle.cards.proofs.Resuming.{one-line, short-eq, short-none}
+
+-- Of the piece b, u bytes are used up, and what they print are the first `at` bytes of out: w goes on from there.
+pub record Between (w₀ : World) (b out₀ : List ℕ) (w : World) (out : List ℕ) (u at : ℕ) : Type 0 where
+  pub goes : Goes w₀ b (take at out) w (drop u b)
+  pub world : fedWorld w₀ b ≡ fedWorld w (drop u b)
+  pub left : leftOver b ≡ leftOver (drop u b)
+  pub within : u ≤ length b
+  pub paid : at ≤ u + debt (w .watch .phase)
+  pub room : length b + 11 ≤ length out₀
+  pub kept : drop at out ≡ drop at out₀
+  pub same : length out ≡ length out₀
+
+abbrev pub fedAs : World → ℕ → ℕ → Fed
+fedAs w u at = record { watch = w .watch; used = u; written = at }
+
+pub begun : (w : World) (b out : List ℕ) → Room b out → Between w b out w out 0 0
+begun w b out r =
+    record {
+      goes = goes-none w b;
+      world = refl;
+      left = refl;
+      within = omega arith;
+      paid = omega arith;
+      room = r .room;
+      kept = refl;
+      same = refl;
+    }
+
+module _ {w₀ w : World} {b out₀ out : List ℕ} {u at : ℕ} (k : Between w₀ b out₀ w out u at) where
+  written-room : at ≤ length out
+  written-room = omega (arith, k .within, k .paid, k .room, k .same, debt-small (w .watch .phase))
+
+  -- The bytes that are left are the start of a line: they are left over.
+  pub left-short-over : Short (drop u b) → Feeds w₀ b (fedAs w u at) w out₀ out
+  left-short-over h =
+      record {
+        goes = k .goes;
+        world = fed-short w (drop u b) h ∙ sym (k .world);
+        left = left-short (drop u b) h ∙ sym (k .left);
+        used = k .within;
+        short = h;
+        kept = k .kept;
+        room = written-room;
+      }
+
+  -- No bytes are left.
+  pub used-up : length b ≤ u → Feeds w₀ b (fedAs w u at) w out₀ out
+  used-up h = left-short-over (short-eq (drop-of-length-le b {i = u} h) short-none)
+
+  -- Bytes s are put to out.
+  module _
+      (s : List ℕ) (room : at + length s ≤ length out) {out' : List ℕ} {at' : ℕ}
+      (e : at' ≡ at + length s) (p : out' ≡ placed out at s) where
+    keeps : drop at' out' ≡ drop at' out₀
+    keeps =
+        put-keeps out s at e p room
+        ∙ rw e
+        (sym (drop-drop (length s) at out)
+        ∙ ap (λ (l : List ℕ). drop (length s) l) (k .kept)
+        ∙ drop-drop (length s) at out₀)
+
+  -- The line at u has n bytes.
+  module _ (n : ℕ) (m : n ≡ length (lineFrom b u)) where
+    pub line-inside : u + n ≤ length b
+    line-inside = omega (arith, k .within, m, line-within (drop u b), length-drop u b)
+
+    -- It ends in the piece, and t is what it does.
+    module _ (h : u + n < length b) {t : Turned} (q : t ≡ lined w (take (u + n - u) (drop u b))) where
+      the-line : take (u + n - u) (drop u b) ≡ line (drop u b)
+      the-line = let z : u + n - u ≡ n = omega arith in rw (z, m) (take-line (drop u b))
+
+      turned : t ≡ lined w (line (drop u b))
+      turned = q ∙ ap (lined w) the-line
+
+      -- It is whole, and the bytes after it are those after its line end.
+      whole : length (line (drop u b)) < length (drop u b)
+      whole = omega (arith, m, length-drop u b)
+
+      after : drop (u + n + 1) b ≡ drop (suc (length (line (drop u b)))) (drop u b)
+      after =
+          let l = length (line (drop u b)) in
+          let z : u + suc l ≡ u + n + 1 = omega arith in
+          sym (drop-drop (suc l) u b ∙ ap (λ (i : ℕ). drop i b) z)
+
+      goes-past : Goes w₀ b (take at out ++ sayBytes (t .said)) (t .world) (drop (u + n + 1) b)
+      goes-past = rw (turned, after) (goes-on (k .goes) (goes-line w (drop u b) whole))
+
+      world-past : fedWorld w₀ b ≡ fedWorld (t .world) (drop (u + n + 1) b)
+      world-past = k .world ∙ rw (turned, after) (fed-line w (drop u b) whole)
+
+      left-past : leftOver b ≡ leftOver (drop (u + n + 1) b)
+      left-past = k .left ∙ rw after (left-line (drop u b) whole)
+
+      pays : length (sayBytes (t .said)) + debt (w .watch .phase) ≤ n + 1 + debt (t .world .watch .phase)
+      pays = rw (turned, m) (lined-pays w (line (drop u b)) .paid)
+
+      pub said-room : at + length (sayBytes (t .said)) ≤ length out
+      said-room = omega (arith, pays, k .paid, k .room, k .same, debt-small (t .world .watch .phase))
+
+      pub after-line : {out' : List ℕ} {at' : ℕ} → at' ≡ at + length (sayBytes (t .said))
+          → out' ≡ placed out at (sayBytes (t .said)) → Between w₀ b out₀ (t .world) out' (u + n + 1) at'
+      after-line e p =
+          record {
+            goes = goes-out (put-takes out (sayBytes (t .said)) at e p said-room) goes-past;
+            world = world-past;
+            left = left-past;
+            within = omega arith;
+            paid = omega (arith, e, pays, k .paid);
+            room = k .room;
+            kept = keeps (sayBytes (t .said)) said-room e p;
+            same = put-length out (sayBytes (t .said)) at e p said-room ∙ k .same;
+          }
+
+    -- It does not end in the piece.
+    module _ (last : u + n ≡ length b) where
+      all-of-it : length (line (drop u b)) ≡ length (drop u b)
+      all-of-it = omega (arith, m, last, length-drop u b)
+
+      -- It is left over where it is short,
+      pub left-over : n < 4096 → Feeds w₀ b (fedAs w u at) w out₀ out
+      left-over h = left-short-over (record { one = one-line _ all-of-it; below = omega (arith, all-of-it, m) })
+
+      -- and over-long else: t is what the code makes of it.
+      module _ (h : 4096 ≤ n) (t : Turn) (q : t ≡ stoppedTurn (brokenBy (w .watch .phase))) where
+        abbrev stoppedAt : World
+        stoppedAt = worldOf (t .watch) (w .parameters) (w .table) (w .state) (w .values)
+
+        long : 4095 < length (drop u b)
+        long = omega (arith, m, all-of-it)
+
+        goes-over : Goes w₀ b (take at out ++ sayBytes (t .said)) stoppedAt []
+        goes-over = rw q (goes-on (k .goes) (goes-long w (drop u b) (omega (arith, m))))
+
+        world-over : stoppedAt ≡ fedWorld w₀ b
+        world-over = rw q (fed-long w (drop u b) (one-line _ all-of-it) long ∙ sym (k .world))
+
+        nothing-left : drop (u + n) b ≡ []
+        nothing-left = drop-of-length-le b {i = u + n} (omega arith)
+
+        pub last-room : at + length (sayBytes (t .said)) ≤ length out
+        last-room = rw q (omega (arith, k .paid, k .within, k .room, k .same, broken-room (w .watch .phase)))
+
+        pub over-long : {out' : List ℕ} {at' : ℕ} → at' ≡ at + length (sayBytes (t .said))
+            → out' ≡ placed out at (sayBytes (t .said))
+            → Feeds w₀ b (fedAs stoppedAt (u + n) at') stoppedAt out₀ out'
+        over-long e p =
+            record {
+              goes =
+                  goes-rest nothing-left (goes-out (put-takes out (sayBytes (t .said)) at e p last-room) goes-over);
+              world = world-over;
+              left = nothing-left ∙ left-long (drop u b) (one-line _ all-of-it) long ∙ sym (k .left);
+              used = line-inside;
+              short = short-eq nothing-left short-none;
+              kept = keeps (sayBytes (t .said)) last-room e p;
+              room = omega (arith, e, last-room, put-length out (sayBytes (t .said)) at e p last-room);
+            }

@@ -1,0 +1,102 @@
+-- How hexadecimal digits (specs/Ticks.antt) go on at a place of a line, and that sixteen of them fit 64 bits. Assumes
+-- nothing.
+use mathlib.Core.Path.{_≡_, _∙_, sym}
+use mathlib.Core.List.{List}
+use Prim.Native.Nat.{ℕ, _+_, _-_, _*_, _^_, _≤_, _<_}
+use native.Mathlib.Omega.{arith}
+use native.Mathlib.Nat.{pow-suc, pow-le-pow-right}
+use native.Mathlib.Numerals.{add-one}
+use lib.ListN.{length, getD, drop, drop-of-length-le}
+use lib.Seq.{drop-cons}
+use borrow.Author.Tests.{eq-eqb, lt-ltb, le-ltb, le-leb, lt-leb}
+use Rattle.cards.specs.Ticks.{hexOf, hexes, tickLine}
+use Rattle.cards.specs.declared.Ticked.the-variants.{Is, Broken}
+
+-- The digits from place i on, x being the number so far.
+module _ (s : List ℕ) (i start x : ℕ) where
+  pub hexes-bad : i < length s → 15 < hexOf (getD s i 0) → hexes start x (drop i s) ≡ Broken
+  unfolding hexes
+  hexes-bad h e = rw (drop-cons s i 0, lt-ltb _ _ e)
+
+  pub hexes-more : i < length s → hexOf (getD s i 0) ≤ 15
+      → hexes start x (drop i s) ≡ hexes start (x * 16 + hexOf (getD s i 0)) (drop (i + 1) s)
+  unfolding hexes
+  hexes-more h e = rw (drop-cons s i 0, le-ltb _ _ e, add-one i)
+
+  pub hexes-end : length s ≤ i → hexes start x (drop i s) ≡ Is start x
+  unfolding hexes
+  hexes-end h = rw (drop-of-length-le s h)
+
+room : (p x d : ℕ) → x < p → d ≤ 15 → x * 16 + d < p * 16
+room p x d h e = omega arith
+
+-- With k digits the number is below 16 to the power of k, so that sixteen fit.
+pub grows : (k x d : ℕ) → x < 16 ^ k → d ≤ 15 → x * 16 + d < 16 ^ (k + 1)
+grows k x d h e = rw (add-one k, pow-suc 16 k) (room (16 ^ k) x d h e)
+
+pub fits64 : (k x d : ℕ) → k ≤ 15 → x < 16 ^ k → d ≤ 15 → x * 16 + d < 18446744073709551616
+fits64 k x d z h e =
+    let l : 16 ^ k ≤ 16 ^ 15 = pow-le-pow-right (omega arith) z in
+    omega (arith, room (16 ^ k) x d h e)
+
+-- The five ranges of bytes.
+module _ (b : ℕ) where
+  pub hex-digit : 48 ≤ b → b ≤ 57 → hexOf b ≡ b - 48
+  unfolding hexOf
+  hex-digit h e = rw (le-leb 48 b h, le-leb b 57 e)
+
+  pub hex-letter : 97 ≤ b → b ≤ 102 → hexOf b ≡ b - 97 + 10
+  unfolding hexOf
+  hex-letter h e = rw (le-leb 48 b (omega arith), lt-leb b 57 (omega arith), le-leb 97 b h, le-leb b 102 e)
+
+  pub hex-low : b < 48 → hexOf b ≡ 16
+  unfolding hexOf
+  hex-low h = rw (lt-leb 48 b h, lt-leb 97 b (omega arith))
+
+  pub hex-mid : 57 < b → b < 97 → hexOf b ≡ 16
+  unfolding hexOf
+  hex-mid h e = rw (le-leb 48 b (omega arith), lt-leb b 57 h, lt-leb 97 b e)
+
+  pub hex-high : 102 < b → hexOf b ≡ 16
+  unfolding hexOf
+  hex-high h = rw (le-leb 48 b (omega arith), lt-leb b 57 (omega arith), le-leb 97 b (omega arith), lt-leb b 102 h)
+
+-- A line that is well made up to its digits.
+pub tick-digits : (s : List ℕ) → length s ≡ 20 → getD s 0 0 ≡ 116 → getD s 1 0 ≡ 61 → getD s 3 0 ≡ 44
+    → 48 ≤ getD s 2 0 → getD s 2 0 ≤ 49 → hexes (getD s 2 0 - 48) 0 (drop 4 s) ≡ tickLine s
+unfolding tickLine
+tick-digits s l a b c lo hi =
+    rw (eq-eqb _ _ l, eq-eqb _ _ a, eq-eqb _ _ b, eq-eqb _ _ c, le-ltb _ _ lo, le-ltb _ _ hi)
+
+-- The loop of `tick_line`: the digits from place i on, after those that made x, read as the line does.
+pub record Hexing (s : List ℕ) (b x i : ℕ) : Type 0 where
+  pub rest : hexes (b - 48) x (drop i s) ≡ tickLine s
+  pub low : 4 ≤ i
+  pub high : i ≤ 20
+  pub twenty : length s ≡ 20
+  pub below : x < 16 ^ (i - 4)
+
+module _ {s : List ℕ} {b x i : ℕ} (k : Hexing s b x i) where
+  pub hexing-end : 20 ≤ i → Is (b - 48) x ≡ tickLine s
+  hexing-end h = sym (hexes-end s i (b - 48) x (omega (arith, k .twenty))) ∙ k .rest
+
+  module _ (h : i < 20) {d : ℕ} (q : d ≡ hexOf (getD s i 0)) where
+    there : i < length s
+    there = omega (arith, k .twenty)
+
+    pub hexing-bad : 15 < d → Broken ≡ tickLine s
+    hexing-bad g = sym (hexes-bad s i (b - 48) x there (rw (← q) g)) ∙ k .rest
+
+    pub hexing-fits : d ≤ 15 → x * 16 + d < 18446744073709551616
+    hexing-fits g = fits64 (i - 4) x d (omega (arith, k .low)) (k .below) g
+
+    pub hexing-more : d ≤ 15 → Hexing s b (x * 16 + d) (i + 1)
+    hexing-more g =
+        let z : i + 1 - 4 ≡ i - 4 + 1 = omega (arith, k .low) in
+        record {
+          rest = rw q (sym (hexes-more s i (b - 48) x there (rw (← q) g)) ∙ k .rest);
+          low = omega (arith, k .low);
+          high = omega arith;
+          twenty = k .twenty;
+          below = rw z (grows (i - 4) x d (k .below) g);
+        }

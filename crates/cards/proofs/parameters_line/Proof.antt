@@ -1,0 +1,101 @@
+-- `cards::parameters_line` meets its contract: what is left of the line reads as the line does (`Listing`). Assumes
+-- nothing.
+use mathlib.Core.Path.{sym, _∙_}
+use Prim.Native.Nat.{_-_}
+use native.Mathlib.Omega.{arith}
+use borrow.Author.Needs.{needs}
+use borrow.Author.Tests.{not-true, not-false}
+use Rattle.cards.specs.Numbers.{parametersOf}
+use Rattle.cards.proofs.Reading.{Listing, listing-begun, listing-none, listing-short, listing-other}
+use Rattle.cards.proofs.Reading.{listing-more, listing-not, listing-last}
+use Rattle.cards.proofs.parameters_line.Statement.{statement}
+use Rattle.cards.proofs.parameters_line.Tie as tie
+
+abbrev Inv-loop : tie.InvT-loop
+Inv-loop s ps₀ at₀ i₀ ps at i = Listing s ps at i
+
+abbrev μ-loop : tie.MeasureT-loop
+μ-loop s ps₀ at₀ i₀ ps at i = 7 - i
+
+returns : tie.Need-returns Inv-loop μ-loop
+unfolding parametersOf
+returns c = rw (sym (c .before .begins .ensures) ∙ not-true _ (c .if1 .taken))
+
+loop-holds : tie.Need-loop-holds Inv-loop μ-loop
+loop-holds c =
+    listing-begun _ _ (sym (c .before .begins .ensures) ∙ not-false _ (c .if1 .left)) (omega arith)
+
+-- One of the first seven numbers: broken, at the end of the line, before another byte than a comma, before a comma.
+returns-2 : tie.Need-returns-2 Inv-loop μ-loop
+returns-2 c =
+    let number = c .before .before in
+    listing-none (number .before .before .loop .inv) (number .number-at .ensures) (c .enum-told .given .1)
+
+returns-3 : tie.Need-returns-3 Inv-loop μ-loop
+returns-3 c =
+    let number = c .before .before .before .before in
+    listing-short (number .before .before .loop .inv) (number .number-at .ensures) (c .before .before .value .given .1)
+    (omega arith) (c .if2 .taken)
+
+returns-4 : tie.Need-returns-4 Inv-loop μ-loop
+returns-4 c =
+    let value = c .before .before .before .before in
+    let number = value .before .before in
+    listing-other (number .before .before .loop .inv) (number .number-at .ensures) (value .value .given .1)
+    (omega arith) (c .before .before .if2 .left) (c .if3 .taken)
+
+loop-again : tie.Need-loop-again Inv-loop μ-loop
+loop-again c =
+    let value = c .before .before .before .before in
+    let number = value .before .before in
+    listing-more (number .before .before .loop .inv) (number .number-at .ensures) (value .value .given .1)
+    (omega arith) (c .before .before .if2 .left) (c .if3 .left)
+
+-- The eighth: broken, before another byte, at the end of the line.
+returns-5 : tie.Need-returns-5 Inv-loop μ-loop
+returns-5 c =
+    let number = c .before .before in
+    listing-none (number .before .before .loop .inv) (number .number-at2 .ensures) (c .enum-told2 .given .1)
+
+returns-6 : tie.Need-returns-6 Inv-loop μ-loop
+returns-6 c =
+    let number = c .before .before .before .before in
+    listing-not (number .before .before .loop .inv) (number .number-at2 .ensures) (c .before .before .value2 .given .1)
+    (omega arith) (c .if4 .taken)
+
+returns-7 : tie.Need-returns-7 Inv-loop μ-loop
+returns-7 c =
+    let number = c .before .before .before .before in
+    listing-last (number .before .before .loop .inv) (number .number-at2 .ensures)
+    (c .before .before .value2 .given .1) (omega arith) (c .if4 .left)
+
+pub parameters-line-spec : {M : Type 1} → statement M
+parameters-line-spec =
+    tie.close
+    (tie.spec
+    Inv-loop
+    μ-loop
+    (λ c. search needs)
+    (λ c κs. search needs)
+    returns
+    loop-holds
+    (λ c κs. search needs)
+    (λ c. search needs)
+    (λ c. search needs)
+    returns-2
+    returns-3
+    (λ c. search needs)
+    returns-4
+    (λ c. search needs)
+    (λ c. search needs)
+    (λ c. search needs)
+    (λ c. search needs)
+    (λ c. omega arith)
+    loop-again
+    (λ c κs. search needs)
+    (λ c. search needs)
+    (λ c. search needs)
+    returns-5
+    returns-6
+    (λ c. search needs)
+    returns-7)

@@ -1,0 +1,140 @@
+-- `cards::tick_line` meets its contract: what is left of the digits reads as the line does (`Hexing`). Assumes
+-- nothing.
+use Prim.Native.Nat.{_-_}
+use native.Mathlib.Omega.{arith}
+use borrow.Author.Needs.{needs}
+use borrow.Author.Tests.{eq-eqb, ne-eqb, lt-ltb, le-ltb}
+use Rattle.cards.specs.Ticks.{tickLine}
+use Rattle.cards.proofs.Hex.{tick-digits, Hexing, hexing-bad, hexing-fits, hexing-more, hexing-end}
+use Rattle.cards.proofs.tick_line.Statement.{statement}
+use Rattle.cards.proofs.tick_line.Tie as tie
+
+abbrev Inv-loop : tie.InvT-loop
+Inv-loop s b x₀ i₀ x i = Hexing s b x i
+
+abbrev μ-loop : tie.MeasureT-loop
+μ-loop s b x₀ i₀ x i = 20 - i
+
+-- Another length, another byte than `t`, `=` or the comma, a start below 0 or above 1.
+returns : tie.Need-returns Inv-loop μ-loop
+unfolding tickLine
+returns c = simp (ne-eqb _ _ (c .if1 .taken))
+
+returns-2 : tie.Need-returns-2 Inv-loop μ-loop
+unfolding tickLine
+returns-2 c = simp (eq-eqb _ _ (c .before .before .if1 .left), ne-eqb _ _ (c .if2 .taken))
+
+returns-3 : tie.Need-returns-3 Inv-loop μ-loop
+unfolding tickLine
+returns-3 c =
+    let t = c .before .before in
+    simp (eq-eqb _ _ (t .before .before .if1 .left), eq-eqb _ _ (t .if2 .left), ne-eqb _ _ (c .if3 .taken))
+
+returns-4 : tie.Need-returns-4 Inv-loop μ-loop
+unfolding tickLine
+returns-4 c =
+    let equals = c .before .before in
+    let t = equals .before .before in
+    simp (
+      eq-eqb _ _ (t .before .before .if1 .left),
+      eq-eqb _ _ (t .if2 .left),
+      eq-eqb _ _ (equals .if3 .left),
+      ne-eqb _ _ (c .if4 .taken),
+    )
+
+returns-5 : tie.Need-returns-5 Inv-loop μ-loop
+unfolding tickLine
+returns-5 c =
+    let comma = c .before .before in
+    let equals = comma .before .before in
+    let t = equals .before .before in
+    simp (
+      eq-eqb _ _ (t .before .before .if1 .left),
+      eq-eqb _ _ (t .if2 .left),
+      eq-eqb _ _ (equals .if3 .left),
+      eq-eqb _ _ (comma .if4 .left),
+      lt-ltb _ _ (c .if5 .taken),
+    )
+
+returns-6 : tie.Need-returns-6 Inv-loop μ-loop
+unfolding tickLine
+returns-6 c =
+    let comma = c .before .before .before in
+    let equals = comma .before .before in
+    let t = equals .before .before in
+    simp (
+      eq-eqb _ _ (t .before .before .if1 .left),
+      eq-eqb _ _ (t .if2 .left),
+      eq-eqb _ _ (equals .if3 .left),
+      eq-eqb _ _ (comma .if4 .left),
+      le-ltb _ _ (c .before .if5 .left),
+      lt-ltb _ _ (c .if6 .taken),
+    )
+
+-- The digits.
+loop-holds : tie.Need-loop-holds Inv-loop μ-loop
+loop-holds c =
+    let comma = c .before .before .before in
+    let equals = comma .before .before in
+    let t = equals .before .before in
+    let length = t .before .before .if1 .left in
+    record {
+      rest =
+          tick-digits _ length (t .if2 .left) (equals .if3 .left) (comma .if4 .left) (c .before .if5 .left)
+          (c .if6 .left);
+      low = omega arith;
+      high = omega arith;
+      twenty = length;
+      below = omega arith;
+    }
+
+returns-7 : tie.Need-returns-7 Inv-loop μ-loop
+returns-7 c =
+    let inv = c .before .before .before .before .loop .inv in
+    hexing-bad inv (omega arith) (c .before .hex-digit .ensures) (c .if7 .taken)
+
+mul-x : tie.Need-mul-x Inv-loop μ-loop
+mul-x c =
+    let inv = c .before .before .before .before .loop .inv in
+    omega (arith, hexing-fits inv (omega arith) (c .before .hex-digit .ensures) (c .if7 .left))
+
+add-x : tie.Need-add-x Inv-loop μ-loop
+add-x c =
+    let inv = c .before .before .before .before .loop .inv in
+    record { fits = hexing-fits inv (omega arith) (c .before .hex-digit .ensures) (c .if7 .left) }
+
+loop-again : tie.Need-loop-again Inv-loop μ-loop
+loop-again c =
+    let inv = c .before .before .before .before .loop .inv in
+    hexing-more inv (omega arith) (c .before .hex-digit .ensures) (c .if7 .left)
+
+returns-8 : tie.Need-returns-8 Inv-loop μ-loop
+returns-8 c = hexing-end (c .before .loop .inv) (omega arith)
+
+pub tick-line-spec : {M : Type 1} → statement M
+tick-line-spec =
+    tie.close
+    (tie.spec
+    Inv-loop
+    μ-loop
+    returns
+    (λ c. search needs)
+    returns-2
+    (λ c. search needs)
+    returns-3
+    (λ c. search needs)
+    returns-4
+    (λ c. search needs)
+    returns-5
+    returns-6
+    loop-holds
+    (λ c. omega (arith, c .before .before .loop .inv .twenty))
+    (λ c κs. search needs)
+    returns-7
+    mul-x
+    add-x
+    (λ c. search needs)
+    (λ c. omega arith)
+    loop-again
+    (λ c. search needs)
+    returns-8)

@@ -1,0 +1,46 @@
+-- Bytes cut into lines. Definitions only. The sentences quoted are document 01's, from "towerwatch".
+use mathlib.Core.Bool.{cond}
+use mathlib.Core.List.{List, [], _∷_}
+use Prim.Native.Nat.{ℕ}
+use lib.Dec.{eqb}
+use lib.ListN.{drop}
+
+-- "Lines end in byte 10"
+abbrev pub lineEnd : ℕ
+lineEnd = 10
+
+-- "and have at most 4,096 bytes with it": so many without it.
+abbrev pub longestLine : ℕ
+longestLine = 4095
+
+-- The bytes before the first line end; all of them, where there is none.
+unfoldable pub line : List ℕ → List ℕ
+line [] = []
+line (b ∷ s) = cond (eqb b lineEnd) [] (b ∷ line s)
+
+abbrev pub lineFrom : List ℕ → ℕ → List ℕ
+lineFrom s at = line (drop at s)
+
+-- The lines that end in byte 10, without it, and the bytes after the last of them.
+pub record Cut : Type 0 where
+  pub whole : List (List ℕ)
+  pub tail : List ℕ
+
+abbrev pub cutAs : List (List ℕ) → List ℕ → Cut
+cutAs ls t = record { whole = ls; tail = t }
+
+-- A line in front.
+abbrev pub withLine : List ℕ → Cut → Cut
+withLine l c = cutAs (l ∷ c .whole) (c .tail)
+
+-- A byte in front of the first line, or of the bytes after the last where there is no line.
+abbrev pub pushOn : ℕ → List (List ℕ) → List ℕ → Cut
+pushOn b [] t = cutAs [] (b ∷ t)
+pushOn b (l ∷ ls) t = cutAs ((b ∷ l) ∷ ls) t
+
+abbrev pub push : ℕ → Cut → Cut
+push b c = pushOn b (c .whole) (c .tail)
+
+unfoldable pub cut : List ℕ → Cut
+cut [] = cutAs [] []
+cut (b ∷ s) = cond (eqb b lineEnd) (withLine [] (cut s)) (push b (cut s))

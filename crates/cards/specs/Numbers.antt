@@ -1,0 +1,95 @@
+-- Decimal numbers on a card, and the lines `k=` and `ticks=`. Definitions only.
+-- The sentences quoted are document 01's, from "towerwatch".
+use mathlib.Core.Bool.{Bool, true, false, cond}
+use mathlib.Core.List.{List, [], _∷_, _++_}
+use mathlib.Core.Path.{_≡_}
+use Prim.Native.Nat.{ℕ, zero, suc, _+_, _-_, _*_, _≤_}
+use lib.Dec.{ltb, leb, eqb}
+use lib.ListN.{length, drop}
+use Rattle.lists.specs.Text.{bytes}
+use Rattle.cards.specs.declared.Number.{Number}
+use Rattle.cards.specs.declared.Number.the-variants as N
+use Rattle.cards.specs.declared.Parameters.{Parameters}
+use Rattle.cards.specs.declared.Count.{Count}
+use Rattle.cards.specs.declared.Count.the-variants as K
+
+-- What stands at the front of some bytes: a number and the bytes after it, or no number.
+pub data Parsed : Type 0 where
+  done : ℕ → List ℕ → Parsed
+  none : Parsed
+
+-- `0` to `9`
+unfoldable pub isDigit : ℕ → Bool
+isDigit b = cond (ltb b 48) false (leb b 57)
+
+-- The digits that are left, v being the number so far: "0 to 999,999".
+unfoldable pub digits : ℕ → List ℕ → Parsed
+digits v [] = done v []
+digits v (b ∷ l) =
+    cond (isDigit b)
+    (cond (ltb 999999 (v * 10 + (b - 48))) none (digits (v * 10 + (b - 48)) l))
+    (done v (b ∷ l))
+
+-- "decimal numbers have no needless 0": after a first digit 0 no digit is read.
+unfoldable pub number : List ℕ → Parsed
+number [] = none
+number (b ∷ l) = cond (eqb b 48) (done 0 l) (cond (isDigit b) (digits (b - 48) l) none)
+
+-- Whether the second text begins with the first.
+unfoldable pub starts : List ℕ → List ℕ → Bool
+starts [] l = true
+starts (x ∷ p) [] = false
+starts (x ∷ p) (y ∷ l) = cond (eqb y x) (starts p l) false
+
+-- What the code's answer says: the number, and what stands from `next` on.
+abbrev pub readTo : Number → List ℕ → Parsed
+readTo (N.Is v next) s = done v (drop next s)
+readTo N.Broken s = none
+
+abbrev pub nextIn : Number → ℕ → ℕ
+nextIn (N.Is v next) n = next
+nextIn N.Broken n = n
+
+-- The answer r is the number that stands in s at a place.
+pub record Reads (r : Number) (s : List ℕ) (at : ℕ) : Type 0 where
+  pub means : readTo r s ≡ number (drop at s)
+  pub within : nextIn r (length s) ≤ length s
+
+-- What a line of numbers says.
+pub data Listed : Type 0 where
+  are : List ℕ → Listed
+  broken : Listed
+
+abbrev pub listed : Parameters → Listed
+listed p = cond (p .fine) (are (p .values)) broken
+
+-- A number before a comma (byte 44), and what is then made of the bytes after it.
+unfoldable pub beforeComma : Parsed → (ℕ → List ℕ → Listed) → Listed
+beforeComma none k = broken
+beforeComma (done v []) k = broken
+beforeComma (done v (b ∷ l)) k = cond (eqb b 44) (k v l) broken
+
+-- A number at the end of the line, after those that were read.
+unfoldable pub atEnd : List ℕ → Parsed → Listed
+atEnd got none = broken
+atEnd got (done v []) = are (got ++ (v ∷ []))
+atEnd got (done v (b ∷ l)) = broken
+
+-- m numbers before commas and a last one, after those that were read.
+unfoldable pub numbers : ℕ → List ℕ → List ℕ → Listed
+numbers zero got l = atEnd got (number l)
+numbers (suc m) got l = beforeComma (number l) (λ v r. numbers m (got ++ (v ∷ [])) r)
+
+-- "`k=` eight numbers 0 to 999,999 with commas"
+unfoldable pub parametersOf : List ℕ → Listed
+parametersOf l = cond (starts (bytes "k=") l) (numbers 7 [] (drop 2 l)) broken
+
+-- A number that is all there is.
+unfoldable pub wholly : Parsed → Count
+wholly none = K.Broken
+wholly (done v []) = K.Is v
+wholly (done v (b ∷ l)) = K.Broken
+
+-- "`ticks=` 0 to 999,999"
+unfoldable pub countOf : List ℕ → Count
+countOf l = cond (starts (bytes "ticks=") l) (wholly (number (drop 6 l))) K.Broken

@@ -1,0 +1,22 @@
+-- `towerwatch::main` meets its contract. Assumes nothing.
+use borrow.Author.Needs.{needs}
+use native.Mathlib.Omega.{arith}
+use Rattle.cards.proofs.Resuming.{short-none}
+use Rattle.towerwatch.proofs.main.Statement.{statement}
+use Rattle.towerwatch.proofs.main.Tie as tie
+
+run-requires : tie.Need-run-requires
+run-requires c κs = record { short = short-none; within = omega arith; size = search needs; room = search needs }
+
+pub main-spec : {M : Type 1} → statement M
+main-spec =
+    tie.close
+    (tie.spec
+    (λ c κs. search needs)
+    (λ c. search needs)
+    (λ c. search needs)
+    (λ c. search needs)
+    (λ c. search needs)
+    (λ c. search needs)
+    run-requires
+    (λ c. search needs))
