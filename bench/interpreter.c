@@ -49,25 +49,30 @@ static inline uint32_t compare(uint32_t op, uint32_t x, uint32_t y) {
     }
 }
 
-struct towerwatch_answer interpreter_step(const uint32_t *table, size_t table_len, size_t n, uint32_t *state,
-                                          size_t state_len, uint32_t *values, size_t values_len, uint32_t start,
-                                          uint64_t signals, const uint32_t parameters[8]) {
-    if (n == 0 || n > 4096 || table_len < 4 * n) return (struct towerwatch_answer){10, 0};
+/* The refusals of a step, 0 for none. */
+static inline uint32_t refusal(const uint32_t *table, size_t table_len, size_t n, const uint32_t *state, size_t state_len,
+                               size_t values_len, const uint32_t parameters[8]) {
+    if (n == 0 || n > 4096 || table_len < 4 * n) return 10;
     for (size_t i = 0; i < n; i++) {
         const uint32_t *e = table + 4 * i;
-        if (e[0] >= 12) return (struct towerwatch_answer){11, 0};
+        if (e[0] >= 12) return 11;
         const uint8_t *s = shape[e[0]];
         if (!fits(table, n, i, s[0], e[1]) || !fits(table, n, i, s[1], e[2]) || !fits(table, n, i, s[2], e[3]))
-            return (struct towerwatch_answer){11, 0};
+            return 11;
     }
-    if (gives[table[4 * (n - 1)]] != BOOL) return (struct towerwatch_answer){11, 0};
-    if (state_len < n || values_len < n) return (struct towerwatch_answer){12, 0};
+    if (gives[table[4 * (n - 1)]] != BOOL) return 11;
+    if (state_len < n || values_len < n) return 12;
     for (int j = 0; j < 8; j++)
-        if (parameters[j] > 999999) return (struct towerwatch_answer){13, 0};
+        if (parameters[j] > 999999) return 13;
     for (size_t i = 0; i < n; i++) {
-        if (table[4 * i] == 6 && state[i] > 1) return (struct towerwatch_answer){14, 0};
-        if (table[4 * i] == 7 && state[i] > 1000000) return (struct towerwatch_answer){14, 0};
+        if (table[4 * i] == 6 && state[i] > 1) return 14;
+        if (table[4 * i] == 7 && state[i] > 1000000) return 14;
     }
+    return 0;
+}
+
+uint32_t interpreter_tick(const uint32_t *table, size_t n, uint32_t *state, uint32_t *values, uint32_t start,
+                          uint64_t signals, const uint32_t parameters[8]) {
     for (size_t i = 0; i < n; i++) {
         const uint32_t a = table[4 * i + 1], b = table[4 * i + 2], c = table[4 * i + 3];
         uint32_t v;
@@ -89,5 +94,13 @@ struct towerwatch_answer interpreter_step(const uint32_t *table, size_t table_le
     }
     for (size_t i = 0; i < n; i++)
         if (table[4 * i] == 6 || table[4 * i] == 7) state[i] = values[table[4 * i + 1]];
-    return (struct towerwatch_answer){0, values[n - 1]};
+    return values[n - 1];
+}
+
+struct towerwatch_answer interpreter_step(const uint32_t *table, size_t table_len, size_t n, uint32_t *state,
+                                          size_t state_len, uint32_t *values, size_t values_len, uint32_t start,
+                                          uint64_t signals, const uint32_t parameters[8]) {
+    uint32_t refused = refusal(table, table_len, n, state, state_len, values_len, parameters);
+    if (refused) return (struct towerwatch_answer){refused, 0};
+    return (struct towerwatch_answer){0, interpreter_tick(table, n, state, values, start, signals, parameters)};
 }
