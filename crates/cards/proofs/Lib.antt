@@ -1,4 +1,4 @@
--- Laws behind the functions' proofs, and the theorem on cards in pieces.
+-- Laws behind the functions' proofs, and the theorems on cards in pieces and on the verdicts that a card prints.
 pub mod Reading
 pub mod Hex
 pub mod Bits
@@ -9,3 +9,5 @@ pub mod Resuming
 pub mod Feeding
 pub mod Pieces
 pub mod Rows
+pub mod Sized
+pub mod Meant

@@ -5,3 +5,4 @@ pub mod Lines
 pub mod Card
 pub mod Feed
 pub mod Pieces
+pub mod Meant

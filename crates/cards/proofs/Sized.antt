@@ -1,0 +1,225 @@
+-- What is known of a line of numbers that was read: its numbers are at most 999,999, and it is short. Assumes nothing.
+use mathlib.Core.Path.{_≡_, refl, subst}
+use mathlib.Core.Bool.{Bool, true, false, cond}
+use mathlib.Core.List.{List, [], _∷_, _++_}
+use Prim.Native.Nat.{ℕ, zero, suc, _+_, _-_, _*_, _≤_, _<_}
+use native.Mathlib.Omega.{arith}
+use lib.Dec.{ltb, eqb}
+use lib.ListN.{length, getD, drop, length-drop}
+use borrow.Author.Tests.{ltb-false, eqb-false}
+use Rattle.lists.specs.Text.{bytes}
+use Rattle.cards.specs.Numbers.{Parsed, isDigit, digits, number, starts, Listed, beforeComma, atEnd, numbers}
+use Rattle.cards.specs.Numbers.{parametersOf, wholly, countOf}
+use Rattle.cards.specs.Numbers.Parsed.{done, none}
+use Rattle.cards.specs.Numbers.Listed.{are, broken}
+use Rattle.cards.specs.Lines.{longestLine}
+use Rattle.cards.specs.declared.Count.{Count}
+use Rattle.cards.specs.declared.Count.the-variants as K
+use Rattle.cards.proofs.Reading.{digit-range}
+
+-- ---- how large
+
+-- No number is above 999,999.
+abbrev pub Low : List ℕ → Type 0
+Low ps = (j : ℕ) → getD ps j 0 < 1000000
+
+append-low : (got : List ℕ) (v : ℕ) → Low got → v < 1000000 → Low (got ++ (v ∷ []))
+append-low [] v h l zero = l
+append-low [] v h l (suc j) = omega arith
+append-low (x ∷ got) v h l zero = h 0
+append-low (x ∷ got) v h l (suc j) = append-low got v (λ i. h (suc i)) l j
+
+-- A number that was read is at most 999,999.
+abbrev Small : Parsed → Type 0
+Small (done v r) = v < 1000000
+Small none = Unit {0}
+
+digit-small : (b v : ℕ) (l : List ℕ) (d o : Bool) → ltb 999999 (v * 10 + (b - 48)) ≡ o → v < 1000000
+    → (v * 10 + (b - 48) < 1000000 → Small (digits (v * 10 + (b - 48)) l))
+    → Small (cond d (cond o none (digits (v * 10 + (b - 48)) l)) (done v (b ∷ l)))
+digit-small b v l true true e h ih = tt
+digit-small b v l true false e h ih = ih (omega (arith, ltb-false 999999 (v * 10 + (b - 48)) e))
+digit-small b v l false o e h ih = h
+
+digits-small : (l : List ℕ) (v : ℕ) → v < 1000000 → Small (digits v l)
+unfolding digits
+digits-small [] v h = h
+digits-small (b ∷ l) v h =
+    digit-small b v l (isDigit b) (ltb 999999 (v * 10 + (b - 48))) refl h (λ z. digits-small l (v * 10 + (b - 48)) z)
+
+first-small : (b : ℕ) (l : List ℕ) (z d : Bool) → isDigit b ≡ d
+    → Small (cond z (done 0 l) (cond d (digits (b - 48) l) none))
+first-small b l true d e = omega arith
+first-small b l false true e = digits-small l (b - 48) (omega (arith, digit-range b e))
+first-small b l false false e = tt
+
+number-small : (l : List ℕ) → Small (number l)
+unfolding number
+number-small [] = tt
+number-small (b ∷ l) = first-small b l (eqb b 48) (isDigit b) refl
+
+-- So all numbers of a list that was read are.
+abbrev AllLow : Listed → Type 0
+AllLow (are ps) = Low ps
+AllLow broken = Unit {0}
+
+end-low : (got : List ℕ) (p : Parsed) → Low got → Small p → AllLow (atEnd got p)
+unfolding atEnd
+end-low got none h s = tt
+end-low got (done v []) h s = append-low got v h s
+end-low got (done v (b ∷ l)) h s = tt
+
+if-low : (b : Bool) (x : Listed) → AllLow x → AllLow (cond b x broken)
+if-low true x h = h
+if-low false x h = tt
+
+comma-low : (p : Parsed) (k : ℕ → List ℕ → Listed) → Small p → ((v : ℕ) (r : List ℕ) → v < 1000000 → AllLow (k v r))
+    → AllLow (beforeComma p k)
+unfolding beforeComma
+comma-low none k s h = tt
+comma-low (done v []) k s h = tt
+comma-low (done v (b ∷ l)) k s h = if-low (eqb b 44) (k v l) (h v l s)
+
+numbers-low : (m : ℕ) (got l : List ℕ) → Low got → AllLow (numbers m got l)
+unfolding numbers
+numbers-low zero got l h = end-low got (number l) h (number-small l)
+numbers-low (suc m) got l h =
+    comma-low (number l) _ (number-small l) (λ v r s. numbers-low m (got ++ (v ∷ [])) r (append-low got v h s))
+
+pub parameters-low : (l ps : List ℕ) → parametersOf l ≡ are ps → Low ps
+unfolding parametersOf
+parameters-low l ps e =
+    subst AllLow e
+    (if-low (starts (bytes "k=") l) (numbers 7 [] (drop 2 l)) (numbers-low 7 [] (drop 2 l) (λ j. omega arith)))
+
+-- ---- how long
+
+-- The number that was read at the front of l takes at most m bytes.
+abbrev Takes : ℕ → List ℕ → Parsed → Type 0
+Takes m l (done v r) = length l ≤ m + length r
+Takes m l none = Unit {0}
+
+one-more : (m b : ℕ) (l : List ℕ) (p : Parsed) → Takes m l p → Takes (suc m) (b ∷ l) p
+one-more m b l (done v r) h = omega arith
+one-more m b l none h = tt
+
+-- From this number on, k digits more are too many: they would make it 1,000,000 or more.
+abbrev least : ℕ → ℕ
+least zero = 1000000
+least (suc zero) = 100000
+least (suc (suc zero)) = 10000
+least (suc (suc (suc zero))) = 1000
+least (suc (suc (suc (suc zero)))) = 100
+least (suc (suc (suc (suc (suc zero))))) = 10
+least (suc (suc (suc (suc (suc (suc k)))))) = 1
+
+least-step : (k : ℕ) → least k ≤ least (suc k) * 10
+least-step zero = omega arith
+least-step (suc zero) = omega arith
+least-step (suc (suc zero)) = omega arith
+least-step (suc (suc (suc zero))) = omega arith
+least-step (suc (suc (suc (suc zero)))) = omega arith
+least-step (suc (suc (suc (suc (suc zero))))) = omega arith
+least-step (suc (suc (suc (suc (suc (suc k)))))) = omega arith
+
+digit-takes : (k b v : ℕ) (l : List ℕ) (d o : Bool) → ltb 999999 (v * 10 + (b - 48)) ≡ o → least k ≤ v → v < 1000000
+    → ((m : ℕ) → least m ≤ v * 10 + (b - 48) → v * 10 + (b - 48) < 1000000 → Takes m l (digits (v * 10 + (b - 48)) l))
+    → Takes k (b ∷ l) (cond d (cond o none (digits (v * 10 + (b - 48)) l)) (done v (b ∷ l)))
+digit-takes k b v l true true e h u ih = tt
+digit-takes zero b v l true false e h u ih = absurd (omega arith)
+digit-takes (suc k) b v l true false e h u ih =
+    one-more k b l (digits (v * 10 + (b - 48)) l)
+    (ih k (omega (arith, h, least-step k)) (omega (arith, ltb-false 999999 (v * 10 + (b - 48)) e)))
+digit-takes k b v l false o e h u ih = omega arith
+
+digits-take : (l : List ℕ) (k v : ℕ) → least k ≤ v → v < 1000000 → Takes k l (digits v l)
+unfolding digits
+digits-take [] k v h u = omega arith
+digits-take (b ∷ l) k v h u =
+    digit-takes k b v l (isDigit b) (ltb 999999 (v * 10 + (b - 48))) refl h u
+    (λ m g w. digits-take l m (v * 10 + (b - 48)) g w)
+
+first-takes : (b : ℕ) (l : List ℕ) (z d : Bool) → eqb b 48 ≡ z → isDigit b ≡ d
+    → Takes 7 (b ∷ l) (cond z (done 0 l) (cond d (digits (b - 48) l) none))
+first-takes b l true d q e = omega arith
+first-takes b l false true q e =
+    let other = eqb-false b 48 q in
+    let range = digit-range b e in
+    one-more 6 b l (digits (b - 48) l) (digits-take l 6 (b - 48) (omega (arith, other, range)) (omega (arith, range)))
+first-takes b l false false q e = tt
+
+number-takes : (l : List ℕ) → Takes 7 l (number l)
+unfolding number
+number-takes [] = tt
+number-takes (b ∷ l) = first-takes b l (eqb b 48) (isDigit b) refl refl
+
+-- A list of numbers that was read has at most m bytes.
+abbrev Spans : ℕ → List ℕ → Listed → Type 0
+Spans m l (are ps) = length l ≤ m
+Spans m l broken = Unit {0}
+
+end-spans : (got l : List ℕ) (p : Parsed) → Takes 7 l p → Spans 7 l (atEnd got p)
+unfolding atEnd
+end-spans got l none h = tt
+end-spans got l (done v []) h = omega arith
+end-spans got l (done v (b ∷ r)) h = tt
+
+after-comma : (m : ℕ) (l r : List ℕ) (b : Bool) (x : Listed) → length l ≤ 8 + length r → Spans m r x
+    → Spans (8 + m) l (cond b x broken)
+after-comma m l r true (are ps) h s = omega arith
+after-comma m l r true broken h s = tt
+after-comma m l r false x h s = tt
+
+comma-spans : (m : ℕ) (l : List ℕ) (p : Parsed) (k : ℕ → List ℕ → Listed) → Takes 7 l p
+    → ((v : ℕ) (r : List ℕ) → Spans m r (k v r)) → Spans (8 + m) l (beforeComma p k)
+unfolding beforeComma
+comma-spans m l none k h s = tt
+comma-spans m l (done v []) k h s = tt
+comma-spans m l (done v (b ∷ r)) k h s = after-comma m l r (eqb b 44) (k v r) (omega arith) (s v r)
+
+abbrev span : ℕ → ℕ
+span zero = 7
+span (suc m) = 8 + span m
+
+numbers-span : (m : ℕ) (got l : List ℕ) → Spans (span m) l (numbers m got l)
+unfolding numbers
+numbers-span zero got l = end-spans got l (number l) (number-takes l)
+numbers-span (suc m) got l =
+    comma-spans (span m) l (number l) _ (number-takes l) (λ v r. numbers-span m (got ++ (v ∷ [])) r)
+
+if-spans : (m : ℕ) (l : List ℕ) (b : Bool) (x : Listed) → Spans m l x → Spans m l (cond b x broken)
+if-spans m l true x h = h
+if-spans m l false x h = tt
+
+-- The lines of the parameters and of the number of ticks are not over-long.
+pub parameters-short : (l ps : List ℕ) → parametersOf l ≡ are ps → length l ≤ longestLine
+unfolding parametersOf
+parameters-short l ps e =
+    let rest = drop 2 l in
+    let most : length rest ≤ 63 =
+    subst (Spans 63 rest) e (if-spans 63 rest (starts (bytes "k=") l) (numbers 7 [] rest) (numbers-span 7 [] rest)) in
+    omega (arith, most, length-drop 2 l)
+
+abbrev Counts : ℕ → List ℕ → Count → Type 0
+Counts m l (K.Is k) = length l ≤ m
+Counts m l K.Broken = Unit {0}
+
+wholly-counts : (l : List ℕ) (p : Parsed) → Takes 7 l p → Counts 7 l (wholly p)
+unfolding wholly
+wholly-counts l none h = tt
+wholly-counts l (done v []) h = omega arith
+wholly-counts l (done v (b ∷ r)) h = tt
+
+if-counts : (m : ℕ) (l : List ℕ) (b : Bool) (x : Count) → Counts m l x → Counts m l (cond b x K.Broken)
+if-counts m l true x h = h
+if-counts m l false x h = tt
+
+pub count-short : (l : List ℕ) (k : ℕ) → countOf l ≡ K.Is k → length l ≤ longestLine
+unfolding countOf
+count-short l k e =
+    let rest = drop 6 l in
+    let most : length rest ≤ 7 =
+    subst (Counts 7 rest) e
+    (if-counts 7 rest (starts (bytes "ticks=") l) (wholly (number rest))
+    (wholly-counts rest (number rest) (number-takes rest))) in
+    omega (arith, most, length-drop 6 l)
