@@ -1,6 +1,6 @@
 /* A hand-written C program of towerwatch's job: a card from standard input, its verdicts to standard output, with one read
-   buffer, one write buffer and a table for hexadecimal digits. The rule is compiled by the archive, once a card. Its steps
-   are the interpreter's with all refusals, or with `unchecked` the bare ticks. `make RULE` prints a card of 999,999 ticks. */
+   buffer, one write buffer and a table for hexadecimal digits, over compiler.c and interpreter.c. Its steps have all refusals,
+   or with `unchecked` are the bare ticks. `make RULE` prints a card of 999,999 ticks. */
 #include <stdio.h>
 #include <stdlib.h>
 #include <string.h>
@@ -101,10 +101,11 @@ int main(int argc, char **argv) {
     if (p != stop) refuse(17);
     l = line(&length, 17);
     if (length < 6 || memcmp(l, "watch=", 6)) refuse(17);
-    struct towerwatch_answer a = towerwatch_compile(l + 6, length - 6, table, 16384);
+    struct towerwatch_answer a = compiler_compile(l + 6, length - 6, table, 16384);
     if (a.refusal) refuse(a.refusal);
     size_t n = a.result;
-    towerwatch_fresh_state(table, 16384, n, state, 4096);
+    for (size_t i = 0; i < n; i++)
+        if (table[4 * i] == 6) state[i] = table[4 * i + 3];
     l = line(&length, 17);
     if (length < 6 || memcmp(l, "ticks=", 6)) refuse(17);
     p = l + 6, stop = l + length;

@@ -1,9 +1,10 @@
-/* A hand-written interpreter of equation tables, with the same refusals as towerwatch_step: what the bench compares with. */
+/* Hand-written C of the same jobs: what the bench compares with. */
 #ifndef INTERPRETER_H
 #define INTERPRETER_H
 
 #include "towerwatch.h"
 
+/* A step, with the same refusals as towerwatch_step. */
 struct towerwatch_answer interpreter_step(const uint32_t *table, size_t table_len, size_t n, uint32_t *state,
                                           size_t state_len, uint32_t *values, size_t values_len, uint32_t start,
                                           uint64_t signals, const uint32_t parameters[8]);
@@ -11,5 +12,8 @@ struct towerwatch_answer interpreter_step(const uint32_t *table, size_t table_le
 /* The tick alone, for a table that is known to be well-formed and a state that was made for it. */
 uint32_t interpreter_tick(const uint32_t *table, size_t n, uint32_t *state, uint32_t *values, uint32_t start,
                           uint64_t signals, const uint32_t parameters[8]);
+
+/* Reads and compiles a rule text, as towerwatch_compile does, to a table of its own choice (compiler.c). */
+struct towerwatch_answer compiler_compile(const uint8_t *text, size_t length, uint32_t *table, size_t table_len);
 
 #endif

@@ -4,7 +4,7 @@
 #include <string.h>
 #include <time.h>
 
-#include "towerwatch.h"
+#include "interpreter.h"
 
 static uint32_t table[16384], loaded[16384];
 static uint8_t text[409700];
@@ -35,7 +35,8 @@ int main(void) {
     size_t length = strlen(rule);
     const uint8_t *bytes = (const uint8_t *)rule;
     TIME("read a rule of 239 words", 200, towerwatch_read_rule(bytes, length));
-    TIME("compile it", 200, towerwatch_compile(bytes, length, table, 16384));
+    TIME("read and compile it", 200, towerwatch_compile(bytes, length, table, 16384));
+    TIME("the same in hand-written C", 200, compiler_compile(bytes, length, table, 16384));
     TIME("compare it with itself", 200, towerwatch_same_rule(bytes, length, bytes, length));
 
     /* a table of 4,096 equations with long lines: a signal, a count, then comparisons and gates */
