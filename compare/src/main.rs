@@ -310,8 +310,10 @@ fn lustre_case(random: &mut Random, junk: &[u32], seen: &mut [u64; 20], seed: u6
     if random.once_in(8) {
         damage(random, &mut table);
     }
-    let refusal = table::table_refusal(&table, n);
-    let text = if refusal == 0 { table::lustre(&table, n) } else { Vec::new() };
+    // now and then a number of equations that the table has no room for, or that no table has
+    let given = if random.once_in(16) { random.pick(&[0, 4097, table.len() / 4 + 1]) } else { n };
+    let refusal = table::table_refusal(&table, given);
+    let text = if refusal == 0 { table::lustre(&table, given) } else { Vec::new() };
     let room = if random.once_in(4) { text.len().saturating_sub(1 + random.below(3)) } else { text.len() + random.below(5) };
     let mut buffer: Vec<u8> = (0..room).map(|_| random.next() as u8).collect();
     let mut wanted = buffer.clone();
@@ -323,9 +325,9 @@ fn lustre_case(random: &mut Random, junk: &[u32], seen: &mut [u64; 20], seed: u6
         wanted[..text.len()].copy_from_slice(&text);
         Answer::given(text.len() as u32)
     };
-    let answer = archive::write_lustre(&table, n, &mut buffer);
-    same!(answer, wanted_answer, "seed {seed}: writing {table:?}, n {n}, into {room} bytes");
-    same!(buffer == wanted, true, "seed {seed}: the text of {table:?}, n {n}");
+    let answer = archive::write_lustre(&table, given, &mut buffer);
+    same!(answer, wanted_answer, "seed {seed}: writing {table:?}, n {given}, into {room} bytes");
+    same!(buffer == wanted, true, "seed {seed}: the text of {table:?}, n {given}");
     seen[answer.refusal as usize] += 1;
 
     let mut text = table::lustre(&whole, n);
