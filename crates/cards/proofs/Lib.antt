@@ -10,4 +10,5 @@ pub mod Feeding
 pub mod Pieces
 pub mod Rows
 pub mod Sized
+pub mod Ending
 pub mod Meant

@@ -130,10 +130,13 @@ unfolding lined
 over-line w l true h e = rw h (ap (λ (p : Phase). stop (brokenBy p) w) e)
 over-line w l false h e = rw h (ap (λ (p : Phase). linedIn p w l) e)
 
+pub over-lined : (w : World) (l : List ℕ) → w .watch .phase ≡ P.Over → lined w l ≡ stop D.Quiet w
+over-lined w l e = over-line w l (ltb 4095 (length l)) refl e
+
 over-owed : (w : World) (ls : List (List ℕ)) (t : List ℕ) → w .watch .phase ≡ P.Over → owed w ls t ≡ []
 unfolding owed sayBytes
 over-owed w [] t e = ap (λ (p : Phase). sayBytes (endedIn p (w .watch .left) (length t))) e
-over-owed w (l ∷ ls) t e = rw (over-line w l (ltb 4095 (length l)) refl e) (over-quiet D.Quiet w ls t)
+over-owed w (l ∷ ls) t e = rw (over-lined w l e) (over-quiet D.Quiet w ls t)
 
 pub over-prints : (w : World) (s : List ℕ) → w .watch .phase ≡ P.Over → prints w s ≡ []
 unfolding prints

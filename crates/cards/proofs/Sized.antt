@@ -92,6 +92,27 @@ parameters-low l ps e =
     subst AllLow e
     (if-low (starts (bytes "k=") l) (numbers 7 [] (drop 2 l)) (numbers-low 7 [] (drop 2 l) (λ j. omega arith)))
 
+-- So is a number of ticks.
+abbrev pub CountLow : Count → Type 0
+CountLow (K.Is k) = k < 1000000
+CountLow K.Broken = Unit {0}
+
+wholly-low : (p : Parsed) → Small p → CountLow (wholly p)
+unfolding wholly
+wholly-low none h = tt
+wholly-low (done v []) h = h
+wholly-low (done v (b ∷ l)) h = tt
+
+if-count : (b : Bool) (x : Count) → CountLow x → CountLow (cond b x K.Broken)
+if-count true x h = h
+if-count false x h = tt
+
+pub count-low : (l : List ℕ) → CountLow (countOf l)
+unfolding countOf
+count-low l =
+    if-count (starts (bytes "ticks=") l) (wholly (number (drop 6 l)))
+    (wholly-low (number (drop 6 l)) (number-small (drop 6 l)))
+
 -- ---- how long
 
 -- The number that was read at the front of l takes at most m bytes.
