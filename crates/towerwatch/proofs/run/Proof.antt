@@ -15,11 +15,11 @@ abbrev Inv-loop : tie.InvT-loop
 Inv-loop buf₀ ps₀ table₀ state₀ values₀ out₀ watch₀ to₀ got₀ shown₀ buf ps table state values out watch to got shown =
     Ready buf to out
     × Reached (worldOf watch ps table state values) (take to buf) got shown
-    × (length buf ≡ length buf₀)
+    × ((length buf ≡ length buf₀)
     × (length out ≡ length out₀)
     × (length table ≡ length table₀)
     × (length state ≡ length state₀)
-    × (length values ≡ length values₀)
+    × (length values ≡ length values₀))
 
 abbrev μ-loop : tie.MeasureT-loop
 μ-loop buf₀ ps₀ table₀ state₀ values₀ out₀ watch₀ to₀ got₀ shown₀ buf ps table state values out watch to got shown =
@@ -28,17 +28,33 @@ abbrev μ-loop : tie.MeasureT-loop
 loop-holds : tie.Need-loop-holds Inv-loop μ-loop
 loop-holds c =
     let pre = c .before .before .before .before .before .before .pre in
-    (pre .0 .0, rw (c .begin .ensures, pre .1) reached-start, refl, refl, refl, refl, refl)
+    (pre .0 .0, rw (c .begin .ensures, pre .1) reached-start, (refl, refl, refl, refl, refl))
 
 once-requires : tie.Need-once-requires Inv-loop μ-loop
 once-requires c κs = c .before .before .before .before .before .before .loop .inv .0
 
--- What comes in and what is handed over stays far below 2 to the power of 64.
-size : (c : tie.After-once Inv-loop μ-loop) → length (c .before .before .before .before .before .before .before .loop .out) ≡ 65536
-size c = c .before .before .before .before .before .before .before .loop .inv .3 ∙ c .before .before .before .before .before .before .before .before .before .before .before .before .before .before .pre .0 .1
+-- No buffer changes its length.
+lengths : (c : tie.After-once Inv-loop μ-loop) →
+    let last = c .once .last .1 in
+    let args = c .before .before .before .before .before .before .before .before .before .before .before .before .before .before .args in
+    (length (last .0) ≡ length (args .buf .now))
+    × (length (last .1 .1 .1 .1 .1 .1 .0) ≡ length (args .out .now))
+    × (length (last .1 .1 .1 .0) ≡ length (args .table .now))
+    × (length (last .1 .1 .1 .1 .0) ≡ length (args .state .now))
+    × (length (last .1 .1 .1 .1 .1 .0) ≡ length (args .values .now))
+lengths c =
+    let kept = c .once .kept .1 in
+    let inv = c .before .before .before .before .before .before .before .loop .inv .2 in (
+      kept .0 ∙ inv .0,
+      kept .1 .1 .1 .1 .1 .1 .0 ∙ inv .1,
+      kept .1 .1 .1 .0 ∙ inv .2,
+      kept .1 .1 .1 .1 .0 ∙ inv .3,
+      kept .1 .1 .1 .1 .1 .0 ∙ inv .4,
+    )
 
+-- What comes in and what is handed over stays far below 2 to the power of 64.
 room : (c : tie.After-once Inv-loop μ-loop) → length (c .once .last .1 .1 .1 .1 .1 .1 .1 .0) ≡ 65536
-room c = c .once .kept .1 .1 .1 .1 .1 .1 .1 .0 ∙ size c
+room c = lengths c .1 ∙ c .before .before .before .before .before .before .before .before .before .before .before .before .before .before .pre .0 .1
 
 add-got : tie.Need-add-got Inv-loop μ-loop
 add-got c =
@@ -71,16 +87,8 @@ loop-again c =
     let turn = c .before .before .before .before .before .before .before .before .before .before .before .before .before in
     let inv = turn .before .before .before .before .before .before .before .loop .inv in
     let once = turn .once .ensures in
-    let kept = turn .once .kept .1 in
-    let on = sym (c .before .before .reads-on .ensures) ∙ not-false _ (c .before .if1 .left) in (
-      once .0,
-      reached-on (inv .1) _ (once .1) on (once .0 .short .below) (room turn),
-      kept .0 ∙ inv .2,
-      kept .1 .1 .1 .1 .1 .1 .0 ∙ inv .3,
-      kept .1 .1 .1 .0 ∙ inv .4,
-      kept .1 .1 .1 .1 .0 ∙ inv .5,
-      kept .1 .1 .1 .1 .1 .0 ∙ inv .6,
-    )
+    let on = sym (c .before .before .reads-on .ensures) ∙ not-false _ (c .before .if1 .left) in
+    (once .0, reached-on (inv .1) _ (once .1) on (once .0 .short .below) (room turn), lengths turn)
 
 pub run-spec : {M : Type 1} → statement M
 run-spec =
@@ -94,11 +102,11 @@ run-spec =
     add-got
     add-shown
     (λ c κs. search needs)
-    (λ c. c .before .before .before .before .before .before .before .before .before .before .before .before .once .kept .1 .0 ∙ c .before .before .before .before .before .before .before .before .before .before .before .before .before .before .before .before .before .before .before .loop .inv .2)
-    (λ c. c .before .before .before .before .before .before .before .before .before .before .before .before .once .kept .1 .1 .1 .1 .0 ∙ c .before .before .before .before .before .before .before .before .before .before .before .before .before .before .before .before .before .before .before .loop .inv .4)
-    (λ c. c .before .before .before .before .before .before .before .before .before .before .before .before .once .kept .1 .1 .1 .1 .1 .0 ∙ c .before .before .before .before .before .before .before .before .before .before .before .before .before .before .before .before .before .before .before .loop .inv .5)
-    (λ c. c .before .before .before .before .before .before .before .before .before .before .before .before .once .kept .1 .1 .1 .1 .1 .1 .0 ∙ c .before .before .before .before .before .before .before .before .before .before .before .before .before .before .before .before .before .before .before .loop .inv .6)
-    (λ c. c .before .before .before .before .before .before .before .before .before .before .before .before .once .kept .1 .1 .1 .1 .1 .1 .1 .0 ∙ c .before .before .before .before .before .before .before .before .before .before .before .before .before .before .before .before .before .before .before .loop .inv .3)
+    (λ c. lengths (c .before .before .before .before .before .before .before .before .before .before .before .before) .0)
+    (λ c. lengths (c .before .before .before .before .before .before .before .before .before .before .before .before) .2)
+    (λ c. lengths (c .before .before .before .before .before .before .before .before .before .before .before .before) .3)
+    (λ c. lengths (c .before .before .before .before .before .before .before .before .before .before .before .before) .4)
+    (λ c. lengths (c .before .before .before .before .before .before .before .before .before .before .before .before) .1)
     returns
     loop-less
     loop-again)
