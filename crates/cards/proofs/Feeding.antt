@@ -63,10 +63,6 @@ module _ {w₀ w : World} {b out₀ out : List ℕ} {u at : ℕ} (k : Between w�
         room = written-room;
       }
 
-  -- No bytes are left.
-  pub used-up : length b ≤ u → Feeds w₀ b (fedAs w u at) w out₀ out
-  used-up h = left-short-over (short-eq (drop-of-length-le b {i = u} h) short-none)
-
   -- Bytes s are put to out.
   module _
       (s : List ℕ) (room : at + length s ≤ length out) {out' : List ℕ} {at' : ℕ}

@@ -1,7 +1,7 @@
 -- How hexadecimal digits (specs/Ticks.antt) go on at a place of a line, that sixteen of them fit 64 bits, and the table
 -- of their values. Assumes nothing.
 use mathlib.Core.Path.{_≡_, refl, _∙_, sym, ap}
-use mathlib.Core.Bool.{Bool, true, _&&_}
+use mathlib.Core.Bool.{Bool, true, false, cond, _&&_}
 use mathlib.Core.List.{List}
 use Prim.Native.Nat.{ℕ, _+_, _-_, _*_, _^_, _≤_, _<_}
 use native.Mathlib.Omega.{arith}
@@ -15,6 +15,7 @@ use Rattle.lists.specs.Text.{bytes}
 use Rattle.tables.specs.Table.{all}
 use Rattle.tables.proofs.Tests.{and-true, all-at}
 use Rattle.cards.specs.Ticks.{hexOf, hexes, tickLine}
+use Rattle.cards.specs.declared.Ticked.{Ticked}
 use Rattle.cards.specs.declared.Ticked.the-variants.{Is, Broken}
 
 -- The digits from place i on, x being the number so far.
@@ -77,6 +78,21 @@ module _ (b : ℕ) (low : 48 ≤ b) (high : b ≤ 102) where
 
   pub digit-small : getD digits (b - 48) 0 ≤ 64
   digit-small = leb-true _ _ (and-true (eqb (getD digits (b - 48) 0) (hexOf (48 + (b - 48)) + 48)) _ right-at .1)
+
+-- A line that is not broken passes each of its tests.
+module _ {start signals : ℕ} where
+  pub passed : (t : Bool) {a : Ticked} → cond t a Broken ≡ Is start signals → (t ≡ true) × (a ≡ Is start signals)
+  passed true e = (refl, e)
+  passed false e = (cc, cc)
+
+  pub not-failed : (t : Bool) {a : Ticked} → cond t Broken a ≡ Is start signals
+      → (t ≡ false) × (a ≡ Is start signals)
+  not-failed true e = (cc, cc)
+  not-failed false e = (refl, e)
+
+pub tick-length : (l : List ℕ) (start signals : ℕ) → tickLine l ≡ Is start signals → length l ≡ 20
+unfolding tickLine
+tick-length l start signals e = eqb-true _ _ (passed (eqb (length l) 20) e .0)
 
 -- A line that is well made up to its digits.
 pub tick-digits : (s : List ℕ) → length s ≡ 20 → getD s 0 0 ≡ 116 → getD s 1 0 ≡ 61 → getD s 3 0 ≡ 44

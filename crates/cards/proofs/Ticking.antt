@@ -1,13 +1,12 @@
 -- Tick lines at the front of a piece: where a line ends that is fine, and what it does where no step has a refusal.
 -- Assumes nothing.
 use mathlib.Core.Path.{_≡_, refl, _∙_, sym, ap, subst}
-use mathlib.Core.Bool.{Bool, true, false, cond}
+use mathlib.Core.Bool.{Bool, true, false}
 use mathlib.Core.List.{List, [], _∷_}
 use Prim.Native.Nat.{ℕ, zero, suc, _+_, _-_, _≤_, _<_}
 use native.Mathlib.Omega.{arith}
 use lib.Dec.{eqb, ltb, leb}
 use lib.ListN.{length, getD, take, drop, length-drop}
-use lib.Seq.{length-take-le}
 use borrow.Author.Tests.{eqb-true, ltb-false, leb-false, ne-eqb, le-ltb}
 use Rattle.tables.specs.Flow.{standardCap}
 use Rattle.tables.specs.Step.{After, after, parameterFits, stepChecked, stepped}
@@ -22,25 +21,15 @@ use Rattle.cards.specs.declared.Fed.{Fed}
 use Rattle.cards.specs.declared.Phase.{Phase}
 use Rattle.cards.specs.declared.Phase.the-variants as P
 use Rattle.cards.specs.declared.Said.the-variants as D
-use Rattle.cards.specs.declared.Ticked.{Ticked}
 use Rattle.cards.specs.declared.Ticked.the-variants as T
 use Rattle.cards.specs.declared.Watch.{Watch}
-use Rattle.cards.proofs.Hex.{hex-low}
+use Rattle.cards.proofs.Hex.{hex-low, passed, not-failed, tick-length}
 use Rattle.cards.proofs.Resuming.{goes-none}
 use Rattle.cards.proofs.Feeding.{Between, said-room, after-line}
 
 -- ---- where a tick line ends
 
--- A line that is not broken passes each test of it.
-is-one : (b : Bool) (x : Ticked) (i j : ℕ) → cond b x T.Broken ≡ T.Is i j → (b ≡ true) × (x ≡ T.Is i j)
-is-one true x i j e = (refl, e)
-is-one false x i j e = (cc, cc)
-
-is-other : (b : Bool) (x : Ticked) (i j : ℕ) → cond b T.Broken x ≡ T.Is i j → (b ≡ false) × (x ≡ T.Is i j)
-is-other true x i j e = (cc, cc)
-is-other false x i j e = (refl, e)
-
--- So none of its bytes is a line end.
+-- None of its bytes is a line end.
 not-end : (b : ℕ) → ltb 15 (hexOf b) ≡ false → b ≡ 10 → ⊥
 not-end b e z = omega (arith, ltb-false 15 (hexOf b) e, hex-low b (omega arith))
 
@@ -48,7 +37,7 @@ hexes-line : (start x : ℕ) (l : List ℕ) (i j : ℕ) → hexes start x l ≡ 
 unfolding hexes line
 hexes-line start x [] i j e = refl
 hexes-line start x (b ∷ l) i j e =
-    let p = is-other (ltb 15 (hexOf b)) _ i j e in
+    let p = not-failed (ltb 15 (hexOf b)) e in
     rw (ne-eqb b 10 (not-end b (p .0))) (ap (λ (r : List ℕ). b ∷ r) (hexes-line start _ l i j (p .1)))
 
 tick-line : (l : List ℕ) (i j : ℕ) → tickLine l ≡ T.Is i j → line l ≡ l
@@ -58,11 +47,11 @@ tick-line (a ∷ []) i j e = cc
 tick-line (a ∷ b ∷ []) i j e = cc
 tick-line (a ∷ b ∷ c ∷ []) i j e = cc
 tick-line (a ∷ b ∷ c ∷ d ∷ l) i j e =
-    let first = is-one (eqb a 116) _ i j (is-one (eqb (length (a ∷ b ∷ c ∷ d ∷ l)) 20) _ i j e .1) in
-    let second = is-one (eqb b 61) _ i j (first .1) in
-    let fourth = is-one (eqb d 44) _ i j (second .1) in
-    let low = is-other (ltb c 48) _ i j (fourth .1) in
-    let high = is-other (ltb 49 c) _ i j (low .1) in
+    let first = passed (eqb a 116) (passed (eqb (length (a ∷ b ∷ c ∷ d ∷ l)) 20) e .1) in
+    let second = passed (eqb b 61) (first .1) in
+    let fourth = passed (eqb d 44) (second .1) in
+    let low = not-failed (ltb c 48) (fourth .1) in
+    let high = not-failed (ltb 49 c) (low .1) in
     let p : a ≡ 10 → ⊥ = λ z. omega (arith, eqb-true a 116 (first .0)) in
     let q : b ≡ 10 → ⊥ = λ z. omega (arith, eqb-true b 61 (second .0)) in
     let r : c ≡ 10 → ⊥ = λ z. omega (arith, ltb-false c 48 (low .0)) in
@@ -96,8 +85,8 @@ pub record First (s : List ℕ) (i j : ℕ) : Type 0 where
 pub first-tick : (s : List ℕ) (i j : ℕ) → T.Is i j ≡ tickFirst s → First s i j
 unfolding tickFirst
 first-tick s i j e =
-    let p = is-other (leb (length s) 20) _ i j (sym e) in
-    let q = is-one (eqb (getD s 20 0) 10) _ i j (p .1) in
+    let p = not-failed (leb (length s) 20) (sym e) in
+    let q = passed (eqb (getD s 20 0) 10) (p .1) in
     let whole = leb-false (length s) 20 (p .0) in
     record {
       whole = whole;
@@ -116,11 +105,12 @@ module _ (ps t : List ℕ) (n : ℕ) where
   turnedTo left x c v = record { world = atTicks left c v; said = D.Verdict x }
 
   -- A tick line whose step gives a verdict.
-  pub tick-lined : (l : List ℕ) (left i j x : ℕ) (c v : List ℕ) (a : After) → length l ≤ 4095 → 0 < left
+  pub tick-lined : (l : List ℕ) (left i j x : ℕ) (c v : List ℕ) (a : After) → 0 < left
       → tickLine l ≡ T.Is i j → stepped standardCap t n c v (tickOf i j ps) ≡ a → a .answer ≡ S.Verdict x
       → lined (atTicks left c v) l ≡ turnedTo (left - 1) x (a .state) (a .values)
   unfolding lined ticked
-  tick-lined l left i j x c v a short more e q y =
+  tick-lined l left i j x c v a more e q y =
+      let short : length l ≤ 4095 = omega (arith, tick-length l i j e) in
       rw (le-ltb _ _ short, ne-eqb left 0 (λ z. omega arith), e, q, y)
 
   -- A step's refusals do not depend on its start and signals.
@@ -152,7 +142,7 @@ module _ (ps t : List ℕ) (n : ℕ) where
     first = first-tick (drop u b) i j f
 
     twenty : 20 ≡ length (line (drop u b))
-    twenty = sym (ap length (first .ends) ∙ length-take-le 20 (drop u b) (omega (arith, first .whole)))
+    twenty = sym (ap length (first .ends) ∙ tick-length (take 20 (drop u b)) i j (first .tick))
 
     pub line-inside : u + 20 < length b
     line-inside = omega (arith, first .whole, length-drop u b)
@@ -162,8 +152,7 @@ module _ (ps t : List ℕ) (n : ℕ) where
         let z : u + 20 - u ≡ 20 = omega arith in
         rw z
         (sym
-        (tick-lined (take 20 (drop u b)) left i j x c v (after (S.Verdict x) c′ v′)
-        (omega (arith, length-take-le 20 (drop u b) (omega (arith, first .whole)))) more (first .tick) (sym a) refl))
+        (tick-lined (take 20 (drop u b)) left i j x c v (after (S.Verdict x) c′ v′) more (first .tick) (sym a) refl))
 
     pub verdict-room : at + length (sayBytes (D.Verdict x)) ≤ length out
     verdict-room = said-room k 20 twenty line-inside turn

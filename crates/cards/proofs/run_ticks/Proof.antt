@@ -6,7 +6,6 @@ use native.Mathlib.Omega.{arith}
 use borrow.Author.Needs.{needs}
 use lib.ListN.{length}
 use Rattle.cards.specs.Feed.{Admitted}
-use Rattle.cards.proofs.Moving.{put-length}
 use Rattle.cards.proofs.Feeding.{Between, begun}
 use Rattle.cards.proofs.Ticking.{atTicks, admitted-on, line-inside, verdict-room, after-tick, runs-all}
 use Rattle.cards.proofs.run_ticks.Statement.{statement}
