@@ -49,7 +49,7 @@ use Rattle.cards.specs.Meant.TickLines.{none as no-lines, more as more-l
 use Rattle.cards.specs.declared.Count.the-variants as K
 use Rattle.cards.specs.declared.Phase.the-variants as P
 use Rattle.cards.specs.declared.Said.the-variants as D
-use Rattle.cards.proofs.Ticking.{atTicks, turnedTo, tick-lined}
+use Rattle.cards.proofs.Ticking.{saying, tick-lined}
 use Rattle.cards.proofs.Sized.{parameters-low, parameters-short, count-short}
 
 -- ---- the calls that a card's ticks make
@@ -147,16 +147,17 @@ module _ (ps t : List ℕ) (n : ℕ) where
   -- The tick lines print what the calls answer, where these answers are verdicts.
   ticks-owed : {ls : List (List ℕ)} {ks : List Tick} → TickLines ps ls ks → (vd : ℕ → ℕ) (i : ℕ) (c v : List ℕ)
       → answers standardCap t n c (callsOf standardCap t n c v ks) ≡ verdictsFrom vd i ks
-      → owed (atTicks ps t n (length ks) c v) ls [] ≡ verdictLines vd i ks
+      → owed (worldOf (watchAt P.Ticks (length ks) n) ps t c v) ls [] ≡ verdictLines vd i ks
   unfolding owed verdictLines
   ticks-owed no-lines vd i c v e = quiet
   ticks-owed (more-lines {l} {ls} {start = b} {signals} {ks} q r) vd i c v e =
       let k = tickOf b signals ps in
       let a = stepped standardCap t n c v k in
       let less : suc (length ks) - 1 ≡ length ks = omega arith in
+      let w = watchAt P.Ticks (suc (length ks)) n in
       let here =
-      tick-lined ps t n l (suc (length ks)) b signals (vd i) c v a (omega arith) q refl (first-answer c v k ks vd i e)
-      ∙ ap (λ (m : ℕ). turnedTo ps t n m (vd i) (a .state) (a .values)) less in
+      tick-lined ps t w l b signals (vd i) c v a refl (omega arith) q refl (first-answer c v k ks vd i e)
+      ∙ ap (λ (m : ℕ). saying ps t (watchAt P.Ticks m n) (vd i) (a .state) (a .values)) less in
       ap (λ (y : Turned). sayBytes (y .said) ++ owed (y .world) ls []) here
       ∙ ap (λ (z : List ℕ). sayBytes (D.Verdict (vd i)) ++ z)
       (ticks-owed r vd (suc i) (a .state) (a .values) (other-answers c v k ks vd i e))

@@ -96,74 +96,75 @@ first-tick s i j e =
 
 -- ---- what it does
 
-module _ (ps t : List ℕ) (n : ℕ) where
-  -- At the ticks of a card, and after a line that says a verdict.
-  abbrev pub atTicks : ℕ → List ℕ → List ℕ → World
-  atTicks left c v = worldOf (watchAt P.Ticks left n) ps t c v
+module _ (ps t : List ℕ) where
+  -- After a line that says a verdict.
+  abbrev pub saying : Watch → ℕ → List ℕ → List ℕ → Turned
+  saying w x c v = record { world = worldOf w ps t c v; said = D.Verdict x }
 
-  abbrev pub turnedTo : ℕ → ℕ → List ℕ → List ℕ → Turned
-  turnedTo left x c v = record { world = atTicks left c v; said = D.Verdict x }
+  abbrev pub oneLess : Watch → Watch
+  oneLess w = watchAt (w .phase) (w .left - 1) (w .n)
 
   -- A tick line whose step gives a verdict.
-  pub tick-lined : (l : List ℕ) (left i j x : ℕ) (c v : List ℕ) (a : After) → 0 < left
-      → tickLine l ≡ T.Is i j → stepped standardCap t n c v (tickOf i j ps) ≡ a → a .answer ≡ S.Verdict x
-      → lined (atTicks left c v) l ≡ turnedTo (left - 1) x (a .state) (a .values)
+  pub tick-lined : (w : Watch) (l : List ℕ) (i j x : ℕ) (c v : List ℕ) (a : After) → w .phase ≡ P.Ticks
+      → 0 < w .left → tickLine l ≡ T.Is i j → stepped standardCap t (w .n) c v (tickOf i j ps) ≡ a
+      → a .answer ≡ S.Verdict x → lined (worldOf w ps t c v) l ≡ saying (oneLess w) x (a .state) (a .values)
   unfolding lined ticked
-  tick-lined l left i j x c v a more e q y =
+  tick-lined w l i j x c v a p more e q y =
       let short : length l ≤ 4095 = omega (arith, tick-length l i j e) in
-      rw (le-ltb _ _ short, ne-eqb left 0 (λ z. omega arith), e, q, y)
+      rw (le-ltb _ _ short, p, ne-eqb (w .left) 0 (λ z. omega arith), e, q, y)
 
   -- A step's refusals do not depend on its start and signals.
-  pub passes-any : (c v : List ℕ) → stepChecked standardCap t n c v (tickOf 0 0 ps) ≡ Passed
+  pub passes-any : (n : ℕ) (c v : List ℕ) → stepChecked standardCap t n c v (tickOf 0 0 ps) ≡ Passed
       → (start signals : ℕ) → stepChecked standardCap t n c v (tickOf start signals ps) ≡ Passed
   unfolding stepChecked parameterFits
-  passes-any c v e start signals = e
+  passes-any n c v e start signals = e
 
-  -- The step that was known to have no refusal leaves it so.
+  -- The step of a line at the ticks, where no step has a refusal.
   module _
-      {left left′ x : ℕ} {c v c′ v′ : List ℕ} (k : Admitted (atTicks left c v)) (i j : ℕ)
-      (a : after (S.Verdict x) c′ v′ ≡ stepped standardCap t n c v (tickOf i j ps)) where
-    pub admitted-on : Admitted (atTicks left′ c′ v′)
+      {w : Watch} {c v c′ v′ : List ℕ} {x : ℕ} (k : Admitted (worldOf w ps t c v)) (i j : ℕ)
+      (a : after (S.Verdict x) c′ v′ ≡ stepped standardCap t (w .n) c v (tickOf i j ps)) where
+    -- It leaves it so.
+    pub admitted-on : Admitted (worldOf (oneLess w) ps t c′ v′)
     admitted-on =
         record {
-          phase = refl;
+          phase = k .phase;
           passes = λ start signals.
-              subst (λ (y : After). stepChecked standardCap t n (y .state) (y .values) (tickOf start signals ps) ≡ Passed)
+              subst
+              (λ (y : After). stepChecked standardCap t (w .n) (y .state) (y .values) (tickOf start signals ps) ≡ Passed)
               (sym a)
-              (step-on standardCap t n c v (tickOf i j ps) (k .passes i j) (tickOf start signals ps) refl);
+              (step-on standardCap t (w .n) c v (tickOf i j ps) (k .passes i j) (tickOf start signals ps) refl);
         }
 
-  -- The line at the place u of a piece.
-  module _
-      {w₀ : World} {b out₀ out c v c′ v′ : List ℕ} {left u at i j x : ℕ}
-      (k : Between w₀ b out₀ (atTicks left c v) out u at) (f : T.Is i j ≡ tickFirst (drop u b)) (more : 0 < left)
-      (a : after (S.Verdict x) c′ v′ ≡ stepped standardCap t n c v (tickOf i j ps)) where
-    first : First (drop u b) i j
-    first = first-tick (drop u b) i j f
+    -- The line is at the place u of a piece.
+    module _
+        {w₀ : World} {b out₀ out : List ℕ} {u at : ℕ} (s : Between w₀ b out₀ (worldOf w ps t c v) out u at)
+        (f : T.Is i j ≡ tickFirst (drop u b)) (more : 0 < w .left) where
+      first : First (drop u b) i j
+      first = first-tick (drop u b) i j f
 
-    twenty : 20 ≡ length (line (drop u b))
-    twenty = sym (ap length (first .ends) ∙ tick-length (take 20 (drop u b)) i j (first .tick))
+      twenty : 20 ≡ length (line (drop u b))
+      twenty = sym (ap length (first .ends) ∙ tick-length (take 20 (drop u b)) i j (first .tick))
 
-    pub line-inside : u + 20 < length b
-    line-inside = omega (arith, first .whole, length-drop u b)
+      pub line-inside : u + 20 < length b
+      line-inside = omega (arith, first .whole, length-drop u b)
 
-    turn : turnedTo (left - 1) x c′ v′ ≡ lined (atTicks left c v) (take (u + 20 - u) (drop u b))
-    turn =
-        let z : u + 20 - u ≡ 20 = omega arith in
-        rw z
-        (sym
-        (tick-lined (take 20 (drop u b)) left i j x c v (after (S.Verdict x) c′ v′) more (first .tick) (sym a) refl))
+      turn : saying (oneLess w) x c′ v′ ≡ lined (worldOf w ps t c v) (take (u + 20 - u) (drop u b))
+      turn =
+          let z : u + 20 - u ≡ 20 = omega arith in
+          let l = take 20 (drop u b) in
+          rw z
+          (sym (tick-lined w l i j x c v (after (S.Verdict x) c′ v′) (k .phase) more (first .tick) (sym a) refl))
 
-    pub verdict-room : at + length (sayBytes (D.Verdict x)) ≤ length out
-    verdict-room = said-room k 20 twenty line-inside turn
+      pub verdict-room : at + length (sayBytes (D.Verdict x)) ≤ length out
+      verdict-room = said-room s 20 twenty line-inside turn
 
-    pub after-tick : {out′ : List ℕ} {at′ : ℕ} → at′ ≡ at + length (sayBytes (D.Verdict x))
-        → out′ ≡ placed out at (sayBytes (D.Verdict x))
-        → Between w₀ b out₀ (atTicks (left - 1) c′ v′) out′ (u + 21) at′
-    after-tick {out′} {at′} e p =
-        let z : u + 20 + 1 ≡ u + 21 = omega arith in
-        subst (λ (m : ℕ). Between w₀ b out₀ (atTicks (left - 1) c′ v′) out′ m at′) z
-        (after-line k 20 twenty line-inside turn e p)
+      pub after-tick : {out′ : List ℕ} {at′ : ℕ} → at′ ≡ at + length (sayBytes (D.Verdict x))
+          → out′ ≡ placed out at (sayBytes (D.Verdict x))
+          → Between w₀ b out₀ (worldOf (oneLess w) ps t c′ v′) out′ (u + 21) at′
+      after-tick {out′} {at′} e p =
+          let z : u + 20 + 1 ≡ u + 21 = omega arith in
+          subst (λ (m : ℕ). Between w₀ b out₀ (worldOf (oneLess w) ps t c′ v′) out′ m at′) z
+          (after-line s 20 twenty line-inside turn e p)
 
 -- No lines are used up.
 pub runs-none : (w : World) (b out : List ℕ) → Runs w b (fedTo (w .watch) 0 0) w out out
@@ -178,24 +179,16 @@ runs-none w b out =
       kept = refl;
     }
 
--- Those that the loop over the tick lines has run, w being the watch before them.
-pub runs-all : {ps t c₀ v₀ c v b out₀ out : List ℕ} {left u at : ℕ} {r : Fed} (w : Watch) → w .phase ≡ P.Ticks
-    → Between (atTicks ps t (w .n) (w .left) c₀ v₀) b out₀ (atTicks ps t (w .n) left c v) out u at
-    → r ≡ fedTo (watchAt P.Ticks left (w .n)) u at
-    → Runs (worldOf w ps t c₀ v₀) b r (worldOf (r .watch) ps t c v) out₀ out
-runs-all {ps} {t} {c₀} {v₀} {c} {v} {b} {out₀} {out} {left} {u} {at} w p k e =
-    let first : w ≡ watchAt P.Ticks (w .left) (w .n) = ap (λ (x : Phase). watchAt x (w .left) (w .n)) p in
-    rw e
-    (subst
-    (λ (x : Watch). Runs (worldOf x ps t c₀ v₀) b (fedTo (watchAt P.Ticks left (w .n)) u at)
-    (atTicks ps t (w .n) left c v) out₀ out)
-    (sym first)
-    (record {
-      goes = k .goes;
-      world = k .world;
-      left = k .left;
-      used = k .within;
-      paid = omega (arith, k .paid);
-      phase = refl;
-      kept = k .kept;
-    }))
+-- Those that the loop over the tick lines has run.
+pub runs-all : {w₀ w : World} {b out₀ out : List ℕ} {u at : ℕ} → Between w₀ b out₀ w out u at
+    → w₀ .watch .phase ≡ P.Ticks → w .watch .phase ≡ P.Ticks → Runs w₀ b (fedTo (w .watch) u at) w out₀ out
+runs-all s p q =
+    record {
+      goes = s .goes;
+      world = s .world;
+      left = s .left;
+      used = s .within;
+      paid = let h = rw q at (s .paid) in omega arith;
+      phase = p ∙ sym q;
+      kept = s .kept;
+    }

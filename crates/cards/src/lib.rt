@@ -12,8 +12,7 @@ ghost use lib.ListN.{length, take, drop, getD};
 ghost use Rattle.cards.specs.Numbers.{isDigit, starts, Reads, listed, parametersOf, countOf};
 ghost use Rattle.cards.specs.Ticks.{hexOf, tickLine, tickFirst};
 ghost use Rattle.cards.specs.Card.{editionOf, ruling, ruled, ticking, ticked, turned, lined, worldOf, start};
-ghost use Rattle.cards.specs.Card.{sayBytes, brokenBy, endedBy, isOver, watchAt, stoppedTurn, goingTurn};
-ghost use Rattle.cards.specs.Card.{keeping, kept};
+ghost use Rattle.cards.specs.Card.{sayBytes, brokenBy, endedBy, isOver, stoppedTurn, goingTurn, keeping, kept};
 ghost use Rattle.cards.specs.Lines.{line, lineFrom};
 ghost use Rattle.cards.specs.Feed.{Room, Admitted, fedTo, Runs, Feeds, shifted, Turns, Short, Finishes, placed};
 
@@ -554,15 +553,11 @@ fn line_length(s: &[u8], at: usize) -> usize
     i - at
 }
 
-fn fed_to(p: Phase, left: u32, n: usize, used: usize, written: usize) -> Fed
-    ensures { λ r. ⌜ r ≡ fedTo (watchAt p left n) used written ⌝ }
+fn fed_to(watch: Watch, used: usize, written: usize) -> Fed
+    ensures { λ r. ⌜ r ≡ fedTo watch used written ⌝ }
 {
     Fed {
-        watch: Watch {
-            phase: p,
-            left: left,
-            n: n,
-        },
+        watch: watch,
         used: used,
         written: written,
     }
@@ -586,7 +581,7 @@ fn tick_at(s: &[u8], at: usize) -> Ticked
 // Runs the tick lines at the front of a piece, up to the first that is broken or not whole. The steps are known to
 // have no refusal.
 fn run_ticks(
-    w: Watch,
+    watch: Watch,
     bytes: &[u8],
     parameters: &[u32; 8],
     table: &[u32],
@@ -595,20 +590,19 @@ fn run_ticks(
     out: &mut [u8],
 ) -> Fed
     requires { ⌜ Room (now bytes) (now out)
-        × Admitted (worldOf w (now parameters) (now table) (now state) (now values)) ⌝ }
+        × Admitted (worldOf watch (now parameters) (now table) (now state) (now values)) ⌝ }
     ensures { λ r. ⌜ Runs
-        (worldOf w (now (parameters .entry)) (now (table .entry)) (now (state .entry)) (now (values .entry)))
+        (worldOf watch (now (parameters .entry)) (now (table .entry)) (now (state .entry)) (now (values .entry)))
         (now (bytes .entry)) r
         (worldOf (r .watch) (now (parameters .exit)) (now (table .exit)) (now (state .exit)) (now (values .exit)))
         (now (out .entry)) (now (out .exit)) ⌝ }
 {
-    let n = w.n;
-    let mut left = w.left;
+    let mut w = watch;
     let mut used = 0;
     let mut at = 0;
-    while 0 < left {
+    while 0 < w.left {
         let Ticked::Is { start, signals } = tick_at(bytes, used) else {
-            return fed_to(Phase::Ticks, left, n, used, at);
+            return fed_to(w, used, at);
         };
         let parameters = *parameters;
         let now = Tick {
@@ -616,12 +610,12 @@ fn run_ticks(
             signals,
             parameters,
         };
-        let v = tables::step_passed(table, n, state, values, now);
+        let v = tables::step_passed(table, w.n, state, values, now);
         at = put(out, at, Said::Verdict(v));
         used += 21;
-        left -= 1;
+        w.left -= 1;
     }
-    fed_to(Phase::Ticks, left, n, used, at)
+    fed_to(w, used, at)
 }
 
 // Where the ticks come next and no step has a refusal, runs the tick lines at the front of a piece: one check for all
@@ -643,19 +637,17 @@ fn feed_ticks(
         (now (out .entry)) (now (out .exit)) ⌝ }
 {
     let phase = w.phase;
-    let left = w.left;
-    let n = w.n;
     let Phase::Ticks = phase else {
-        return fed_to(phase, left, n, 0, 0);
+        return fed_to(w, 0, 0);
     };
     let now = Tick {
         start: 0,
         signals: 0,
         parameters: *parameters,
     };
-    let checked = tables::step_checked(table, n, state, values, now);
+    let checked = tables::step_checked(table, w.n, state, values, now);
     let Checked::Passed = checked else {
-        return fed_to(phase, left, n, 0, 0);
+        return fed_to(w, 0, 0);
     };
     run_ticks(w, bytes, parameters, table, state, values, out)
 }
@@ -699,22 +691,14 @@ fn feed(
         let stop = used + n;
         if stop == bytes.len() {
             if n < 4096 {
-                return Fed {
-                    watch: w,
-                    used: used,
-                    written: at,
-                };
+                return fed_to(w, used, at);
             }
             let phase = w.phase;
             let over = stopped(broken(phase));
             let last = over.watch;
             let word = over.said;
             let past = put(out, at, word);
-            return Fed {
-                watch: last,
-                used: stop,
-                written: past,
-            };
+            return fed_to(last, stop, past);
         }
         let t = on_line(w, &bytes[used..stop], parameters, table, state, values);
         let next = t.watch;

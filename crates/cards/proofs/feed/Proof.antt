@@ -7,8 +7,8 @@ use borrow.Author.Needs.{needs}
 use lib.ListN.{length}
 use Rattle.cards.specs.Card.{worldOf, stoppedTurn, brokenBy, sayBytes}
 use Rattle.cards.proofs.Moving.{put-length, withRest}
-use Rattle.cards.proofs.Feeding.{Between, begun, written-room, rest-room, ran-on, line-inside, said-room, after-line}
-use Rattle.cards.proofs.Feeding.{left-over, last-room, over-long}
+use Rattle.cards.proofs.Feeding.{Between, begun, written-room, rest-room, ran-on, line-inside, said-room}
+use Rattle.cards.proofs.Feeding.{after-line, left-over, last-room, over-long}
 use Rattle.cards.proofs.feed.Statement.{statement}
 use Rattle.cards.proofs.feed.Tie as tie
 
@@ -23,7 +23,7 @@ abbrev μ-loop : tie.MeasureT-loop
 loop-holds : tie.Need-loop-holds Inv-loop μ-loop
 loop-holds c = (begun _ _ _ (c .before .before .before .before .before .pre), refl, refl, refl)
 
--- After the tick lines that are run at once.
+-- After the tick lines that `feed_ticks` runs.
 run : (c : tie.After-feed-ticks Inv-loop μ-loop) →
     let args = c .before .before .before .before .before .before .before .before .before .before .before .before .before .args in
     let loop = c .before .before .before .before .before .before .before .loop in
@@ -34,7 +34,9 @@ run : (c : tie.After-feed-ticks Inv-loop μ-loop) →
     (worldOf (r .result .watch) (loop .parameters) (loop .table) (r .last .1 .1 .1 .1 .0) (r .last .1 .1 .1 .1 .1 .0))
     (withRest (loop .out) (loop .at) (r .last .1 .1 .1 .1 .1 .1 .0))
     (loop .used + r .result .used) (loop .at + r .result .written)
-run c = ran-on (c .before .before .before .before .before .before .before .loop .inv .0) (c .feed-ticks .ensures) (c .feed-ticks .kept .1 .1 .1 .1 .1 .1 .0)
+run c =
+    let inv = c .before .before .before .before .before .before .before .loop .inv in
+    ran-on (inv .0) (c .feed-ticks .ensures) (c .feed-ticks .kept .1 .1 .1 .1 .1 .1 .0)
 
 lengths : (c : tie.After-feed-ticks Inv-loop μ-loop) →
     let args = c .before .before .before .before .before .before .before .before .before .before .before .before .before .args in
@@ -52,39 +54,50 @@ size : (c : tie.After-feed-ticks Inv-loop μ-loop) →
     (length (args .bytes .now) < 18446744073709551616) × (length (args .out .now) < 18446744073709551616)
 size c = omega (arith, c .before .before .before .before .before .before .before .before .before .before .before .before .before .good)
 
+add-used : tie.Need-add-used Inv-loop μ-loop
+add-used c =
+    let ran = c .before .before .before .before .before .before .before .before in
+    omega (arith, run ran .within, size ran)
+
 add-at : tie.Need-add-at Inv-loop μ-loop
 add-at c =
-    let ran = run (c .before .before .before .before .before .before .before .before .before) in
-    omega (arith, written-room ran, ran .same, size (c .before .before .before .before .before .before .before .before .before))
+    let ran = c .before .before .before .before .before .before .before .before .before in
+    omega (arith, written-room (run ran), run ran .same, size ran)
 
 -- The line that is looked at ends in the piece,
 inside : (c : tie.After-line-length Inv-loop μ-loop) →
-    c .before .before .before .before .before .before .before .before .before .before .before .before .before .before .before .before .before .loop .used + c .before .before .before .before .before .before .before .before .before .before .feed-ticks .result .used + c .line-length .result
-    ≤ length (c .before .before .before .before .before .before .before .before .before .before .before .before .before .before .before .before .before .before .before .before .before .before .before .args .bytes .now)
+    let ran = c .before .before .before .before .before .before .before .before .before .before in
+    ran .before .before .before .before .before .before .before .loop .used + ran .feed-ticks .result .used + c .line-length .result
+    ≤ length (ran .before .before .before .before .before .before .before .before .before .before .before .before .before .args .bytes .now)
 inside c = line-inside (run (c .before .before .before .before .before .before .before .before .before .before)) (c .line-length .result) (c .line-length .ensures)
+
+add-stop : tie.Need-add-stop Inv-loop μ-loop
+add-stop c = omega (arith, inside c, size (c .before .before .before .before .before .before .before .before .before .before))
 
 -- and where it does not reach its end, so does its byte 10.
 whole-line : (c : tie.Else1 Inv-loop μ-loop) →
-    let line = c .before in
-    line .before .before .before .before .before .before .before .before .before .before .before .before .before .before .before .before .before .loop .used + line .before .before .before .before .before .before .before .before .before .before .feed-ticks .result .used + line .line-length .result
-    < length (line .before .before .before .before .before .before .before .before .before .before .before .before .before .before .before .before .before .before .before .before .before .before .before .args .bytes .now)
+    let ran = c .before .before .before .before .before .before .before .before .before .before .before in
+    ran .before .before .before .before .before .before .before .loop .used + ran .feed-ticks .result .used + c .before .line-length .result
+    < length (ran .before .before .before .before .before .before .before .before .before .before .before .before .before .args .bytes .now)
 whole-line c = omega (arith, inside (c .before), c .if1 .left)
 
 -- The start of a line is left over.
 returns : tie.Need-returns Inv-loop μ-loop
 returns c =
-    let line = c .before .before in
-    left-over (run (line .before .before .before .before .before .before .before .before .before .before)) (line .line-length .result) (line .line-length .ensures)
-    (c .before .if1 .taken) (c .if2 .taken)
+    let line = c .before .before .before in
+    rw (c .fed-to .ensures)
+    (left-over (run (line .before .before .before .before .before .before .before .before .before .before)) (line .line-length .result) (line .line-length .ensures)
+    (c .before .before .if1 .taken) (c .before .if2 .taken))
 
 -- The start of an over-long line: the card is over.
 over : (c : tie.After-put-arg Inv-loop μ-loop) →
-    c .before .before .stopped .result ≡ stoppedTurn (brokenBy (c .before .before .before .before .before .before .before .before .before .before .before .before .before .before .before .before .feed-ticks .result .watch .phase))
+    let phase = c .before .before .before .before .before .before .before .before .before .before .before .before .before .before .before .before .feed-ticks .result .watch .phase in
+    c .before .before .stopped .result ≡ stoppedTurn (brokenBy phase)
 over c = c .before .before .stopped .ensures ∙ ap stoppedTurn (c .before .before .before .broken .ensures)
 
 over-room : (c : tie.After-put-arg Inv-loop μ-loop) →
-    let loop = c .before .before .before .before .before .before .before .before .before .before .before .before .before .before .before .before .before .before .before .before .before .before .before .loop in
     let r = c .before .before .before .before .before .before .before .before .before .before .before .before .before .before .before .before .feed-ticks in
+    let loop = c .before .before .before .before .before .before .before .before .before .before .before .before .before .before .before .before .before .before .before .before .before .before .before .loop in
     loop .at + r .result .written + length (sayBytes (c .before .before .stopped .result .said))
     ≤ length (withRest (loop .out) (loop .at) (r .last .1 .1 .1 .1 .1 .1 .0))
 over-room c =
@@ -95,47 +108,45 @@ over-room c =
 
 same-length-8 : tie.Need-same-length-8 Inv-loop μ-loop
 same-length-8 c =
-    let put = c .before .before .put .ensures in
-    let at-put = c .before .before .before in
-    let ran = run (at-put .before .before .before .before .before .before .before .before .before .before .before .before .before .before .before .before) in
-    put-length _ _ _ (put .0) (put .1) (over-room at-put) ∙ ran .same
+    let put = c .before .before .before .put .ensures in
+    let at-put = c .before .before .before .before in
+    put-length _ _ _ (put .0) (put .1) (over-room at-put) ∙ run (at-put .before .before .before .before .before .before .before .before .before .before .before .before .before .before .before .before) .same
 
 returns-2 : tie.Need-returns-2 Inv-loop μ-loop
 returns-2 c =
-    let put = c .before .before .put .ensures in
-    let at-put = c .before .before .before in
+    let put = c .before .before .before .put .ensures in
+    let at-put = c .before .before .before .before in
     let long = at-put .before .before .before .before in
     let line = long .before .before in
-    over-long (run (line .before .before .before .before .before .before .before .before .before .before)) (line .line-length .result) (line .line-length .ensures)
+    rw (c .fed-to2 .ensures)
+    (over-long (run (line .before .before .before .before .before .before .before .before .before .before)) (line .line-length .result) (line .line-length .ensures)
     (long .before .if1 .taken) (long .if2 .left) (at-put .before .before .stopped .result) (over at-put)
-    (put .0) (put .1)
+    (put .0) (put .1))
 
 -- A whole line.
 room : (c : tie.After-put-arg2 Inv-loop μ-loop) →
     let on-line = c .before .before .before .before .before .before .before .before in
-    let line = on-line .before .before .before .before .before .before .before in
-    let loop = line .before .before .before .before .before .before .before .before .before .before .before .before .before .before .before .before .before .loop in
-    let r = line .before .before .before .before .before .before .before .before .before .before .feed-ticks in
+    let ran = on-line .before .before .before .before .before .before .before .before .before .before .before .before .before .before .before .before .before in
+    let loop = ran .before .before .before .before .before .before .before .loop in
+    let r = ran .feed-ticks in
     loop .at + r .result .written + length (sayBytes (on-line .on-line .result .said))
     ≤ length (withRest (loop .out) (loop .at) (r .last .1 .1 .1 .1 .1 .1 .0))
 room c =
     let on-line = c .before .before .before .before .before .before .before .before in
     let whole = on-line .before .before .before .before .before .before in
     let line = whole .before in
-    said-room (run (line .before .before .before .before .before .before .before .before .before .before)) (line .line-length .result) (line .line-length .ensures) (whole-line whole)
-    (on-line .on-line .ensures)
-
-inside-after : (c : tie.After-slice-known12 Inv-loop μ-loop) →
-    let line = c .before .before .before .before .before .before .before .before .before .before .before .before .before .before .before .before .before .before in
-    line .before .before .before .before .before .before .before .before .before .before .before .before .before .before .before .before .before .loop .used + line .before .before .before .before .before .before .before .before .before .before .feed-ticks .result .used + line .line-length .result
-    < length (line .before .before .before .before .before .before .before .before .before .before .before .before .before .before .before .before .before .before .before .before .before .before .before .args .bytes .now)
-inside-after c = whole-line (c .before .before .before .before .before .before .before .before .before .before .before .before .before .before .before .before .before)
+    said-room (run (line .before .before .before .before .before .before .before .before .before .before)) (line .line-length .result) (line .line-length .ensures)
+    (whole-line whole) (on-line .on-line .ensures)
 
 add-used-2 : tie.Need-add-used-2 Inv-loop μ-loop
-add-used-2 c = omega (arith, inside-after c, size (c .before .before .before .before .before .before .before .before .before .before .before .before .before .before .before .before .before .before .before .before .before .before .before .before .before .before .before .before))
+add-used-2 c =
+    let whole = c .before .before .before .before .before .before .before .before .before .before .before .before .before .before .before .before .before in
+    omega (arith, whole-line whole, size (whole .before .before .before .before .before .before .before .before .before .before .before))
 
 loop-less : tie.Need-loop-less Inv-loop μ-loop
-loop-less c = omega (arith, inside-after c)
+loop-less c =
+    let whole = c .before .before .before .before .before .before .before .before .before .before .before .before .before .before .before .before .before in
+    omega (arith, whole-line whole)
 
 loop-again : tie.Need-loop-again Inv-loop μ-loop
 loop-again c =
@@ -143,13 +154,13 @@ loop-again c =
     let on-line = c .before .before .before .before .before .before .before .before .before .before .before in
     let whole = on-line .before .before .before .before .before .before in
     let line = whole .before in
-    let old = lengths (line .before .before .before .before .before .before .before .before .before .before) in
+    let ran = line .before .before .before .before .before .before .before .before .before .before in
     let kept = on-line .on-line .kept in (
-      after-line (run (line .before .before .before .before .before .before .before .before .before .before)) (line .line-length .result) (line .line-length .ensures) (whole-line whole)
+      after-line (run ran) (line .line-length .result) (line .line-length .ensures) (whole-line whole)
           (on-line .on-line .ensures) (put .0) (put .1),
-      omega (arith, kept, old .0),
-      omega (arith, kept, old .1),
-      omega (arith, kept, old .2),
+      omega (arith, kept, lengths ran .0),
+      omega (arith, kept, lengths ran .1),
+      omega (arith, kept, lengths ran .2),
     )
 
 pub feed-spec : {M : Type 1} → statement M
@@ -166,21 +177,23 @@ feed-spec =
     (λ c. written-room (c .before .before .before .before .before .loop .inv .0))
     (λ c. search needs)
     (λ c κs. rest-room (c .before .before .before .before .before .before .loop .inv .0))
-    (λ c. omega (arith, run (c .before .before .before .before .before .before .before .before) .within, size (c .before .before .before .before .before .before .before .before)))
+    add-used
     add-at
     (λ c κs. run (c .before .before .before .before .before .before .before .before .before) .within)
-    (λ c. omega (arith, inside c, size (c .before .before .before .before .before .before .before .before .before .before)))
-    (λ c. lengths (c .before .before .before .before .before .before .before .before .before .before .before .before) .0)
-    (λ c. lengths (c .before .before .before .before .before .before .before .before .before .before .before .before) .1)
-    (λ c. lengths (c .before .before .before .before .before .before .before .before .before .before .before .before) .2)
-    (λ c. run (c .before .before .before .before .before .before .before .before .before .before .before .before) .same)
+    add-stop
+    (λ c κs. search needs)
+    (λ c. lengths (c .before .before .before .before .before .before .before .before .before .before .before .before .before) .0)
+    (λ c. lengths (c .before .before .before .before .before .before .before .before .before .before .before .before .before) .1)
+    (λ c. lengths (c .before .before .before .before .before .before .before .before .before .before .before .before .before) .2)
+    (λ c. run (c .before .before .before .before .before .before .before .before .before .before .before .before .before) .same)
     returns
     (λ c κs. search needs)
     (λ c κs. search needs)
     (λ c κs. over-room c)
-    (λ c. lengths (c .before .before .before .before .before .before .before .before .before .before .before .before .before .before .before .before .before .before .before) .0)
-    (λ c. lengths (c .before .before .before .before .before .before .before .before .before .before .before .before .before .before .before .before .before .before .before) .1)
-    (λ c. lengths (c .before .before .before .before .before .before .before .before .before .before .before .before .before .before .before .before .before .before .before) .2)
+    (λ c κs. search needs)
+    (λ c. lengths (c .before .before .before .before .before .before .before .before .before .before .before .before .before .before .before .before .before .before .before .before) .0)
+    (λ c. lengths (c .before .before .before .before .before .before .before .before .before .before .before .before .before .before .before .before .before .before .before .before) .1)
+    (λ c. lengths (c .before .before .before .before .before .before .before .before .before .before .before .before .before .before .before .before .before .before .before .before) .2)
     same-length-8
     returns-2
     (λ c. omega (arith, inside (c .before)))
