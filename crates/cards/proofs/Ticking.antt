@@ -17,8 +17,6 @@ use Rattle.cards.specs.Ticks.{hexOf, hexes, tickLine, tickFirst}
 use Rattle.cards.specs.Lines.{line}
 use Rattle.cards.specs.Card.{World, worldOf, Turned, watchAt, tickOf, ticked, lined, sayBytes}
 use Rattle.cards.specs.Feed.{Admitted, Runs, fedTo, placed}
-use Rattle.cards.specs.declared.Fed.{Fed}
-use Rattle.cards.specs.declared.Phase.{Phase}
 use Rattle.cards.specs.declared.Phase.the-variants as P
 use Rattle.cards.specs.declared.Said.the-variants as D
 use Rattle.cards.specs.declared.Ticked.the-variants as T

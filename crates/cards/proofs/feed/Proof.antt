@@ -23,10 +23,20 @@ abbrev μ-loop : tie.MeasureT-loop
 loop-holds : tie.Need-loop-holds Inv-loop μ-loop
 loop-holds c = (begun _ _ _ (c .before .before .before .before .before .pre), refl, refl, refl)
 
+-- The places before a line is looked at: the call of `feed_ticks`, the loop and the start.
+abbrev ran : tie.After-line-length Inv-loop μ-loop → tie.After-feed-ticks Inv-loop μ-loop
+ran c = c .before .before .before .before .before .before .before .before .before .before
+
+abbrev turn : tie.After-feed-ticks Inv-loop μ-loop → tie.At-loop Inv-loop μ-loop
+turn c = c .before .before .before .before .before .before .before
+
+abbrev start : tie.After-feed-ticks Inv-loop μ-loop → tie.Start Inv-loop μ-loop
+start c = c .before .before .before .before .before .before .before .before .before .before .before .before .before
+
 -- After the tick lines that `feed_ticks` runs.
 run : (c : tie.After-feed-ticks Inv-loop μ-loop) →
-    let args = c .before .before .before .before .before .before .before .before .before .before .before .before .before .args in
-    let loop = c .before .before .before .before .before .before .before .loop in
+    let args = start c .args in
+    let loop = turn c .loop in
     let r = c .feed-ticks in
     Between
     (worldOf (args .watch) (args .parameters .now) (args .table .now) (args .state .now) (args .values .now))
@@ -35,50 +45,50 @@ run : (c : tie.After-feed-ticks Inv-loop μ-loop) →
     (withRest (loop .out) (loop .at) (r .last .1 .1 .1 .1 .1 .1 .0))
     (loop .used + r .result .used) (loop .at + r .result .written)
 run c =
-    let inv = c .before .before .before .before .before .before .before .loop .inv in
+    let inv = turn c .loop .inv in
     ran-on (inv .0) (c .feed-ticks .ensures) (c .feed-ticks .kept .1 .1 .1 .1 .1 .1 .0)
 
 lengths : (c : tie.After-feed-ticks Inv-loop μ-loop) →
-    let args = c .before .before .before .before .before .before .before .before .before .before .before .before .before .args in
+    let args = start c .args in
     let r = c .feed-ticks in
-    (length (c .before .before .before .before .before .before .before .loop .table) ≡ length (args .table .now))
+    (length (turn c .loop .table) ≡ length (args .table .now))
     × (length (r .last .1 .1 .1 .1 .0) ≡ length (args .state .now))
     × (length (r .last .1 .1 .1 .1 .1 .0) ≡ length (args .values .now))
 lengths c =
-    let inv = c .before .before .before .before .before .before .before .loop .inv in
+    let inv = turn c .loop .inv in
     let kept = c .feed-ticks .kept in
     (inv .1, kept .1 .1 .1 .1 .0 ∙ inv .2, kept .1 .1 .1 .1 .1 .0 ∙ inv .3)
 
 size : (c : tie.After-feed-ticks Inv-loop μ-loop) →
-    let args = c .before .before .before .before .before .before .before .before .before .before .before .before .before .args in
+    let args = start c .args in
     (length (args .bytes .now) < 18446744073709551616) × (length (args .out .now) < 18446744073709551616)
-size c = omega (arith, c .before .before .before .before .before .before .before .before .before .before .before .before .before .good)
+size c = omega (arith, start c .good)
 
 add-used : tie.Need-add-used Inv-loop μ-loop
 add-used c =
-    let ran = c .before .before .before .before .before .before .before .before in
-    omega (arith, run ran .within, size ran)
+    let here = c .before .before .before .before .before .before .before .before in
+    omega (arith, run here .within, size here)
 
 add-at : tie.Need-add-at Inv-loop μ-loop
 add-at c =
-    let ran = c .before .before .before .before .before .before .before .before .before in
-    omega (arith, written-room (run ran), run ran .same, size ran)
+    let here = c .before .before .before .before .before .before .before .before .before in
+    omega (arith, written-room (run here), run here .same, size here)
 
 -- The line that is looked at ends in the piece,
 inside : (c : tie.After-line-length Inv-loop μ-loop) →
-    let ran = c .before .before .before .before .before .before .before .before .before .before in
-    ran .before .before .before .before .before .before .before .loop .used + ran .feed-ticks .result .used + c .line-length .result
-    ≤ length (ran .before .before .before .before .before .before .before .before .before .before .before .before .before .args .bytes .now)
-inside c = line-inside (run (c .before .before .before .before .before .before .before .before .before .before)) (c .line-length .result) (c .line-length .ensures)
+    let here = ran c in
+    turn here .loop .used + here .feed-ticks .result .used + c .line-length .result
+    ≤ length (start here .args .bytes .now)
+inside c = line-inside (run (ran c)) (c .line-length .result) (c .line-length .ensures)
 
 add-stop : tie.Need-add-stop Inv-loop μ-loop
-add-stop c = omega (arith, inside c, size (c .before .before .before .before .before .before .before .before .before .before))
+add-stop c = omega (arith, inside c, size (ran c))
 
 -- and where it does not reach its end, so does its byte 10.
 whole-line : (c : tie.Else1 Inv-loop μ-loop) →
-    let ran = c .before .before .before .before .before .before .before .before .before .before .before in
-    ran .before .before .before .before .before .before .before .loop .used + ran .feed-ticks .result .used + c .before .line-length .result
-    < length (ran .before .before .before .before .before .before .before .before .before .before .before .before .before .args .bytes .now)
+    let here = ran (c .before) in
+    turn here .loop .used + here .feed-ticks .result .used + c .before .line-length .result
+    < length (start here .args .bytes .now)
 whole-line c = omega (arith, inside (c .before), c .if1 .left)
 
 -- The start of a line is left over.
@@ -86,31 +96,32 @@ returns : tie.Need-returns Inv-loop μ-loop
 returns c =
     let line = c .before .before .before in
     rw (c .fed-to .ensures)
-    (left-over (run (line .before .before .before .before .before .before .before .before .before .before)) (line .line-length .result) (line .line-length .ensures)
+    (left-over (run (ran line)) (line .line-length .result) (line .line-length .ensures)
     (c .before .before .if1 .taken) (c .before .if2 .taken))
 
 -- The start of an over-long line: the card is over.
 over : (c : tie.After-put-arg Inv-loop μ-loop) →
-    let phase = c .before .before .before .before .before .before .before .before .before .before .before .before .before .before .before .before .feed-ticks .result .watch .phase in
+    let phase = ran (c .before .before .before .before .before .before) .feed-ticks .result .watch .phase in
     c .before .before .stopped .result ≡ stoppedTurn (brokenBy phase)
 over c = c .before .before .stopped .ensures ∙ ap stoppedTurn (c .before .before .before .broken .ensures)
 
 over-room : (c : tie.After-put-arg Inv-loop μ-loop) →
-    let r = c .before .before .before .before .before .before .before .before .before .before .before .before .before .before .before .before .feed-ticks in
-    let loop = c .before .before .before .before .before .before .before .before .before .before .before .before .before .before .before .before .before .before .before .before .before .before .before .loop in
+    let here = ran (c .before .before .before .before .before .before) in
+    let r = here .feed-ticks in
+    let loop = turn here .loop in
     loop .at + r .result .written + length (sayBytes (c .before .before .stopped .result .said))
     ≤ length (withRest (loop .out) (loop .at) (r .last .1 .1 .1 .1 .1 .1 .0))
 over-room c =
     let long = c .before .before .before .before in
     let line = long .before .before in
-    last-room (run (line .before .before .before .before .before .before .before .before .before .before)) (line .line-length .result) (line .line-length .ensures)
+    last-room (run (ran line)) (line .line-length .result) (line .line-length .ensures)
     (long .before .if1 .taken) (long .if2 .left) (c .before .before .stopped .result) (over c)
 
 same-length-8 : tie.Need-same-length-8 Inv-loop μ-loop
 same-length-8 c =
     let put = c .before .before .before .put .ensures in
     let at-put = c .before .before .before .before in
-    put-length _ _ _ (put .0) (put .1) (over-room at-put) ∙ run (at-put .before .before .before .before .before .before .before .before .before .before .before .before .before .before .before .before) .same
+    put-length _ _ _ (put .0) (put .1) (over-room at-put) ∙ run (ran (at-put .before .before .before .before .before .before)) .same
 
 returns-2 : tie.Need-returns-2 Inv-loop μ-loop
 returns-2 c =
@@ -119,34 +130,35 @@ returns-2 c =
     let long = at-put .before .before .before .before in
     let line = long .before .before in
     rw (c .fed-to2 .ensures)
-    (over-long (run (line .before .before .before .before .before .before .before .before .before .before)) (line .line-length .result) (line .line-length .ensures)
+    (over-long (run (ran line)) (line .line-length .result) (line .line-length .ensures)
     (long .before .if1 .taken) (long .if2 .left) (at-put .before .before .stopped .result) (over at-put)
     (put .0) (put .1))
 
 -- A whole line.
 room : (c : tie.After-put-arg2 Inv-loop μ-loop) →
     let on-line = c .before .before .before .before .before .before .before .before in
-    let ran = on-line .before .before .before .before .before .before .before .before .before .before .before .before .before .before .before .before .before in
-    let loop = ran .before .before .before .before .before .before .before .loop in
-    let r = ran .feed-ticks in
+    let here = ran (on-line .before .before .before .before .before .before .before) in
+    let loop = turn here .loop in
+    let r = here .feed-ticks in
     loop .at + r .result .written + length (sayBytes (on-line .on-line .result .said))
     ≤ length (withRest (loop .out) (loop .at) (r .last .1 .1 .1 .1 .1 .1 .0))
 room c =
     let on-line = c .before .before .before .before .before .before .before .before in
     let whole = on-line .before .before .before .before .before .before in
     let line = whole .before in
-    said-room (run (line .before .before .before .before .before .before .before .before .before .before)) (line .line-length .result) (line .line-length .ensures)
+    said-room (run (ran line)) (line .line-length .result) (line .line-length .ensures)
     (whole-line whole) (on-line .on-line .ensures)
 
 add-used-2 : tie.Need-add-used-2 Inv-loop μ-loop
 add-used-2 c =
-    let whole = c .before .before .before .before .before .before .before .before .before .before .before .before .before .before .before .before .before in
-    omega (arith, whole-line whole, size (whole .before .before .before .before .before .before .before .before .before .before .before))
+    let on-line = c .before .before .before .before .before .before .before .before .before .before .before in
+    let whole = on-line .before .before .before .before .before .before in
+    omega (arith, whole-line whole, size (ran (whole .before)))
 
 loop-less : tie.Need-loop-less Inv-loop μ-loop
 loop-less c =
-    let whole = c .before .before .before .before .before .before .before .before .before .before .before .before .before .before .before .before .before in
-    omega (arith, whole-line whole)
+    let on-line = c .before .before .before .before .before .before .before .before .before .before .before in
+    omega (arith, whole-line (on-line .before .before .before .before .before .before))
 
 loop-again : tie.Need-loop-again Inv-loop μ-loop
 loop-again c =
@@ -154,13 +166,13 @@ loop-again c =
     let on-line = c .before .before .before .before .before .before .before .before .before .before .before in
     let whole = on-line .before .before .before .before .before .before in
     let line = whole .before in
-    let ran = line .before .before .before .before .before .before .before .before .before .before in
+    let here = ran line in
     let kept = on-line .on-line .kept in (
-      after-line (run ran) (line .line-length .result) (line .line-length .ensures) (whole-line whole)
+      after-line (run here) (line .line-length .result) (line .line-length .ensures) (whole-line whole)
           (on-line .on-line .ensures) (put .0) (put .1),
-      omega (arith, kept, lengths ran .0),
-      omega (arith, kept, lengths ran .1),
-      omega (arith, kept, lengths ran .2),
+      omega (arith, kept, lengths here .0),
+      omega (arith, kept, lengths here .1),
+      omega (arith, kept, lengths here .2),
     )
 
 pub feed-spec : {M : Type 1} → statement M
@@ -182,18 +194,18 @@ feed-spec =
     (λ c κs. run (c .before .before .before .before .before .before .before .before .before) .within)
     add-stop
     (λ c κs. search needs)
-    (λ c. lengths (c .before .before .before .before .before .before .before .before .before .before .before .before .before) .0)
-    (λ c. lengths (c .before .before .before .before .before .before .before .before .before .before .before .before .before) .1)
-    (λ c. lengths (c .before .before .before .before .before .before .before .before .before .before .before .before .before) .2)
-    (λ c. run (c .before .before .before .before .before .before .before .before .before .before .before .before .before) .same)
+    (λ c. lengths (ran (c .before .before .before)) .0)
+    (λ c. lengths (ran (c .before .before .before)) .1)
+    (λ c. lengths (ran (c .before .before .before)) .2)
+    (λ c. run (ran (c .before .before .before)) .same)
     returns
     (λ c κs. search needs)
     (λ c κs. search needs)
     (λ c κs. over-room c)
     (λ c κs. search needs)
-    (λ c. lengths (c .before .before .before .before .before .before .before .before .before .before .before .before .before .before .before .before .before .before .before .before) .0)
-    (λ c. lengths (c .before .before .before .before .before .before .before .before .before .before .before .before .before .before .before .before .before .before .before .before) .1)
-    (λ c. lengths (c .before .before .before .before .before .before .before .before .before .before .before .before .before .before .before .before .before .before .before .before) .2)
+    (λ c. lengths (ran (c .before .before .before .before .before .before .before .before .before .before)) .0)
+    (λ c. lengths (ran (c .before .before .before .before .before .before .before .before .before .before)) .1)
+    (λ c. lengths (ran (c .before .before .before .before .before .before .before .before .before .before)) .2)
     same-length-8
     returns-2
     (λ c. omega (arith, inside (c .before)))

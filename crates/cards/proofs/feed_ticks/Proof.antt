@@ -14,10 +14,11 @@ returns-2 c = rw (c .fed-to2 .ensures) (runs-none _ _ _)
 
 run-ticks-requires : tie.Need-run-ticks-requires
 run-ticks-requires c κs =
-    let entry = c .before .before .before .before .before .before .before .before .before .before .before .before .before .before .before .before in
-    let phase = c .before .before .before .before .before .before .before .before .before .enum-told .given .1 in
-    let check = c .before .before .before .before .before .step-checked in
-    let passed = sym (check .ensures) ∙ c .before .before .before .enum-told2 .given .1 in
+    let checked = c .before .before .before .before .before in
+    let ticks = checked .before .before .before .before in
+    let phase = ticks .enum-told .given .1 in
+    let passed = sym (checked .step-checked .ensures) ∙ c .before .before .before .enum-told2 .given .1 in
+    let entry = ticks .before .before .before .before .before .before .before in
     (entry .pre phase, record { phase = phase; passes = passes-any _ _ _ _ _ passed })
 
 pub feed-ticks-spec : {M : Type 1} → statement M

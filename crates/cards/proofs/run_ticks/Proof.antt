@@ -53,7 +53,8 @@ put-requires c κs =
     (sym (read .start .given .1) ∙ line .tick-at .ensures) (line .before .if1 .taken)
 
 inside : (c : tie.After-slice-known6 Inv-loop μ-loop) →
-    let loop = c .before .before .before .before .before .before .before .before .before .before .before .before .before .before .before .before .before .before in
+    let stepped = c .before .before .before .before .before .before .before .before in
+    let loop = stepped .before .before .before .before .before .before .before .before .before .before in
     loop .loop .used + 20 < length (loop .before .before .before .before .before .before .args .bytes .now)
 inside c =
     let stepped = c .before .before .before .before .before .before .before .before in
