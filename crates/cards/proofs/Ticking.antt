@@ -13,10 +13,10 @@ use Rattle.tables.specs.Step.{After, after, parameterFits, stepChecked, stepped
 use Rattle.tables.specs.declared.Checked.the-variants.{Passed}
 use Rattle.tables.specs.declared.Stepped.the-variants as S
 use Rattle.tables.proofs.Runs.{step-on}
-use Rattle.cards.specs.Ticks.{hexOf, hexes, tickLine, tickFirst}
+use Rattle.cards.specs.Ticks.{hexOf, hexes, tickLine}
 use Rattle.cards.specs.Lines.{line}
 use Rattle.cards.specs.Card.{World, worldOf, Turned, watchAt, tickOf, ticked, lined, sayBytes}
-use Rattle.cards.specs.Feed.{Admitted, Runs, fedTo, placed}
+use Rattle.cards.specs.Feed.{tickFirst, Admitted, Runs, fedTo, placed}
 use Rattle.cards.specs.declared.Phase.the-variants as P
 use Rattle.cards.specs.declared.Said.the-variants as D
 use Rattle.cards.specs.declared.Ticked.the-variants as T

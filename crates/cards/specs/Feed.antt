@@ -3,15 +3,18 @@ use mathlib.Core.Bool.{cond}
 use mathlib.Core.List.{List, [], _∷_, _++_}
 use mathlib.Core.Path.{_≡_}
 use Prim.Native.Nat.{ℕ, _+_, _-_, _≤_, _<_}
-use lib.Dec.{ltb}
-use lib.ListN.{length, take, drop}
+use lib.Dec.{ltb, leb, eqb}
+use lib.ListN.{length, take, drop, getD}
 use Rattle.tables.specs.Flow.{standardCap}
 use Rattle.tables.specs.Step.{stepChecked}
 use Rattle.tables.specs.declared.Checked.the-variants.{Passed}
 use Rattle.cards.specs.Card.{World, worldOf, tickOf, brokenBy, stop, lined, prints}
-use Rattle.cards.specs.Lines.{longestLine, line, cut}
+use Rattle.cards.specs.Ticks.{tickLine}
+use Rattle.cards.specs.Lines.{lineEnd, longestLine, line, cut}
 use Rattle.cards.specs.declared.Fed.{Fed}
 use Rattle.cards.specs.declared.Phase.the-variants as P
+use Rattle.cards.specs.declared.Ticked.{Ticked}
+use Rattle.cards.specs.declared.Ticked.the-variants as T
 use Rattle.cards.specs.declared.Watch.{Watch}
 
 -- From w with the bytes s at hand: out is printed, and w' goes on with the bytes s', whatever comes after them.
@@ -43,6 +46,10 @@ fedWorld w s = afterTail (afterLines w (cut s .whole)) (cut s .tail)
 -- and what is left over of the piece: the start of a line that is not over-long.
 unfoldable pub leftOver : List ℕ → List ℕ
 leftOver s = cond (ltb longestLine (length (cut s .tail))) [] (cut s .tail)
+
+-- The tick line at the front of these bytes, where it is there with its byte 10.
+unfoldable pub tickFirst : List ℕ → Ticked
+tickFirst s = cond (leb (length s) 20) T.Broken (cond (eqb (getD s 20 0) lineEnd) (tickLine (take 20 s)) T.Broken)
 
 -- The ticks come next, and a step with these parameters has no refusal, whatever its start and signals.
 pub record Admitted (w : World) : Type 0 where

@@ -4,7 +4,7 @@ use mathlib.Core.Bool.{false, cond}
 use mathlib.Core.List.{List, [], _∷_}
 use Prim.Native.Nat.{ℕ, _+_, _-_, _*_}
 use lib.Dec.{ltb, leb, eqb}
-use lib.ListN.{length, take, drop, getD}
+use lib.ListN.{length, drop, getD}
 use Rattle.cards.specs.declared.Ticked.{Ticked}
 use Rattle.cards.specs.declared.Ticked.the-variants.{Is, Broken}
 
@@ -31,7 +31,3 @@ tickLine l =
     (cond (eqb (getD l 0 0) 116)
     (cond (eqb (getD l 1 0) 61)
     (cond (eqb (getD l 3 0) 44) (started (getD l 2 0) (drop 4 l)) Broken) Broken) Broken) Broken
-
--- The tick line at the front of these bytes, where it is there with its byte 10.
-unfoldable pub tickFirst : List ℕ → Ticked
-tickFirst s = cond (leb (length s) 20) Broken (cond (eqb (getD s 20 0) 10) (tickLine (take 20 s)) Broken)

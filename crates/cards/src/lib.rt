@@ -10,11 +10,12 @@ ghost use mathlib.Core.Path.{_≡_};
 ghost use Prim.Native.Nat.{_+_, _-_, _≤_, _<_};
 ghost use lib.ListN.{length, take, drop, getD};
 ghost use Rattle.cards.specs.Numbers.{isDigit, starts, Reads, listed, parametersOf, countOf};
-ghost use Rattle.cards.specs.Ticks.{hexOf, tickLine, tickFirst};
+ghost use Rattle.cards.specs.Ticks.{hexOf, tickLine};
 ghost use Rattle.cards.specs.Card.{editionOf, ruling, ruled, ticking, ticked, turned, lined, worldOf, start};
 ghost use Rattle.cards.specs.Card.{sayBytes, brokenBy, endedBy, isOver, stoppedTurn, goingTurn, keeping, kept};
 ghost use Rattle.cards.specs.Lines.{line, lineFrom};
-ghost use Rattle.cards.specs.Feed.{Room, Admitted, fedTo, Runs, Feeds, shifted, Turns, Short, Finishes, placed};
+ghost use Rattle.cards.specs.Feed.{Room, tickFirst, Admitted, fedTo, Runs, Feeds, shifted, Turns, Short};
+ghost use Rattle.cards.specs.Feed.{Finishes, placed};
 
 // The number at a place of a line, and the place after it.
 pub enum Number {
