@@ -1,7 +1,7 @@
 -- "16 lowercase hexadecimal digits whose bit j is signal j" (document 01, "towerwatch"): of the number that a tick
 -- line has, bit 4 · i + b is bit b of the i-th digit from the right. Assumes nothing.
 use mathlib.Core.Path.{_≡_, refl, _∙_, sym, ap}
-use mathlib.Core.Bool.{Bool, true, false, cond}
+use mathlib.Core.Bool.{Bool, true, false}
 use mathlib.Core.List.{List, [], _∷_}
 use Prim.Native.Nat.{ℕ, zero, suc, _+_, _-_, _*_, _/_, _%_, _^_, _≤_, _<_}
 use native.Mathlib.Omega.{arith}
@@ -12,8 +12,8 @@ use lib.Seq.{getD-drop}
 use borrow.Author.Tests.{eqb-true, ltb-true, ltb-false}
 use Rattle.traces.specs.Trace.{bit}
 use Rattle.cards.specs.Ticks.{hexOf, hexes, tickLine}
-use Rattle.cards.specs.declared.Ticked.{Ticked}
-use Rattle.cards.specs.declared.Ticked.the-variants.{Is, Broken}
+use Rattle.cards.specs.declared.Ticked.the-variants.{Is}
+use Rattle.cards.proofs.Hex.{passed, not-failed}
 
 -- One more digit is the four lowest bits, and moves the others up by four.
 bit-low : (x d b : ℕ) → b < 4 → bit (x * 16 + d) b ≡ bit d b
@@ -71,16 +71,6 @@ made [] s x s' y e =
     }
 made (c ∷ l) s x s' y e = split c l s x s' y (ltb 15 (hexOf c)) refl (λ z. made l s z s' y) e
 
--- A line that is not broken passes each test.
-module _ {s x : ℕ} where
-  passed : (t : Bool) {a : Ticked} → cond t a Broken ≡ Is s x → (t ≡ true) × (a ≡ Is s x)
-  passed true e = (refl, e)
-  passed false e = absurd (let z : _≡_ {A = ℕ} 0 1 = cc in omega arith)
-
-  not-passed : (t : Bool) {a : Ticked} → cond t Broken a ≡ Is s x → a ≡ Is s x
-  not-passed true e = absurd (let z : _≡_ {A = ℕ} 0 1 = cc in omega arith)
-  not-passed false e = e
-
 pub signal-bits : (l : List ℕ) (s x : ℕ) → tickLine l ≡ Is s x → (i b : ℕ) → i < 16 → b < 4
     → bit x (4 * i + b) ≡ bit (hexOf (getD l (19 - i) 0)) b
 unfolding tickLine
@@ -89,10 +79,10 @@ signal-bits l s x e i b p q =
     let t = passed (eqb (getD l 0 0) 116) (size .1) in
     let equals = passed (eqb (getD l 1 0) 61) (t .1) in
     let comma = passed (eqb (getD l 3 0) 44) (equals .1) in
-    let start = not-passed (ltb 49 (getD l 2 0)) (not-passed (ltb (getD l 2 0) 48) (comma .1)) in
+    let start = not-failed (ltb 49 (getD l 2 0)) (not-failed (ltb (getD l 2 0) 48) (comma .1) .1) in
     let twenty : length l ≡ 20 = eqb-true _ _ (size .0) in
     let sixteen : length (drop 4 l) ≡ 16 = omega (arith, length-drop 4 l) in
-    let digits = made (drop 4 l) (getD l 2 0 - 48) 0 s x start in
+    let digits = made (drop 4 l) (getD l 2 0 - 48) 0 s x (start .1) in
     let z : 4 + (length (drop 4 l) - 1 - i) ≡ 19 - i = omega arith in
     digits .inside i b (omega arith) q
     ∙ ap (λ (c : ℕ). bit (hexOf c) b)

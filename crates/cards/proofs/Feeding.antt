@@ -4,15 +4,16 @@ use mathlib.Core.Path.{_≡_, refl, _∙_, sym, ap}
 use mathlib.Core.List.{List, [], _++_}
 use Prim.Native.Nat.{ℕ, suc, _+_, _-_, _≤_, _<_}
 use native.Mathlib.Omega.{arith}
-use lib.ListN.{length, take, drop, length-drop, drop-of-length-le}
-use lib.Seq.{drop-drop}
+use lib.ListN.{length, take, drop, length-append, length-drop, drop-of-length-le}
+use lib.Seq.{drop-drop, length-take-le, take-add, take-at, drop-at}
 use Rattle.cards.specs.Lines.{line, lineFrom}
 use Rattle.cards.specs.Card.{World, worldOf, Turned, stoppedTurn, brokenBy, lined, sayBytes}
-use Rattle.cards.specs.Feed.{Goes, Short, Room, Feeds, fedWorld, leftOver, placed}
+use Rattle.cards.specs.Feed.{Goes, Short, Room, Runs, Feeds, fedWorld, leftOver, placed}
 use Rattle.cards.specs.declared.Turn.{Turn}
 use Rattle.cards.specs.declared.Fed.{Fed}
+use Rattle.cards.specs.declared.Phase.the-variants as P
 use Rattle.cards.proofs.Cutting.{take-line, line-within}
-use Rattle.cards.proofs.Moving.{put-takes, put-keeps, put-length}
+use Rattle.cards.proofs.Moving.{put-takes, put-keeps, put-length, restOf, withRest, rest-all, with-rest}
 use Rattle.cards.proofs.Paying.{debt, debt-small, lined-pays, broken-room}
 use Rattle.cards.proofs.Resuming.{goes-none, goes-line, goes-on, goes-out, goes-rest, goes-long}
 use Rattle.cards.proofs.Resuming.{fed-line, left-line, fed-short, left-short, fed-long, left-long}
@@ -46,7 +47,7 @@ begun w b out r =
     }
 
 module _ {w₀ w : World} {b out₀ out : List ℕ} {u at : ℕ} (k : Between w₀ b out₀ w out u at) where
-  written-room : at ≤ length out
+  pub written-room : at ≤ length out
   written-room = omega (arith, k .within, k .paid, k .room, k .same, debt-small (w .watch .phase))
 
   -- The bytes that are left are the start of a line: they are left over.
@@ -62,10 +63,6 @@ module _ {w₀ w : World} {b out₀ out : List ℕ} {u at : ℕ} (k : Between w�
         room = written-room;
       }
 
-  -- No bytes are left.
-  pub used-up : length b ≤ u → Feeds w₀ b (fedAs w u at) w out₀ out
-  used-up h = left-short-over (short-eq (drop-of-length-le b {i = u} h) short-none)
-
   -- Bytes s are put to out.
   module _
       (s : List ℕ) (room : at + length s ≤ length out) {out' : List ℕ} {at' : ℕ}
@@ -77,6 +74,56 @@ module _ {w₀ w : World} {b out₀ out : List ℕ} {u at : ℕ} (k : Between w�
         (sym (drop-drop (length s) at out)
         ∙ ap (λ (l : List ℕ). drop (length s) l) (k .kept)
         ∙ drop-drop (length s) at out₀)
+
+  -- At the ticks there is room from here on.
+  pub rest-room : w .watch .phase ≡ P.Ticks → Room (restOf b u) (restOf out at)
+  rest-room e =
+      let h = rw e at (k .paid) in
+      record {
+        room =
+            rw (rest-all b u, rest-all out at)
+            (omega (arith, length-drop u b, length-drop at out, k .within, k .room, k .same));
+      }
+
+  -- Lines that are run where the bytes and out are lent from here on.
+  module _
+      {r : Fed} {w' : World} {part : List ℕ} (g : Runs w (restOf b u) r w' (restOf out at) part)
+      (l : length part ≡ length (restOf out at)) where
+    ran : Runs w (drop u b) r w' (drop at out) part
+    ran = rw (rest-all b u, rest-all out at) at g
+
+    front : length (take at out) ≡ at
+    front = length-take-le at out written-room
+
+    takes : take (at + r .written) (withRest out at part) ≡ take at out ++ take (r .written) part
+    takes =
+        take-add at (r .written) (withRest out at part)
+        ∙ rw (with-rest out at part, take-at (take at out) part at front, drop-at (take at out) part at front)
+
+    drops : drop (at + r .written) (withRest out at part) ≡ drop (r .written) part
+    drops =
+        sym (drop-drop (r .written) at (withRest out at part))
+        ∙ rw (with-rest out at part, drop-at (take at out) part at front)
+
+    pub ran-on : Between w₀ b out₀ w' (withRest out at part) (u + r .used) (at + r .written)
+    ran-on =
+        let rest : drop (r .used) (drop u b) ≡ drop (u + r .used) b = drop-drop (r .used) u b in
+        record {
+          goes = goes-rest (sym rest) (goes-out takes (goes-on (k .goes) (ran .goes)));
+          world = k .world ∙ ran .world ∙ ap (fedWorld w') rest;
+          left = k .left ∙ ran .left ∙ ap leftOver rest;
+          within = omega (arith, k .within, ran .used, length-drop u b);
+          paid = omega (arith, k .paid, ran .paid, ap debt (ran .phase));
+          room = k .room;
+          kept =
+              drops
+              ∙ ran .kept
+              ∙ ap (λ (m : List ℕ). drop (r .written) m) (k .kept)
+              ∙ drop-drop (r .written) at out₀;
+          same =
+              let whole = ap length (with-rest out at part) ∙ length-append (take at out) part in
+              omega (arith, whole, front, l, ap length (rest-all out at), length-drop at out, written-room, k .same);
+        }
 
   -- The line at u has n bytes.
   module _ (n : ℕ) (m : n ≡ length (lineFrom b u)) where

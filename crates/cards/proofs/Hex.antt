@@ -1,15 +1,21 @@
--- How hexadecimal digits (specs/Ticks.antt) go on at a place of a line, and that sixteen of them fit 64 bits. Assumes
--- nothing.
-use mathlib.Core.Path.{_≡_, _∙_, sym}
+-- How hexadecimal digits (specs/Ticks.antt) go on at a place of a line, that sixteen of them fit 64 bits, and the table
+-- of their values. Assumes nothing.
+use mathlib.Core.Path.{_≡_, refl, _∙_, sym, ap}
+use mathlib.Core.Bool.{Bool, true, false, cond, _&&_}
 use mathlib.Core.List.{List}
 use Prim.Native.Nat.{ℕ, _+_, _-_, _*_, _^_, _≤_, _<_}
 use native.Mathlib.Omega.{arith}
 use native.Mathlib.Nat.{pow-suc, pow-le-pow-right}
 use native.Mathlib.Numerals.{add-one}
+use lib.Dec.{eqb, leb}
 use lib.ListN.{length, getD, drop, drop-of-length-le}
 use lib.Seq.{drop-cons}
-use borrow.Author.Tests.{eq-eqb, lt-ltb, le-ltb, le-leb, lt-leb}
+use borrow.Author.Tests.{eq-eqb, lt-ltb, le-ltb, le-leb, lt-leb, eqb-true, leb-true}
+use Rattle.lists.specs.Text.{bytes}
+use Rattle.tables.specs.Table.{all}
+use Rattle.tables.proofs.Tests.{and-true, all-at}
 use Rattle.cards.specs.Ticks.{hexOf, hexes, tickLine}
+use Rattle.cards.specs.declared.Ticked.{Ticked}
 use Rattle.cards.specs.declared.Ticked.the-variants.{Is, Broken}
 
 -- The digits from place i on, x being the number so far.
@@ -39,27 +45,54 @@ fits64 k x d z h e =
     let l : 16 ^ k ≤ 16 ^ 15 = pow-le-pow-right (omega arith) z in
     omega (arith, room (16 ^ k) x d h e)
 
--- The five ranges of bytes.
+-- The bytes below the first digit and above the last,
 module _ (b : ℕ) where
-  pub hex-digit : 48 ≤ b → b ≤ 57 → hexOf b ≡ b - 48
-  unfolding hexOf
-  hex-digit h e = rw (le-leb 48 b h, le-leb b 57 e)
-
-  pub hex-letter : 97 ≤ b → b ≤ 102 → hexOf b ≡ b - 97 + 10
-  unfolding hexOf
-  hex-letter h e = rw (le-leb 48 b (omega arith), lt-leb b 57 (omega arith), le-leb 97 b h, le-leb b 102 e)
-
   pub hex-low : b < 48 → hexOf b ≡ 16
   unfolding hexOf
   hex-low h = rw (lt-leb 48 b h, lt-leb 97 b (omega arith))
 
-  pub hex-mid : 57 < b → b < 97 → hexOf b ≡ 16
-  unfolding hexOf
-  hex-mid h e = rw (le-leb 48 b (omega arith), lt-leb b 57 h, lt-leb 97 b e)
-
   pub hex-high : 102 < b → hexOf b ≡ 16
   unfolding hexOf
   hex-high h = rw (le-leb 48 b (omega arith), lt-leb b 57 (omega arith), le-leb 97 b (omega arith), lt-leb b 102 h)
+
+-- and those between them: place i of `digits` is for byte 48 + i, and is 48 more than its value.
+abbrev digits : List ℕ
+digits = bytes "0123456789@@@@@@@@@@@@@@@@@@@@@@@@@@@@@@@@@@@@@@@:;<=>?"
+
+abbrev right : ℕ → Bool
+right i = eqb (getD digits i 0) (hexOf (48 + i) + 48) && leb (getD digits i 0) 64
+
+all-right : all right 55 ≡ true
+unfolding all hexOf
+all-right = refl
+
+module _ (b : ℕ) (low : 48 ≤ b) (high : b ≤ 102) where
+  right-at : right (b - 48) ≡ true
+  right-at = all-at right 55 all-right (b - 48) (omega arith)
+
+  pub digit-at : getD digits (b - 48) 0 ≡ hexOf b + 48
+  digit-at =
+      let z : 48 + (b - 48) ≡ b = omega arith in
+      eqb-true _ _ (and-true (eqb (getD digits (b - 48) 0) (hexOf (48 + (b - 48)) + 48)) _ right-at .0)
+      ∙ ap (λ (n : ℕ). hexOf n + 48) z
+
+  pub digit-small : getD digits (b - 48) 0 ≤ 64
+  digit-small = leb-true _ _ (and-true (eqb (getD digits (b - 48) 0) (hexOf (48 + (b - 48)) + 48)) _ right-at .1)
+
+-- A line that is not broken passes each of its tests.
+module _ {start signals : ℕ} where
+  pub passed : (t : Bool) {a : Ticked} → cond t a Broken ≡ Is start signals → (t ≡ true) × (a ≡ Is start signals)
+  passed true e = (refl, e)
+  passed false e = (cc, cc)
+
+  pub not-failed : (t : Bool) {a : Ticked} → cond t Broken a ≡ Is start signals
+      → (t ≡ false) × (a ≡ Is start signals)
+  not-failed true e = (cc, cc)
+  not-failed false e = (refl, e)
+
+pub tick-length : (l : List ℕ) (start signals : ℕ) → tickLine l ≡ Is start signals → length l ≡ 20
+unfolding tickLine
+tick-length l start signals e = eqb-true _ _ (passed (eqb (length l) 20) e .0)
 
 -- A line that is well made up to its digits.
 pub tick-digits : (s : List ℕ) → length s ≡ 20 → getD s 0 0 ≡ 116 → getD s 1 0 ≡ 61 → getD s 3 0 ≡ 44

@@ -7,6 +7,7 @@ pub mod Moving
 pub mod Paying
 pub mod Resuming
 pub mod Feeding
+pub mod Ticking
 pub mod Pieces
 pub mod Rows
 pub mod Sized

@@ -9,7 +9,7 @@ use native.Mathlib.Omega.{arith}
 use lib.Dec.{ltb, eqb}
 use lib.ListN.{length, getD, drop, replicate, length-append, length-replicate}
 use lib.Seq.{sets}
-use borrow.Author.Tests.{le-leb, lt-ltb, le-ltb, ne-eqb, eqb-true, ltb-false}
+use borrow.Author.Tests.{le-leb, lt-ltb, le-ltb, ltb-false}
 use Rattle.lists.specs.Text.{bytes}
 use Rattle.traces.specs.declared.Tick.{Tick}
 use Rattle.words.specs.Split.{Out, splitOf}
@@ -41,17 +41,15 @@ use Rattle.observers.specs.declared.Compiled.the-variants as C
 use Rattle.observers.proofs.Demand.{Known, known, small-raw, observes-rule, room-compiled}
 use Rattle.cards.specs.Numbers.{starts, parametersOf, countOf}
 use Rattle.cards.specs.Numbers.Listed.{are}
-use Rattle.cards.specs.Ticks.{tickLine}
 use Rattle.cards.specs.Lines.{longestLine, Cut, cut}
-use Rattle.cards.specs.Card.{World, worldOf, Turned, watchAt, editionOf, tickOf, ticked, ruled, lined}
+use Rattle.cards.specs.Card.{World, worldOf, Turned, watchAt, editionOf, tickOf, ruled, lined}
 use Rattle.cards.specs.Card.{sayBytes, owed, prints, start, printed}
 use Rattle.cards.specs.Meant.{TickLines, Fine, verdictLines}
 use Rattle.cards.specs.Meant.TickLines.{none as no-lines, more as more-lines}
 use Rattle.cards.specs.declared.Count.the-variants as K
 use Rattle.cards.specs.declared.Phase.the-variants as P
 use Rattle.cards.specs.declared.Said.the-variants as D
-use Rattle.cards.specs.declared.Ticked.{Ticked}
-use Rattle.cards.specs.declared.Ticked.the-variants as T
+use Rattle.cards.proofs.Ticking.{saying, tick-lined}
 use Rattle.cards.proofs.Sized.{parameters-low, parameters-short, count-short}
 
 -- ---- the calls that a card's ticks make
@@ -120,15 +118,6 @@ same-parameters : {ps : List ℕ} {ls : List (List ℕ)} {ks : List Tick} → Ti
 same-parameters no-lines = same-none
 same-parameters (more-lines e r) = same-more refl (same-parameters r)
 
--- A tick line has 20 bytes.
-twenty : (b : Bool) (x : Ticked) (i j : ℕ) → cond b x T.Broken ≡ T.Is i j → b ≡ true
-twenty true x i j e = refl
-twenty false x i j e = absurd (let z : _≡_ {A = ℕ} 0 1 = cc in omega arith)
-
-tick-length : (l : List ℕ) (i j : ℕ) → tickLine l ≡ T.Is i j → length l ≡ 20
-unfolding tickLine
-tick-length l i j e = eqb-true _ _ (twenty (eqb (length l) 20) _ i j e)
-
 quiet : sayBytes D.Quiet ≡ []
 unfolding sayBytes
 quiet = refl
@@ -140,23 +129,6 @@ tails : {x y : Stepped} {xs ys : List Stepped} → x ∷ xs ≡ y ∷ ys → xs 
 tails e = cc
 
 module _ (ps t : List ℕ) (n : ℕ) where
-  abbrev atTicks : ℕ → List ℕ → List ℕ → World
-  atTicks left c v = worldOf (watchAt P.Ticks left n) ps t c v
-
-  abbrev turnedTo : ℕ → ℕ → List ℕ → List ℕ → Turned
-  turnedTo left x c v = record { world = atTicks left c v; said = D.Verdict x }
-
-  -- A tick line whose step gives a verdict.
-  tick-lined : (l : List ℕ) (left i j x : ℕ) (c v : List ℕ) (a : After) → tickLine l ≡ T.Is i j
-      → stepped standardCap t n c v (tickOf i j ps) ≡ a → a .answer ≡ S.Verdict x
-      → lined (atTicks (suc left) c v) l ≡ turnedTo left x (a .state) (a .values)
-  unfolding lined ticked
-  tick-lined l left i j x c v a e q y =
-      let short : length l ≤ 4095 = omega (arith, tick-length l i j e) in
-      let less : suc left - 1 ≡ left = omega arith in
-      rw (le-ltb _ _ short, ne-eqb (suc left) 0 (λ z. omega arith), e, q, y)
-      (ap (λ (m : ℕ). turnedTo m x (a .state) (a .values)) less)
-
   -- What the first call of a list answers, and the others.
   module _ (c v : List ℕ) (k : Tick) (ks : List Tick) (vd : ℕ → ℕ) (i : ℕ)
       (e : answers standardCap t n c (callsOf standardCap t n c v (k ∷ ks)) ≡ verdictsFrom vd i (k ∷ ks)) where
@@ -175,13 +147,17 @@ module _ (ps t : List ℕ) (n : ℕ) where
   -- The tick lines print what the calls answer, where these answers are verdicts.
   ticks-owed : {ls : List (List ℕ)} {ks : List Tick} → TickLines ps ls ks → (vd : ℕ → ℕ) (i : ℕ) (c v : List ℕ)
       → answers standardCap t n c (callsOf standardCap t n c v ks) ≡ verdictsFrom vd i ks
-      → owed (atTicks (length ks) c v) ls [] ≡ verdictLines vd i ks
+      → owed (worldOf (watchAt P.Ticks (length ks) n) ps t c v) ls [] ≡ verdictLines vd i ks
   unfolding owed verdictLines
   ticks-owed no-lines vd i c v e = quiet
   ticks-owed (more-lines {l} {ls} {start = b} {signals} {ks} q r) vd i c v e =
       let k = tickOf b signals ps in
       let a = stepped standardCap t n c v k in
-      let here = tick-lined l (length ks) b signals (vd i) c v a q refl (first-answer c v k ks vd i e) in
+      let less : suc (length ks) - 1 ≡ length ks = omega arith in
+      let w = watchAt P.Ticks (suc (length ks)) n in
+      let here =
+      tick-lined ps t w l b signals (vd i) c v a refl (omega arith) q refl (first-answer c v k ks vd i e)
+      ∙ ap (λ (m : ℕ). saying ps t (watchAt P.Ticks m n) (vd i) (a .state) (a .values)) less in
       ap (λ (y : Turned). sayBytes (y .said) ++ owed (y .world) ls []) here
       ∙ ap (λ (z : List ℕ). sayBytes (D.Verdict (vd i)) ++ z)
       (ticks-owed r vd (suc i) (a .state) (a .values) (other-answers c v k ks vd i e))

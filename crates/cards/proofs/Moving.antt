@@ -1,12 +1,14 @@
--- Bytes that are moved down in a buffer, and bytes that are placed in one. Assumes nothing.
+-- Bytes that are moved down in a buffer, bytes that are placed in one, and a buffer that is lent from a place on.
+-- Assumes nothing.
 use mathlib.Core.Path.{_≡_, refl, _∙_, sym, ap}
 use mathlib.Core.List.{List, [], _∷_, _++_}
 use Prim.Native.Nat.{ℕ, zero, suc, _+_, _-_, _≤_, _<_}
 use native.Mathlib.Omega.{arith}
-use lib.ListN.{length, getD, set, take, drop, length-drop, length-set, length-append}
+use lib.ListN.{length, getD, set, take, drop, length-drop, length-set, length-append, drop-of-length-le}
 use lib.Seq.{take-suc, take-suc-set, getD-drop, drop-set-lt, drop-drop, paste, take-length, take-at}
-use lib.Seq.{length-take-le, take-nil, drop-at}
+use lib.Seq.{length-take-le, take-nil, take-all, drop-at}
 use Rattle.cards.specs.Feed.{placed, shifted}
+use Rattle.cards.proofs.Cutting.{append-nil}
 
 -- The bytes up to i have moved down by `from`, and those from there on are as they were.
 pub record Moved (old new : List ℕ) (from i : ℕ) : Type 0 where
@@ -118,3 +120,18 @@ drop-take zero t l = let z : t - zero ≡ t = omega arith in rw z
 drop-take (suc u) zero l = let z : zero - suc u ≡ 0 = omega arith in rw z
 drop-take (suc u) (suc t) [] = let z : suc t - suc u ≡ t - u = omega arith in rw z (sym (take-nil (t - u)))
 drop-take (suc u) (suc t) (x ∷ l) = let z : suc t - suc u ≡ t - u = omega arith in rw z (drop-take u t l)
+
+-- What is lent of a list from the place i on, and the list once that part has come back.
+abbrev pub restOf : List ℕ → ℕ → List ℕ
+restOf l i = take (length l - i) (drop i l)
+
+abbrev pub withRest : List ℕ → ℕ → List ℕ → List ℕ
+withRest l i part = take i l ++ (part ++ drop (length l - i) (drop i l))
+
+pub rest-all : (l : List ℕ) (i : ℕ) → restOf l i ≡ drop i l
+rest-all l i = take-all (length l - i) (drop i l) (omega (arith, length-drop i l))
+
+pub with-rest : (l : List ℕ) (i : ℕ) (part : List ℕ) → withRest l i part ≡ take i l ++ part
+with-rest l i part =
+    rw (drop-of-length-le (drop i l) {i = length l - i} (omega (arith, length-drop i l)))
+    (ap (λ (k : List ℕ). take i l ++ k) (append-nil part))

@@ -3,11 +3,18 @@ use mathlib.Core.Bool.{cond}
 use mathlib.Core.List.{List, [], _∷_, _++_}
 use mathlib.Core.Path.{_≡_}
 use Prim.Native.Nat.{ℕ, _+_, _-_, _≤_, _<_}
-use lib.Dec.{ltb}
-use lib.ListN.{length, take, drop}
-use Rattle.cards.specs.Card.{World, worldOf, brokenBy, stop, lined, prints}
-use Rattle.cards.specs.Lines.{longestLine, line, cut}
+use lib.Dec.{ltb, leb, eqb}
+use lib.ListN.{length, take, drop, getD}
+use Rattle.tables.specs.Flow.{standardCap}
+use Rattle.tables.specs.Step.{stepChecked}
+use Rattle.tables.specs.declared.Checked.the-variants.{Passed}
+use Rattle.cards.specs.Card.{World, worldOf, tickOf, brokenBy, stop, lined, prints}
+use Rattle.cards.specs.Ticks.{tickLine}
+use Rattle.cards.specs.Lines.{lineEnd, longestLine, line, cut}
 use Rattle.cards.specs.declared.Fed.{Fed}
+use Rattle.cards.specs.declared.Phase.the-variants as P
+use Rattle.cards.specs.declared.Ticked.{Ticked}
+use Rattle.cards.specs.declared.Ticked.the-variants as T
 use Rattle.cards.specs.declared.Watch.{Watch}
 
 -- From w with the bytes s at hand: out is printed, and w' goes on with the bytes s', whatever comes after them.
@@ -39,6 +46,30 @@ fedWorld w s = afterTail (afterLines w (cut s .whole)) (cut s .tail)
 -- and what is left over of the piece: the start of a line that is not over-long.
 unfoldable pub leftOver : List ℕ → List ℕ
 leftOver s = cond (ltb longestLine (length (cut s .tail))) [] (cut s .tail)
+
+-- The tick line at the front of these bytes, where it is there with its byte 10.
+unfoldable pub tickFirst : List ℕ → Ticked
+tickFirst s = cond (leb (length s) 20) T.Broken (cond (eqb (getD s 20 0) lineEnd) (tickLine (take 20 s)) T.Broken)
+
+-- The ticks come next, and a step with these parameters has no refusal, whatever its start and signals.
+pub record Admitted (w : World) : Type 0 where
+  pub phase : w .watch .phase ≡ P.Ticks
+  pub passes : (start signals : ℕ) → stepChecked standardCap (w .table) (w .watch .n) (w .state) (w .values)
+      (tickOf start signals (w .parameters)) ≡ Passed
+
+abbrev pub fedTo : Watch → ℕ → ℕ → Fed
+fedTo w used written = record { watch = w; used = used; written = written }
+
+-- Of the piece s some lines are used up, and what they print stands at the front of out: no more bytes than they
+-- have. From there w' goes on in the same phase, and all else of out is kept.
+pub record Runs (w : World) (s : List ℕ) (r : Fed) (w' : World) (old out : List ℕ) : Type 0 where
+  pub goes : Goes w s (take (r .written) out) w' (drop (r .used) s)
+  pub world : fedWorld w s ≡ fedWorld w' (drop (r .used) s)
+  pub left : leftOver s ≡ leftOver (drop (r .used) s)
+  pub used : r .used ≤ length s
+  pub paid : r .written ≤ r .used
+  pub phase : w .watch .phase ≡ w' .watch .phase
+  pub kept : drop (r .written) out ≡ drop (r .written) old
 
 -- Of the piece s some bytes are used up and some are left over; what the used ones print stands at the front of out,
 -- and all else of out is kept.

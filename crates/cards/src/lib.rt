@@ -2,6 +2,7 @@
 // prints is defined in specs/Card.antt, what a piece of it does in specs/Feed.antt. The sentences quoted are
 // document 01's, from "towerwatch".
 use observers::Compiled;
+use tables::Checked;
 use tables::Fresh;
 use tables::Stepped;
 use traces::Tick;
@@ -13,7 +14,8 @@ ghost use Rattle.cards.specs.Ticks.{hexOf, tickLine};
 ghost use Rattle.cards.specs.Card.{editionOf, ruling, ruled, ticking, ticked, turned, lined, worldOf, start};
 ghost use Rattle.cards.specs.Card.{sayBytes, brokenBy, endedBy, isOver, stoppedTurn, goingTurn, keeping, kept};
 ghost use Rattle.cards.specs.Lines.{line, lineFrom};
-ghost use Rattle.cards.specs.Feed.{Room, Feeds, shifted, Turns, Short, Finishes, placed};
+ghost use Rattle.cards.specs.Feed.{Room, tickFirst, Admitted, fedTo, Runs, Feeds, shifted, Turns, Short};
+ghost use Rattle.cards.specs.Feed.{Finishes, placed};
 
 // The number at a place of a line, and the place after it.
 pub enum Number {
@@ -218,11 +220,16 @@ fn count_line(s: &[u8]) -> Count
 fn hex_digit(b: u8) -> u64
     ensures { λ r. ⌜ r ≡ hexOf b ⌝ }
 {
-    match b {
-        b'0'..=b'9' => (b - b'0') as u64,
-        b'a'..=b'f' => (b - b'a') as u64 + 10,
-        _ => 16,
+    if b < b'0' {
+        return 16;
     }
+    if b'f' < b {
+        return 16;
+    }
+    // Byte 48 + v for each value v: `@` for 16.
+    let digits = b"0123456789@@@@@@@@@@@@@@@@@@@@@@@@@@@@@@@@@@@@@@@:;<=>?";
+    let i = (b - b'0') as usize;
+    (digits[i] - b'0') as u64
 }
 
 // "`t=` start (0 or 1), comma, 16 lowercase hexadecimal digits whose bit j is signal j"
@@ -547,6 +554,105 @@ fn line_length(s: &[u8], at: usize) -> usize
     i - at
 }
 
+fn fed_to(watch: Watch, used: usize, written: usize) -> Fed
+    ensures { λ r. ⌜ r ≡ fedTo watch used written ⌝ }
+{
+    Fed {
+        watch: watch,
+        used: used,
+        written: written,
+    }
+}
+
+// The tick line at a place of s, where it is there with its byte 10.
+fn tick_at(s: &[u8], at: usize) -> Ticked
+    requires { ⌜ at ≤ length (now s) ⌝ }
+    ensures { λ r. ⌜ r ≡ tickFirst (drop at (now (s .entry))) ⌝ }
+{
+    if s.len() - at <= 20 {
+        return Ticked::Broken;
+    }
+    let stop = at + 20;
+    if s[stop] != 10 {
+        return Ticked::Broken;
+    }
+    tick_line(&s[at..stop])
+}
+
+// Runs the tick lines at the front of a piece, up to the first that is broken or not whole. The steps are known to
+// have no refusal.
+fn run_ticks(
+    watch: Watch,
+    bytes: &[u8],
+    parameters: &[u32; 8],
+    table: &[u32],
+    state: &mut [u32],
+    values: &mut [u32],
+    out: &mut [u8],
+) -> Fed
+    requires { ⌜ Room (now bytes) (now out)
+        × Admitted (worldOf watch (now parameters) (now table) (now state) (now values)) ⌝ }
+    ensures { λ r. ⌜ Runs
+        (worldOf watch (now (parameters .entry)) (now (table .entry)) (now (state .entry)) (now (values .entry)))
+        (now (bytes .entry)) r
+        (worldOf (r .watch) (now (parameters .exit)) (now (table .exit)) (now (state .exit)) (now (values .exit)))
+        (now (out .entry)) (now (out .exit)) ⌝ }
+{
+    let mut w = watch;
+    let mut used = 0;
+    let mut at = 0;
+    while 0 < w.left {
+        let Ticked::Is { start, signals } = tick_at(bytes, used) else {
+            return fed_to(w, used, at);
+        };
+        let parameters = *parameters;
+        let now = Tick {
+            start,
+            signals,
+            parameters,
+        };
+        let v = tables::step_passed(table, w.n, state, values, now);
+        at = put(out, at, Said::Verdict(v));
+        used += 21;
+        w.left -= 1;
+    }
+    fed_to(w, used, at)
+}
+
+// Where the ticks come next and no step has a refusal, runs the tick lines at the front of a piece: one check for all
+// of them.
+fn feed_ticks(
+    w: Watch,
+    bytes: &[u8],
+    parameters: &[u32; 8],
+    table: &[u32],
+    state: &mut [u32],
+    values: &mut [u32],
+    out: &mut [u8],
+) -> Fed
+    requires { ⌜ (w .phase ≡ Phase.Ticks → Room (now bytes) (now out)) ⌝ }
+    ensures { λ r. ⌜ Runs
+        (worldOf w (now (parameters .entry)) (now (table .entry)) (now (state .entry)) (now (values .entry)))
+        (now (bytes .entry)) r
+        (worldOf (r .watch) (now (parameters .exit)) (now (table .exit)) (now (state .exit)) (now (values .exit)))
+        (now (out .entry)) (now (out .exit)) ⌝ }
+{
+    let phase = w.phase;
+    let Phase::Ticks = phase else {
+        return fed_to(w, 0, 0);
+    };
+    let now = Tick {
+        start: 0,
+        signals: 0,
+        parameters: *parameters,
+    };
+    let checked = tables::step_checked(table, w.n, state, values, now);
+    let Checked::Passed = checked else {
+        return fed_to(w, 0, 0);
+    };
+    run_ticks(w, bytes, parameters, table, state, values, out)
+}
+
 // The feeder: takes the lines that are whole, and has out hold what they print. The start of a line is left over,
 // unless it is over-long already.
 fn feed(
@@ -568,27 +674,32 @@ fn feed(
     let mut w = watch;
     let mut used = 0;
     let mut at = 0;
-    while used < bytes.len() {
+    loop {
+        let f = feed_ticks(
+            w,
+            &bytes[used..],
+            parameters,
+            table,
+            state,
+            values,
+            &mut out[at..],
+        );
+        let ran = f.watch;
+        w = ran;
+        used += f.used;
+        at += f.written;
         let n = line_length(bytes, used);
         let stop = used + n;
         if stop == bytes.len() {
             if n < 4096 {
-                return Fed {
-                    watch: w,
-                    used: used,
-                    written: at,
-                };
+                return fed_to(w, used, at);
             }
             let phase = w.phase;
             let over = stopped(broken(phase));
             let last = over.watch;
             let word = over.said;
             let past = put(out, at, word);
-            return Fed {
-                watch: last,
-                used: stop,
-                written: past,
-            };
+            return fed_to(last, stop, past);
         }
         let t = on_line(w, &bytes[used..stop], parameters, table, state, values);
         let next = t.watch;
@@ -596,11 +707,6 @@ fn feed(
         at = put(out, at, said);
         w = next;
         used = stop + 1;
-    }
-    Fed {
-        watch: w,
-        used: used,
-        written: at,
     }
 }
 

@@ -102,6 +102,16 @@ module _ (t : List ℕ) (n : ℕ) where
         passed-one (cellsFit cap t n state) Passed 14 (m .1) .0,
       )
 
+  -- What the table and the parameters alone decide.
+  pub step-admitted : (cap : ℕ) (state values : List ℕ) (k : Tick) → stepChecked cap t n state values k ≡ Passed
+      → (checked t n ≡ Passed) × (all (parameterFits cap k) 8 ≡ true)
+  unfolding stepChecked checked
+  step-admitted cap state values k e =
+      let p = passed-one (lengthFits t n) _ 10 e in
+      let q = passed-one (equationsFit t n) _ 11 (p .1) in
+      let r = passed-one (leb n (length state) && leb n (length values)) _ 12 (q .1) in
+      (rw (p .0, q .0), passed-one (all (parameterFits cap k) 8) _ 13 (r .1) .0)
+
 -- Where a table is refused, so is any call that is given it.
 refused-two : (b d : Bool) (x : Checked) (r : ℕ) → cond b (cond d Passed (Refused 11)) (Refused 10) ≡ Refused r
     → cond b (cond d x (Refused 11)) (Refused 10) ≡ Refused r

@@ -2,12 +2,12 @@
 -- is refused by 14, and a list of calls answers the verdicts of the run. Assumes nothing.
 use mathlib.Core.Path.{_≡_, refl, _∙_, sym, ap}
 use mathlib.Core.Bool.{Bool, true, false, _&&_, cond}
-use mathlib.Core.List.{List, [], _∷_}
+use mathlib.Core.List.{List, [], _∷_, _++_}
 use Prim.Native.Nat.{ℕ, zero, suc, _+_, _≤_, _<_}
 use native.Mathlib.Omega.{arith}
 use native.Mathlib.Nat.{add-zero, zero-add}
 use lib.Dec.{leb}
-use lib.ListN.{length, getD}
+use lib.ListN.{length, getD, drop, length-append}
 use borrow.Author.Tests.{le-leb}
 use Rattle.traces.specs.declared.Tick.{Tick}
 use Rattle.traces.specs.Trace.{Trace, traceOf}
@@ -15,7 +15,7 @@ use Rattle.tables.specs.Table.{numberAt, all, Equation, equationAt, Kind
 use Rattle.tables.specs.Table.{isFlow, operandFits, shapeFits, equationFits, checked, parameterCount}
 use Rattle.tables.specs.Table.Kind.{signal, start, constant, negation, conjunction, disjunction, booleanPre}
 use Rattle.tables.specs.Table.Kind.{countPre, capped, ifElse, compareLiteral, compareParameter, unknown}
-use Rattle.tables.specs.Flow.{valueOf, flows, isMemory, initialAt, operandAt, freshState}
+use Rattle.tables.specs.Flow.{valueOf, flows, isMemory, initialAt, operandAt, freshState, nextState}
 use Rattle.tables.specs.Step.{cellsFit, parameterFits, stepChecked, After, afterTick, steppedIf, stepped}
 use Rattle.tables.specs.Run.{stateAt, flowAt, verdictAt, Call, called, answers, callChecked}
 use Rattle.tables.specs.Run.{admits, tickIf, ticks, nextIf, verdictIf, expected}
@@ -27,8 +27,8 @@ use Rattle.tables.specs.declared.Checked.the-variants.{Passed, Refused a
 use Rattle.tables.specs.declared.Stepped.{Stepped}
 use Rattle.tables.specs.declared.Stepped.the-variants.{Verdict, Refused as NotStepped}
 use Rattle.tables.proofs.Tests.{and-true, all-at}
-use Rattle.tables.proofs.Buffers.{flows-kept, flows-at, length-written, written-at}
-use Rattle.tables.proofs.Checks.{checked-fitting, passed-both}
+use Rattle.tables.proofs.Buffers.{length-flows, flows-kept, flows-at, length-written, written-at}
+use Rattle.tables.proofs.Checks.{checked-fitting, passed-both, step-passed, step-admitted}
 use Rattle.tables.proofs.Ranges.{flow-below, flows-range, fresh-fits, next-fits}
 
 -- The value of an equation that fits at i depends only on the flows before i, and on the cell if it is a memory.
@@ -185,3 +185,30 @@ module _ (cap : ℕ) (t : List ℕ) (n : ℕ) (passed : checked t n ≡ Passed) 
     calls d xs =
         let trace = traceOf d (ticks cap n xs) in
         calls-from trace xs 0 (follows trace d (ticks cap n xs) 0 (λ j. ap trace (zero-add j)))
+
+-- A step that is not refused,
+module _ (cap : ℕ) (t : List ℕ) (n : ℕ) (c v : List ℕ) (k : Tick) (e : stepChecked cap t n c v k ≡ Passed) where
+  pub step-ticks : stepped cap t n c v k ≡ afterTick cap t n c v k
+  unfolding stepped
+  step-ticks = rw e
+
+  -- and after it any further step with the same parameters is not refused.
+  admitted-on : (k′ : Tick) → k′ .parameters ≡ k .parameters → (v′ : List ℕ) → n ≤ length v′
+      → callChecked cap n v′ k′ ≡ Passed
+  unfolding callChecked parameterFits
+  admitted-on k′ q v′ room = rw (le-leb n (length v′) room, q, step-admitted t n cap c v k e .1)
+
+  tick-on : (k′ : Tick) → k′ .parameters ≡ k .parameters
+      → stepChecked cap t n (afterTick cap t n c v k .state) (afterTick cap t n c v k .values) k′ ≡ Passed
+  unfolding afterTick
+  tick-on k′ q =
+      let p = step-passed t n cap c v k e in
+      let fs = flows cap t k c n in
+      call-decides cap t n (step-admitted t n cap c v k e .0) (nextState t fs n c) (fs ++ drop n v) k′
+      (rw (length-written t (operandAt t fs) n c) (p .1)) (next-fits cap t n (p .0 .equations) k c (p .1) (p .3))
+      ∙ admitted-on k′ q (fs ++ drop n v)
+      (omega (arith, length-append fs (drop n v), length-flows cap t k c n))
+
+  pub step-on : (k′ : Tick) → k′ .parameters ≡ k .parameters
+      → stepChecked cap t n (stepped cap t n c v k .state) (stepped cap t n c v k .values) k′ ≡ Passed
+  step-on k′ q = rw step-ticks (tick-on k′ q)

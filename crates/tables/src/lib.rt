@@ -630,3 +630,27 @@ pub fn step(table: &[u32], n: usize, state: &mut [u32], values: &mut [u32], tick
     };
     Stepped::Refused(number)
 }
+
+// What a step answers to these arguments: its refusal, or that it has none. No step is run.
+pub fn step_checked(table: &[u32], n: usize, state: &[u32], values: &[u32], tick: Tick) -> Checked
+    ensures { λ r. ⌜ r
+        ≡ stepChecked standardCap (now (table .entry)) n (now (state .entry)) (now (values .entry)) tick ⌝ }
+{
+    check_step(CAP, table, n, state, values, tick)
+}
+
+// A step that is known to have no refusal: its verdict. After `step_checked` has passed, every further step with the
+// same parameters is such a step.
+pub fn step_passed(
+    table: &[u32],
+    n: usize,
+    state: &mut [u32],
+    values: &mut [u32],
+    tick: Tick,
+) -> u32
+    requires { ⌜ stepChecked standardCap (now table) n (now state) (now values) tick ≡ Checked.Passed ⌝ }
+    ensures { λ r. ⌜ after (Stepped.Verdict r) (now (state .exit)) (now (values .exit))
+        ≡ stepped standardCap (now (table .entry)) n (now (state .entry)) (now (values .entry)) tick ⌝ }
+{
+    run(CAP, table, n, state, values, tick)
+}

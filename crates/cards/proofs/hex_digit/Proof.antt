@@ -1,45 +1,34 @@
--- `cards::hex_digit` meets its contract: one case for each range of bytes. Assumes nothing.
+-- `cards::hex_digit` meets its contract: a byte below the first digit or above the last, or one that the table has.
+-- Assumes nothing.
 use mathlib.Core.Path.{sym}
 use borrow.Author.Needs.{needs}
 use native.Mathlib.Omega.{arith}
-use Rattle.cards.proofs.Hex.{hex-digit, hex-letter, hex-low, hex-mid, hex-high}
+use Rattle.cards.proofs.Hex.{hex-low, hex-high, digit-at, digit-small}
 use Rattle.cards.proofs.hex_digit.Statement.{statement}
 use Rattle.cards.proofs.hex_digit.Tie as tie
 
 returns : tie.Need-returns
-returns c =
-    let args = c .before .before .args in
-    sym (hex-digit (args .b) (omega arith) (omega arith))
+returns c = sym (hex-low (c .before .args .b) (c .if1 .taken))
 
 returns-2 : tie.Need-returns-2
-returns-2 c =
-    let args = c .before .before .before .before .args in
-    sym (hex-letter (args .b) (omega arith) (omega arith))
+returns-2 c = sym (hex-high (c .before .before .args .b) (c .if2 .taken))
+
+sub-result : tie.Need-sub-result
+sub-result c =
+    let b = c .before .before .before .before .args .b in
+    omega (arith, digit-at b (omega arith) (omega arith))
+
+cast-result : tie.Need-cast-result
+cast-result c =
+    let b = c .before .before .before .before .args .b in
+    omega (arith, digit-small b (omega arith) (omega arith))
 
 returns-3 : tie.Need-returns-3
 returns-3 c =
-    let args = c .before .args in
-    sym (hex-low (args .b) (omega arith))
-
-returns-4 : tie.Need-returns-4
-returns-4 c =
-    let args = c .before .before .before .args in
-    sym (hex-mid (args .b) (omega arith) (omega arith))
-
-returns-5 : tie.Need-returns-5
-returns-5 c =
-    let args = c .before .before .before .before .args in
-    sym (hex-high (args .b) (omega arith))
+    let b = c .before .before .before .before .args .b in
+    omega (arith, digit-at b (omega arith) (omega arith))
 
 pub hex-digit-spec : {M : Type 1} → statement M
 hex-digit-spec =
     tie.close
-    (tie.spec
-    (λ c. search needs)
-    (λ c. search needs)
-    (λ c. search needs)
-    returns
-    returns-2
-    returns-3
-    returns-4
-    returns-5)
+    (tie.spec returns returns-2 (λ c. search needs) (λ c. search needs) sub-result cast-result returns-3)
