@@ -1,32 +1,40 @@
--- `emitter::node_of` meets its contract: NODES is the machine's list.
-use borrow.Author.Needs.{needs}
-use mathlib.Core.Path.{refl, sym}
+-- `emitter::node_of` meets its contract: at each arm's number the machine's list of nodes computes.
+use mathlib.Core.Path.{_≡_, sym, ap}
+use Prim.Native.Nat.{ℕ}
 use lib.ListN.{List·getD-eq-default}
+use Rattle.tables.proofs.Numbers.{none-below}
 use Rattle.emitter.specs.Machine.{node, nodes, nodeOf}
 use Rattle.emitter.proofs.node_of.Statement.{statement}
 use Rattle.emitter.proofs.node_of.Tie as tie
 
-returns : tie.Need-returns
+-- The node of the number that an arm names.
+known : {i k : ℕ} → i ≡ k → nodeOf k ≡ nodeOf i
+known e = sym (ap nodeOf e)
+
+-- Past the end.
+beyond : tie.Need-returns-17
 unfolding nodes nodeOf
-returns c = refl
-
-returns-2 : tie.Need-returns-2
-unfolding nodes nodeOf
-returns-2 c =
-    let the-if1 = c .if1 in
-    sym (List·getD-eq-default nodes (node 0 0 0 0 0) (the-if1 .left))
-
-mul-result : tie.Need-mul-result
-mul-result c = search needs
-
-array-copy-out-result : tie.Need-array-copy-out-result
-array-copy-out-result c = search needs
+beyond c = sym (List·getD-eq-default nodes (node 0 0 0 0 0) (none-below (c .before .args .k) 16 (c .match .rest)))
 
 pub node-of-spec : {M : Type 1} → statement M
+unfolding nodes nodeOf
 node-of-spec =
     tie.close
     (tie.spec
-    mul-result
-    array-copy-out-result
-    returns
-    returns-2)
+    (λ c. known (c .match .keys1))
+    (λ c. known (c .match .keys2))
+    (λ c. known (c .match .keys3))
+    (λ c. known (c .match .keys4))
+    (λ c. known (c .match .keys5))
+    (λ c. known (c .match .keys6))
+    (λ c. known (c .match .keys7))
+    (λ c. known (c .match .keys8))
+    (λ c. known (c .match .keys9))
+    (λ c. known (c .match .keys10))
+    (λ c. known (c .match .keys11))
+    (λ c. known (c .match .keys12))
+    (λ c. known (c .match .keys13))
+    (λ c. known (c .match .keys14))
+    (λ c. known (c .match .keys15))
+    (λ c. known (c .match .keys16))
+    beyond)
