@@ -196,11 +196,18 @@ fn store(t: &mut [u32], i: usize, v: u32)
     }
 }
 
-// One equation at place o.
+// One equation at place o; the numbers that have no room are dropped.
 fn put(t: &mut [u32], o: u32, kind: u32, a: u32, b: u32, c: u32)
     ensures { λ _. ⌜ now (t .exit) ≡ written (now (t .entry)) o (equation kind a b c ∷ []) ⌝ }
 {
     let i = 4 * (o as usize);
+    if i + 4 <= t.len() {
+        t[i] = kind;
+        t[i + 1] = a;
+        t[i + 2] = b;
+        t[i + 3] = c;
+        return;
+    }
     store(t, i, kind);
     store(t, i + 1, a);
     store(t, i + 2, b);
