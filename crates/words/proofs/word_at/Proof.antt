@@ -1,11 +1,14 @@
 -- `words::word_at` meets its contract: the class decides. Assumes nothing.
 use mathlib.Core.Path.{sym, ap, _∙_}
+use Prim.Native.Nat.{ℕ, _+_}
 use native.Mathlib.Omega.{arith}
 use borrow.Author.Needs.{needs}
 use lib.ListN.{length, drop}
 use lib.Seq.{getD-drop}
 use Rattle.words.specs.Split.{runOf, longest}
 use Rattle.words.proofs.Runs.{run-fits, run-part, run-some, word-run, word-none, word-operator}
+use Rattle.words.specs.Width.{operatorWidth}
+use Rattle.words.proofs.Widths.{width-run, width-none, width-operator}
 use Rattle.words.proofs.word_at.Statement.{statement}
 use Rattle.words.proofs.word_at.Tie as tie
 
@@ -40,10 +43,21 @@ returns c =
     let i = start .args .i in
     let part = run-part text i (c .before .before .run-end .result) (c .before .before .run-end .ensures) in
     let word = word-run (drop i text) (start .args .c) (c .before .before .before .if1 .taken) in
-    c .run-word .ensures ∙ ap runOf part ∙ sym word
+    let width = width-run (drop i text) (start .args .c) (c .before .before .before .if1 .taken) in (
+      c .run-word .ensures ∙ ap runOf part ∙ sym word,
+      c .before .before .run-end .ensures ∙ ap (λ (n : ℕ). i + n) (sym width),
+    )
+
+add-t12 : tie.Need-add-t12
+add-t12 c = search needs
 
 returns-2 : tie.Need-returns-2
-returns-2 c = sym (word-none _ (c .before .before .before .args .c) (c .if2 .taken))
+returns-2 c =
+    let start = c .before .before .before in
+    let class = start .args .c in (
+      sym (word-none _ class (c .if2 .taken)),
+      ap (λ (n : ℕ). start .args .i + n) (sym (width-none _ class (c .if2 .taken))),
+    )
 
 add-byte-at : tie.Need-add-byte-at
 add-byte-at c = search needs
@@ -51,8 +65,8 @@ add-byte-at c = search needs
 byte-at-requires : tie.Need-byte-at-requires
 byte-at-requires c κs = search needs
 
-longest-word-requires : tie.Need-longest-word-requires
-longest-word-requires c κs = search needs
+operator-at-requires : tie.Need-operator-at-requires
+operator-at-requires c κs = search needs
 
 returns-3 : tie.Need-returns-3
 returns-3 c =
@@ -62,7 +76,10 @@ returns-3 c =
     let next = c .before .byte-at .ensures ∙ sym (getD-drop i text 1 0) in
     let no-run = c .before .before .before .if1 .left in
     let word = word-operator (drop i text) (start .args .c) no-run (c .before .before .if2 .left) in
-    c .longest-word .ensures ∙ ap (longest (start .args .c)) next ∙ sym word
+    let width = width-operator (drop i text) (start .args .c) no-run in (
+      c .operator-at .ensures .0 ∙ ap (longest (start .args .c)) next ∙ sym word,
+      c .operator-at .ensures .1 ∙ ap (λ (n : ℕ). i + n) (ap (operatorWidth (start .args .c)) next ∙ sym width),
+    )
 
 pub word-at-spec : {M : Type 1} → statement M
 word-at-spec =
@@ -74,8 +91,9 @@ word-at-spec =
     part-run-word-end
     run-word-requires
     returns
+    add-t12
     returns-2
     add-byte-at
     byte-at-requires
-    longest-word-requires
+    operator-at-requires
     returns-3)
