@@ -10,7 +10,8 @@ use lib.Dec.{eqb, ltb}
 use lib.ListN.{length, getD, drop, drop-of-length-le}
 use lib.Seq.{drop-cons}
 use borrow.Author.Tests.{eq-eqb, ne-eqb, lt-ltb, le-ltb}
-use Rattle.grammar.specs.Fragment.{names}
+use Rattle.words.specs.Word.{CHOP, EXISTS}
+use Rattle.grammar.specs.Fragment.{names, beyond}
 use Rattle.rules.specs.Limits.{opened, deep, counted, tally}
 
 -- The words from position i on: the one at i and those after it.
@@ -20,17 +21,33 @@ words-at ws i h = drop-cons ws i 0 h ∙ rw add-one
 -- ---- a word among the words
 
 module _ (w : ℕ) (ws : List ℕ) (i : ℕ) where
-  pub named-here : i < length ws → getD ws i 0 ≡ w → names w (drop i ws) ≡ true
+  named-here : i < length ws → getD ws i 0 ≡ w → names w (drop i ws) ≡ true
   unfolding names
   named-here h e = ap (names w) (words-at ws i h) ∙ ap (λ (b : Bool). b || names w (drop (i + 1) ws)) (eq-eqb _ _ e)
 
-  pub named-later : i < length ws → (getD ws i 0 ≡ w → ⊥) → names w (drop i ws) ≡ names w (drop (i + 1) ws)
+  named-later : i < length ws → (getD ws i 0 ≡ w → ⊥) → names w (drop i ws) ≡ names w (drop (i + 1) ws)
   unfolding names
   named-later h e = ap (names w) (words-at ws i h) ∙ ap (λ (b : Bool). b || names w (drop (i + 1) ws)) (ne-eqb _ _ e)
 
-  pub named-never : length ws ≤ i → names w (drop i ws) ≡ false
+  named-never : length ws ≤ i → names w (drop i ws) ≡ false
   unfolding names
   named-never h = ap (names w) (drop-of-length-le ws h)
+
+-- ---- `chop` or `exists` among the words
+
+module _ (ws : List ℕ) (i : ℕ) where
+  pub beyond-chop : i < length ws → getD ws i 0 ≡ CHOP → beyond (drop i ws) ≡ true
+  beyond-chop h e = rw (named-here CHOP ws i h e)
+
+  pub beyond-exists : i < length ws → getD ws i 0 ≡ EXISTS → beyond (drop i ws) ≡ true
+  beyond-exists h e = rw (named-here EXISTS ws i h e) (or-true (names CHOP (drop i ws)))
+
+  pub beyond-later : i < length ws → (getD ws i 0 ≡ CHOP → ⊥) → (getD ws i 0 ≡ EXISTS → ⊥)
+      → beyond (drop i ws) ≡ beyond (drop (i + 1) ws)
+  beyond-later h n m = rw (named-later CHOP ws i h n, named-later EXISTS ws i h m)
+
+  pub beyond-never : length ws ≤ i → beyond (drop i ws) ≡ false
+  beyond-never h = rw (named-never CHOP ws i h, named-never EXISTS ws i h)
 
 -- ---- round brackets open, d before position i
 

@@ -6,9 +6,9 @@ ghost use mathlib.Core.Path.{_≡_};
 ghost use Prim.Native.Nat.{_≤_, _<_};
 ghost use lib.ListN.{length};
 ghost use Rattle.lists.specs.Same.{same};
-ghost use Rattle.grammar.specs.Fragment.{names, beyond};
+ghost use Rattle.grammar.specs.Fragment.{beyond};
 ghost use Rattle.words.specs.Split.Out.{made};
-ghost use Rattle.rules.specs.Limits.{opened, deep, counted, tally, over};
+ghost use Rattle.rules.specs.Limits.{opened, counted, over};
 ghost use Rattle.rules.specs.Reading.{ruleOf, ofWords};
 ghost use Rattle.rules.specs.Same.{Compared};
 ghost use Rattle.rules.specs.Answer.{answerOf, Told, Laid, splitRefusal, recordsRefusal};
@@ -49,22 +49,6 @@ fn open_after(depth: usize, w: u32) -> usize
     depth
 }
 
-// "more than 16 round brackets open at some word"
-fn is_deep(ws: &[u32]) -> bool
-    ensures { λ r. ⌜ r ≡ deep 0 (now (ws .entry)) ⌝ }
-{
-    let mut depth: usize = 0;
-    let mut i: usize = 0;
-    while i < ws.len() {
-        depth = open_after(depth, ws[i]);
-        if 16 < depth {
-            return true;
-        }
-        i += 1;
-    }
-    false
-}
-
 // Whether a word is `!`, `then`, `chop` or `exists`.
 fn is_counted(w: u32) -> bool
     ensures { λ r. ⌜ r ≡ counted w ⌝ }
@@ -81,53 +65,43 @@ fn is_counted(w: u32) -> bool
     w == words::EXISTS
 }
 
-// How many words are.
-fn count(ws: &[u32]) -> usize
-    ensures { λ r. ⌜ r ≡ tally (now (ws .entry)) ⌝ }
+// Refusal 5: "more than 16 round brackets open at some word", or more than 32 of the counted words.
+fn is_over(ws: &[u32]) -> bool
+    ensures { λ r. ⌜ r ≡ over (now (ws .entry)) ⌝ }
 {
+    let mut depth: usize = 0;
     let mut n: usize = 0;
     let mut i: usize = 0;
     while i < ws.len() {
-        if is_counted(ws[i]) {
+        let w = ws[i];
+        depth = open_after(depth, w);
+        if 16 < depth {
+            return true;
+        }
+        if is_counted(w) {
             n += 1;
         }
         i += 1;
     }
-    n
+    32 < n
 }
 
-// Refusal 5.
-fn is_over(ws: &[u32]) -> bool
-    ensures { λ r. ⌜ r ≡ over (now (ws .entry)) ⌝ }
-{
-    if is_deep(ws) {
-        return true;
-    }
-    32 < count(ws)
-}
-
-// Whether a word stands among the words.
-fn has_word(ws: &[u32], w: u32) -> bool
-    ensures { λ r. ⌜ r ≡ names w (now (ws .entry)) ⌝ }
+// Refusal 7: `chop` or `exists` stands among the words.
+fn is_beyond(ws: &[u32]) -> bool
+    ensures { λ r. ⌜ r ≡ beyond (now (ws .entry)) ⌝ }
 {
     let mut i: usize = 0;
     while i < ws.len() {
-        if ws[i] == w {
+        let w = ws[i];
+        if w == words::CHOP {
+            return true;
+        }
+        if w == words::EXISTS {
             return true;
         }
         i += 1;
     }
     false
-}
-
-// Refusal 7.
-fn is_beyond(ws: &[u32]) -> bool
-    ensures { λ r. ⌜ r ≡ beyond (now (ws .entry)) ⌝ }
-{
-    if has_word(ws, words::CHOP) {
-        return true;
-    }
-    has_word(ws, words::EXISTS)
 }
 
 // The words' refusal, where there is one.
