@@ -45,7 +45,7 @@ written t o es = sets t (4 * o) (numbersOf es)
 
 -- ---- the tables
 
--- Row i of the scheme, as the code's table EQUATIONS has it.
+-- Row i of the scheme, as the code's `row_of` gives it.
 abbrev pub asRow : Equation → Row
 asRow e = record { 0 = e .kind; 1 = e .a; 2 = e .b; 3 = e .c }
 
