@@ -1,6 +1,6 @@
 // The observer of a rule (document 01, "Compile a text"): one pass over the records of the rule's tree, operands
-// first, as a stack machine. A record's kind picks a node (`node_of`), the node names rows of the observer scheme
-// (`row_of`), and every number of a row is looked up in one small array of values. So there is no branch on the kind, and a new node is new rows.
+// first, as a stack machine. A record's kind picks a node (`enter`), the node names rows of the observer scheme
+// (`row_of`), and every number of a row is looked up in one small array of values. So a new node is new rows.
 // The pass as a definition is in specs/Machine.antt; that it gives the emitter's equations is what `emit_observer`
 // promises.
 ghost use mathlib.Core.Path.{_≡_};
@@ -9,9 +9,9 @@ ghost use Prim.Native.Nat.{_≤_, _<_, _+_, _-_};
 ghost use lib.ListN.{getD, set, length};
 ghost use Rattle.tables.specs.Table.{equationLimit, signalCount};
 ghost use Rattle.agreement.specs.Scheme.{equation, rowAt, resolved, fill, values};
-ghost use Rattle.emitter.specs.Machine.{arenaLimit, widest, written, rowOf, nodeOf, before, recordAt};
+ghost use Rattle.emitter.specs.Machine.{arenaLimit, widest, written, rowOf, node, before, recordAt};
 ghost use Rattle.emitter.specs.Machine.{valuesAt, stacked, marked, marks, headerOf, settled};
-ghost use Rattle.emitter.specs.Contract.{Emitted, Room, Pushed, Stepped, Ran, Headed};
+ghost use Rattle.emitter.specs.Contract.{Emitted, Room, Pushed, Added, Stepped, Ran, Headed};
 
 // ---- the tables
 
@@ -133,42 +133,6 @@ fn row_of(i: usize) -> Row
     }
 }
 
-// What a record of some kind adds: the first of its rows and how many they are, how many operands it takes off the
-// stack, which value it puts there, and which value is the negated start flow from here on.
-struct Node(pub u32, pub u32, pub u32, pub u32, pub u32);
-
-// What a record of kind k adds, in the order of the kinds of records (formulas), and the whole rule's node last; past the
-// end all zeros.
-fn node_of(k: u32) -> Node
-    ensures { λ r. ⌜ r ≡ nodeOf k ⌝ }
-{
-    match k {
-        // a constant, a signal, not, and, or
-        0 => Node(0, 1, 0, O, N),
-        1 => Node(0, 0, 0, SIGNAL, N),
-        2 => Node(1, 1, 1, O, N),
-        3 => Node(2, 1, 2, O, N),
-        4 => Node(3, 1, 2, O, N),
-        // begin, end, point, held, kept
-        5 => Node(4, 4, 1, O3, N),
-        6 => Node(0, 0, 1, P, N),
-        7 => Node(8, 1, 1, O, N),
-        8 => Node(9, 4, 1, O3, N),
-        9 => Node(9, 3, 1, O1, N),
-        // len, sum, age
-        10 => Node(13, 4, 0, O3, N),
-        11 => Node(17, 4, 1, O3, N),
-        12 => Node(21, 5, 1, O4, N),
-        // the end of a lead: the second part has a start of its own, and the present one waits on the stack
-        13 => Node(26, 5, 1, N, O4),
-        // then: back to the start that waits on the stack
-        14 => Node(31, 4, 2, O3, Q),
-        // the whole rule
-        15 => Node(35, 4, 1, O3, N),
-        _ => Node(0, 0, 0, 0, 0),
-    }
-}
-
 // The kind of the whole rule's node: no record has it.
 const WHOLE: u32 = 15;
 
@@ -269,16 +233,32 @@ fn put_row(t: &mut [u32], o: u32, vs: &[u32; NAMES], i: usize)
     put(t, o, kind, a, b, c);
 }
 
-// `count` rows from row `first` on, put from place o on.
+// `count` rows from row `first` on, put from place o on. Without a loop, so that a caller's constants decide all tests.
 fn fill(t: &mut [u32], o: u32, vs: &[u32; NAMES], first: u32, count: u32)
     requires { ⌜ (o ≤ equationLimit) × (count ≤ widest) ⌝ }
     ensures { λ _. ⌜ now (t .exit) ≡ written (now (t .entry)) o (fill (now (vs .entry)) first count) ⌝ }
 {
-    let mut i: u32 = 0;
-    while i < count {
-        put_row(t, o + i, vs, first as usize + i as usize);
-        i += 1;
+    let row = first as usize;
+    if count == 0 {
+        return;
     }
+    put_row(t, o, vs, row);
+    if count == 1 {
+        return;
+    }
+    put_row(t, o + 1, vs, row + 1);
+    if count == 2 {
+        return;
+    }
+    put_row(t, o + 2, vs, row + 2);
+    if count == 3 {
+        return;
+    }
+    put_row(t, o + 3, vs, row + 3);
+    if count == 4 {
+        return;
+    }
+    put_row(t, o + 4, vs, row + 4);
 }
 
 // ---- the stack of operands: the first `height` numbers of an array
@@ -354,22 +334,67 @@ fn values_at(stack: &[u32], places: &[u32], m: Place, x: Record) -> [u32; NAMES]
     values(m.next, m.idle, s, p, q, f, x)
 }
 
-// One record: its node's equations go to the table, its operands off the stack, its result on.
+// One node: `count` rows from row `first` on go to the table, `takes` operands come off the stack, the value `result` goes
+// on, and the value `idle` is the negated start flow from here on.
+fn add_node(
+    table: &mut [u32],
+    stack: &mut [u32],
+    m: Place,
+    vs: &[u32; NAMES],
+    first: u32,
+    count: u32,
+    takes: u32,
+    result: u32,
+    idle: u32,
+) -> Place
+    requires { ⌜ Room m (now stack) × (count ≤ widest) ⌝ }
+    ensures { λ r. ⌜ Added (node first count takes result idle) (now (vs .entry)) (now (table .entry))
+        (now (stack .entry)) m (now (table .exit)) (now (stack .exit)) r ⌝ }
+{
+    fill(table, m.next, vs, first, count);
+    let v = at(vs, result as usize);
+    let n = at(vs, idle as usize);
+    let height = push(stack, m.height, takes, v);
+    Place {
+        next: m.next + count,
+        idle: n,
+        height,
+    }
+}
+
+// One record: its kind picks its node. The kinds are numbered as those of records (formulas), and the whole rule's is the
+// last. The numbers of a node are constants, so that its rows are found when this is compiled.
 fn enter(table: &mut [u32], stack: &mut [u32], places: &[u32], m: Place, x: Record) -> Place
     requires { ⌜ Room m (now stack) ⌝ }
     ensures { λ r. ⌜ Stepped (now (places .entry)) x (now (table .entry)) (now (stack .entry)) m
         (now (table .exit)) (now (stack .exit)) r ⌝ }
 {
-    let d = node_of(x.kind);
     let vs = values_at(stack, places, m, x);
-    fill(table, m.next, &vs, d.0, d.1);
-    let result = at(&vs, d.3 as usize);
-    let idle = at(&vs, d.4 as usize);
-    let height = push(stack, m.height, d.2, result);
-    Place {
-        next: m.next + d.1,
-        idle,
-        height,
+    let k = x.kind;
+    match k {
+        // a constant, a signal, not, and, or
+        0 => add_node(table, stack, m, &vs, 0, 1, 0, O, N),
+        1 => add_node(table, stack, m, &vs, 0, 0, 0, SIGNAL, N),
+        2 => add_node(table, stack, m, &vs, 1, 1, 1, O, N),
+        3 => add_node(table, stack, m, &vs, 2, 1, 2, O, N),
+        4 => add_node(table, stack, m, &vs, 3, 1, 2, O, N),
+        // begin, end, point, held, kept
+        5 => add_node(table, stack, m, &vs, 4, 4, 1, O3, N),
+        6 => add_node(table, stack, m, &vs, 0, 0, 1, P, N),
+        7 => add_node(table, stack, m, &vs, 8, 1, 1, O, N),
+        8 => add_node(table, stack, m, &vs, 9, 4, 1, O3, N),
+        9 => add_node(table, stack, m, &vs, 9, 3, 1, O1, N),
+        // len, sum, age
+        10 => add_node(table, stack, m, &vs, 13, 4, 0, O3, N),
+        11 => add_node(table, stack, m, &vs, 17, 4, 1, O3, N),
+        12 => add_node(table, stack, m, &vs, 21, 5, 1, O4, N),
+        // the end of a lead: the second part has a start of its own, and the present one waits on the stack
+        13 => add_node(table, stack, m, &vs, 26, 5, 1, N, O4),
+        // then: back to the start that waits on the stack
+        14 => add_node(table, stack, m, &vs, 31, 4, 2, O3, Q),
+        // the whole rule
+        15 => add_node(table, stack, m, &vs, 35, 4, 1, O3, N),
+        _ => add_node(table, stack, m, &vs, 0, 0, 0, 0, 0),
     }
 }
 

@@ -1,96 +1,203 @@
--- `emitter::enter` meets its contract: `entered` gathers what its calls gave.
-use Prim.Native.Nat.{_≤_}
-use native.Mathlib.Omega.{arith}
+-- `emitter::enter` meets its contract: each arm adds the node of its own number. Assumes nothing.
+use mathlib.Core.Path.{_≡_, sym, ap, _∙_}
 use borrow.Author.Needs.{needs}
-use Rattle.emitter.specs.Machine.{widest, count}
-use Rattle.emitter.proofs.Nodes.{count-few}
+use lib.ListN.{List·getD-eq-default}
+use Rattle.tables.proofs.Numbers.{none-below}
+use Rattle.emitter.specs.Machine.{node, nodes, nodeOf}
 use Rattle.emitter.proofs.Stack.{entered}
 use Rattle.emitter.proofs.enter.Statement.{statement}
 use Rattle.emitter.proofs.enter.Tie as tie
 
-few : (c : tie.After-node-of) →
-    let the-node-of = c .node-of in
-    count (the-node-of .result) ≤ widest
-few c =
-    let the-node-of = c .node-of in
-    let the-args = c .before .before .before .before .args in
-    rw (the-node-of .ensures) (count-few (the-args .x .kind))
-
-fill-requires : tie.Need-fill-requires
-fill-requires c κs =
-    let at-after-node-of = c .before .before .before .before in
-    let the-pre = c .before .before .before .before .before .before .before .before .pre in
-    (omega (arith, the-pre .near), few at-after-node-of)
-
-add-t25 : tie.Need-add-t25
-add-t25 c =
-    let back = c .before .before .before .before .before .before .before .before in
-    let back2 = back .before .before .before .before .before .before .before .before in
-    let at-after-node-of = back2 .before .before .before in
-    let the-pre = back2 .before .before .before .before .before .before .before .pre in
-    omega (arith, few at-after-node-of, the-pre .near)
-
 returns : tie.Need-returns
+unfolding nodes nodeOf
 returns c =
-    let back = c .before .before .before .before .before .before .before .before in
-    let back2 = back .before .before .before .before .before .before .before .before in
-    let the-node-of = back2 .before .before .before .node-of in
-    let the-values-at = back2 .before .values-at in
-    let the-fill = back .before .before .before .before .before .before .fill in
-    let the-at = back .before .at in
-    let the-at2 = c .before .before .before .before .before .before .at2 in
-    let the-push = c .before .before .before .before .push in
-    entered (the-node-of .ensures) (the-values-at .ensures) (the-fill .ensures) (the-at .ensures) (the-at2 .ensures)
-    (the-push .ensures)
+    let call = c .before .before .before .before in
+    let arm = call .before .before .before .before in
+    entered (ap nodeOf (arm .match .keys1)) (arm .before .values-at .ensures) (call .add-node .ensures)
 
-node-of-requires : tie.Need-node-of-requires
-node-of-requires c κs = search needs
+returns-2 : tie.Need-returns-2
+unfolding nodes nodeOf
+returns-2 c =
+    let call = c .before .before .before .before in
+    let arm = call .before .before .before .before in
+    entered (ap nodeOf (arm .match .keys2)) (arm .before .values-at .ensures) (call .add-node2 .ensures)
 
-values-at-requires : tie.Need-values-at-requires
-values-at-requires c κs = search needs
+returns-3 : tie.Need-returns-3
+unfolding nodes nodeOf
+returns-3 c =
+    let call = c .before .before .before .before in
+    let arm = call .before .before .before .before in
+    entered (ap nodeOf (arm .match .keys3)) (arm .before .values-at .ensures) (call .add-node3 .ensures)
 
-slice-aggregate-at : tie.Need-slice-aggregate-at
-slice-aggregate-at c = search needs
+returns-4 : tie.Need-returns-4
+unfolding nodes nodeOf
+returns-4 c =
+    let call = c .before .before .before .before in
+    let arm = call .before .before .before .before in
+    entered (ap nodeOf (arm .match .keys4)) (arm .before .values-at .ensures) (call .add-node4 .ensures)
 
-cast-at : tie.Need-cast-at
-cast-at c = search needs
+returns-5 : tie.Need-returns-5
+unfolding nodes nodeOf
+returns-5 c =
+    let call = c .before .before .before .before in
+    let arm = call .before .before .before .before in
+    entered (ap nodeOf (arm .match .keys5)) (arm .before .values-at .ensures) (call .add-node5 .ensures)
 
-at-requires : tie.Need-at-requires
-at-requires c κs = search needs
+returns-6 : tie.Need-returns-6
+unfolding nodes nodeOf
+returns-6 c =
+    let call = c .before .before .before .before in
+    let arm = call .before .before .before .before in
+    entered (ap nodeOf (arm .match .keys6)) (arm .before .values-at .ensures) (call .add-node6 .ensures)
 
-slice-aggregate-at-2 : tie.Need-slice-aggregate-at-2
-slice-aggregate-at-2 c = search needs
+returns-7 : tie.Need-returns-7
+unfolding nodes nodeOf
+returns-7 c =
+    let call = c .before .before .before .before in
+    let arm = call .before .before .before .before in
+    entered (ap nodeOf (arm .match .keys7)) (arm .before .values-at .ensures) (call .add-node7 .ensures)
 
-cast-at-2 : tie.Need-cast-at-2
-cast-at-2 c = search needs
+returns-8 : tie.Need-returns-8
+unfolding nodes nodeOf
+returns-8 c =
+    let call = c .before .before .before .before in
+    let arm = call .before .before .before .before in
+    entered (ap nodeOf (arm .match .keys8)) (arm .before .values-at .ensures) (call .add-node8 .ensures)
 
-at-requires-2 : tie.Need-at-requires-2
-at-requires-2 c κs = search needs
+returns-9 : tie.Need-returns-9
+unfolding nodes nodeOf
+returns-9 c =
+    let call = c .before .before .before .before in
+    let arm = call .before .before .before .before in
+    entered (ap nodeOf (arm .match .keys9)) (arm .before .values-at .ensures) (call .add-node9 .ensures)
 
-push-requires : tie.Need-push-requires
-push-requires c κs = search needs
+returns-10 : tie.Need-returns-10
+unfolding nodes nodeOf
+returns-10 c =
+    let call = c .before .before .before .before in
+    let arm = call .before .before .before .before in
+    entered (ap nodeOf (arm .match .keys10)) (arm .before .values-at .ensures) (call .add-node10 .ensures)
 
-same-length : tie.Need-same-length
-same-length c = search needs
+returns-11 : tie.Need-returns-11
+unfolding nodes nodeOf
+returns-11 c =
+    let call = c .before .before .before .before in
+    let arm = call .before .before .before .before in
+    entered (ap nodeOf (arm .match .keys11)) (arm .before .values-at .ensures) (call .add-node11 .ensures)
 
-same-length-2 : tie.Need-same-length-2
-same-length-2 c = search needs
+returns-12 : tie.Need-returns-12
+unfolding nodes nodeOf
+returns-12 c =
+    let call = c .before .before .before .before in
+    let arm = call .before .before .before .before in
+    entered (ap nodeOf (arm .match .keys12)) (arm .before .values-at .ensures) (call .add-node12 .ensures)
+
+returns-13 : tie.Need-returns-13
+unfolding nodes nodeOf
+returns-13 c =
+    let call = c .before .before .before .before in
+    let arm = call .before .before .before .before in
+    entered (ap nodeOf (arm .match .keys13)) (arm .before .values-at .ensures) (call .add-node13 .ensures)
+
+returns-14 : tie.Need-returns-14
+unfolding nodes nodeOf
+returns-14 c =
+    let call = c .before .before .before .before in
+    let arm = call .before .before .before .before in
+    entered (ap nodeOf (arm .match .keys14)) (arm .before .values-at .ensures) (call .add-node14 .ensures)
+
+returns-15 : tie.Need-returns-15
+unfolding nodes nodeOf
+returns-15 c =
+    let call = c .before .before .before .before in
+    let arm = call .before .before .before .before in
+    entered (ap nodeOf (arm .match .keys15)) (arm .before .values-at .ensures) (call .add-node15 .ensures)
+
+returns-16 : tie.Need-returns-16
+unfolding nodes nodeOf
+returns-16 c =
+    let call = c .before .before .before .before in
+    let arm = call .before .before .before .before in
+    entered (ap nodeOf (arm .match .keys16)) (arm .before .values-at .ensures) (call .add-node16 .ensures)
+
+returns-17 : tie.Need-returns-17
+unfolding nodes nodeOf
+returns-17 c =
+    let call = c .before .before .before .before in
+    let arm = call .before .before .before .before in
+    let beyond = List·getD-eq-default nodes (node 0 0 0 0 0) (none-below _ 16 (arm .match .rest)) in
+    entered beyond (arm .before .values-at .ensures) (call .add-node17 .ensures)
 
 pub enter-spec : {M : Type 1} → statement M
 enter-spec =
     tie.close
     (tie.spec
-    node-of-requires
-    values-at-requires
-    fill-requires
-    slice-aggregate-at
-    cast-at
-    at-requires
-    slice-aggregate-at-2
-    cast-at-2
-    at-requires-2
-    push-requires
-    add-t25
-    same-length
-    same-length-2
-    returns)
+    (λ c κs. search needs)
+    (λ c κs. search needs)
+    (λ c κs. search needs)
+    (λ c κs. search needs)
+    (λ c κs. search needs)
+    (λ c κs. search needs)
+    (λ c κs. search needs)
+    (λ c κs. search needs)
+    (λ c κs. search needs)
+    (λ c κs. search needs)
+    (λ c κs. search needs)
+    (λ c κs. search needs)
+    (λ c κs. search needs)
+    (λ c κs. search needs)
+    (λ c κs. search needs)
+    (λ c κs. search needs)
+    (λ c κs. search needs)
+    (λ c κs. search needs)
+    (λ c. search needs)
+    (λ c. search needs)
+    returns
+    (λ c. search needs)
+    (λ c. search needs)
+    returns-2
+    (λ c. search needs)
+    (λ c. search needs)
+    returns-3
+    (λ c. search needs)
+    (λ c. search needs)
+    returns-4
+    (λ c. search needs)
+    (λ c. search needs)
+    returns-5
+    (λ c. search needs)
+    (λ c. search needs)
+    returns-6
+    (λ c. search needs)
+    (λ c. search needs)
+    returns-7
+    (λ c. search needs)
+    (λ c. search needs)
+    returns-8
+    (λ c. search needs)
+    (λ c. search needs)
+    returns-9
+    (λ c. search needs)
+    (λ c. search needs)
+    returns-10
+    (λ c. search needs)
+    (λ c. search needs)
+    returns-11
+    (λ c. search needs)
+    (λ c. search needs)
+    returns-12
+    (λ c. search needs)
+    (λ c. search needs)
+    returns-13
+    (λ c. search needs)
+    (λ c. search needs)
+    returns-14
+    (λ c. search needs)
+    (λ c. search needs)
+    returns-15
+    (λ c. search needs)
+    (λ c. search needs)
+    returns-16
+    (λ c. search needs)
+    (λ c. search needs)
+    returns-17)
