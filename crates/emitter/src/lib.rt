@@ -75,7 +75,7 @@ const NAMES: usize = 25;
 struct Row(pub u32, pub u32, pub u32, pub u32);
 
 // Row i of the observer scheme (agreement, specs/Scheme.antt); past its end all zeros. s and n are the start flow and its
-// negation, m a memory. A match, so that the table is read-only data and no copy of it is made.
+// negation, m a memory. A match, so that no copy of the table is made.
 fn row_of(i: usize) -> Row
     ensures { λ r. ⌜ r ≡ rowOf i ⌝ }
 {
