@@ -297,7 +297,7 @@ fn word_at(text: &[u8], i: usize, c: u32) -> Token
         × (r .end ≡ i + widthOf c (drop i (now (text .entry)))) ⌝ }
 {
     if c == RUN {
-        let end = run_end(text, i);
+        let end = run_end(text, i + 1);
         let word = run_word(&text[i..end]);
         return Token { word, end };
     }

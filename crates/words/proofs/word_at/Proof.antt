@@ -1,19 +1,32 @@
 -- `words::word_at` meets its contract: the class decides. Assumes nothing.
-use mathlib.Core.Path.{sym, ap, _∙_}
+use mathlib.Core.Path.{_≡_, sym, ap, _∙_}
 use Prim.Native.Nat.{ℕ, _+_}
 use native.Mathlib.Omega.{arith}
 use borrow.Author.Needs.{needs}
 use lib.ListN.{length, drop}
 use lib.Seq.{getD-drop}
-use Rattle.words.specs.Split.{runOf, longest}
-use Rattle.words.proofs.Runs.{run-fits, run-part, run-some, word-run, word-none, word-operator}
+use Rattle.words.specs.Split.{run, runOf, longest}
+use Rattle.words.proofs.Runs.{run-goes, run-fits, run-part, run-some, word-run, word-none, word-operator}
 use Rattle.words.specs.Width.{operatorWidth}
 use Rattle.words.proofs.Widths.{width-run, width-none, width-operator}
 use Rattle.words.proofs.word_at.Statement.{statement}
 use Rattle.words.proofs.word_at.Tie as tie
 
+add-run-end : tie.Need-add-run-end
+add-run-end c = search needs
+
 run-end-requires : tie.Need-run-end-requires
 run-end-requires c κs = search needs
+
+-- The run's end, whose first byte was not looked at again.
+run-ends : (c : tie.After-run-end) →
+    let start = c .before .before .before in
+    c .run-end .result ≡ start .args .i + length (run (drop (start .args .i) (start .args .text .now)))
+run-ends c =
+    let start = c .before .before .before in
+    let in-run = sym (start .pre .1) ∙ c .before .if1 .taken in
+    let goes = run-goes (start .args .text .now) (start .args .i) (start .pre .0) in-run in
+    omega (arith, c .run-end .ensures, ap length goes)
 
 sub-run-word : tie.Need-sub-run-word
 sub-run-word c = search needs
@@ -25,14 +38,14 @@ part-run-word-end : tie.Need-part-run-word-end
 part-run-word-end c =
     let start = c .before .before .before in
     let fits = run-fits (start .args .text .now) (start .args .i) (omega (arith, start .pre)) in
-    omega (arith, fits, c .run-end .ensures)
+    omega (arith, fits, run-ends c)
 
 run-word-requires : tie.Need-run-word-requires
 run-word-requires c κs =
     let start = c .before .before .before .before in
     let text = start .args .text .now in
     let i = start .args .i in
-    let part = run-part text i (c .before .run-end .result) (c .before .run-end .ensures) in
+    let part = run-part text i (c .before .run-end .result) (run-ends (c .before)) in
     let some = run-some text i (start .pre .0) (sym (start .pre .1) ∙ c .before .before .if1 .taken) in
     omega (arith, ap length part, some)
 
@@ -41,11 +54,11 @@ returns c =
     let start = c .before .before .before .before .before in
     let text = start .args .text .now in
     let i = start .args .i in
-    let part = run-part text i (c .before .before .run-end .result) (c .before .before .run-end .ensures) in
+    let part = run-part text i (c .before .before .run-end .result) (run-ends (c .before .before)) in
     let word = word-run (drop i text) (start .args .c) (c .before .before .before .if1 .taken) in
     let width = width-run (drop i text) (start .args .c) (c .before .before .before .if1 .taken) in (
       c .run-word .ensures ∙ ap runOf part ∙ sym word,
-      c .before .before .run-end .ensures ∙ ap (λ (n : ℕ). i + n) (sym width),
+      run-ends (c .before .before) ∙ ap (λ (n : ℕ). i + n) (sym width),
     )
 
 add-t12 : tie.Need-add-t12
@@ -85,6 +98,7 @@ pub word-at-spec : {M : Type 1} → statement M
 word-at-spec =
     tie.close
     (tie.spec
+    add-run-end
     run-end-requires
     sub-run-word
     part-run-word-start
