@@ -1,8 +1,8 @@
--- The functions on word lists that the limits and the fragment are defined by, one word at a time, as a loop over the
--- positions meets them. Assumes nothing.
+-- The functions on word lists that the limits and the fragment are defined by, one word at a time, and what is known while
+-- a loop passes the words. Assumes nothing.
 use mathlib.Core.Bool.{Bool, true, false, not, _&&_, _||_, cond, or-false}
 use mathlib.Core.Path.{_≡_, refl, sym, ap, _∙_}
-use mathlib.Core.List.{List, [], _∷_}
+use mathlib.Core.List.{List, _∷_}
 use Prim.Native.Nat.{ℕ, suc, _+_, _≤_, _<_}
 use native.Mathlib.Nat.{zero-add}
 use native.Mathlib.Numerals.{add-one}

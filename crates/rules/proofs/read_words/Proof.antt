@@ -1,12 +1,10 @@
 -- `rules::read_words` meets its contract: what the limits, the parser's answer, the fragment and the leads decide is the
 -- outcome. Assumes nothing.
-use mathlib.Core.Bool.{true, false}
-use mathlib.Core.Path.{_≡_, refl, sym, _∙_}
-use Prim.Native.Nat.{_≤_}
+use mathlib.Core.Bool.{false}
+use mathlib.Core.Path.{_≡_, sym, _∙_}
 use native.Mathlib.Omega.{arith}
 use borrow.Author.Needs.{needs}
 use borrow.Author.Tests.{not-true, not-false}
-use lib.ListN.{length}
 use Rattle.grammar.specs.Fragment.{beyond}
 use Rattle.rules.specs.Limits.{over}
 use Rattle.rules.proofs.Passes.{beyond-told}
