@@ -23,17 +23,17 @@ afresh p (b ∷ l) ws h = rw h
 
 -- At the end of a run.
 module _ (b : ℕ) (l ws : List ℕ) where
-  run-past-at : (x : Bool) → eqb (classOf b) RUN ≡ x
+  past-run-at : (x : Bool) → eqb (classOf b) RUN ≡ x
       → words l RUN ws ≡ words (drop (length (run l)) l) SPACE ws
       → words (b ∷ l) RUN ws ≡ words (drop (length (cond x (b ∷ run l) [])) (b ∷ l)) SPACE ws
   unfolding words
-  run-past-at true e h = rw (eqb-true (classOf b) RUN e) h
-  run-past-at false e h = afresh RUN (b ∷ l) ws (simp e)
+  past-run-at true e h = rw (eqb-true (classOf b) RUN e) h
+  past-run-at false e h = afresh RUN (b ∷ l) ws (simp e)
 
-run-past : (l ws : List ℕ) → words l RUN ws ≡ words (drop (length (run l)) l) SPACE ws
+past-run : (l ws : List ℕ) → words l RUN ws ≡ words (drop (length (run l)) l) SPACE ws
 unfolding run words
-run-past [] ws = refl
-run-past (b ∷ l) ws = run-past-at b l ws (eqb (classOf b) RUN) refl (run-past l ws)
+past-run [] ws = refl
+past-run (b ∷ l) ws = past-run-at b l ws (eqb (classOf b) RUN) refl (past-run l ws)
 
 -- After an operator of class c at the byte b.
 module _ (c b : ℕ) (n : c ≡ RUN → ⊥) where
@@ -53,7 +53,7 @@ word-past : (c b : ℕ) (l ws : List ℕ) → c ≡ classOf b → (z : Bool) →
 unfolding run
 word-past c b l ws e true t =
     let is-run = eqb-true c RUN t in
-    rw (is-run, sym e ∙ is-run) (run-past l ws)
+    rw (is-run, sym e ∙ is-run) (past-run l ws)
 word-past c b l ws e false t = operator-past c b (eqb-false c RUN t) l ws _ _ refl refl
 
 -- The same at the byte i of a text.
