@@ -160,7 +160,7 @@ over-stays (l ∷ ls) w e =
     let d : lined w l .world .watch .phase ≡ P.Over = ap (λ (t : Turned). t .world .watch .phase) (over-lined w l e) in
     over-stays ls (lined w l .world) d
 
-is-over : (p : Phase) → isOver p ≡ true → p ≡ P.Over
+pub is-over : (p : Phase) → isOver p ≡ true → p ≡ P.Over
 is-over P.Edition e = absurd (false≢true e)
 is-over P.Parameters e = absurd (false≢true e)
 is-over P.Rule e = absurd (false≢true e)

@@ -10,3 +10,4 @@ pub mod Whole
 pub mod Answers
 pub mod Theorems
 pub mod Sizes
+pub mod Examples

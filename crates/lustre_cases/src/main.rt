@@ -13,48 +13,6 @@ fn say_number(x: usize) {
     io::print_decimal(STDOUT_FILENO, x as u64);
 }
 
-// Whether a begins with the first k numbers of b.
-fn same_numbers(a: &[u32], b: &[u32], k: usize) -> bool {
-    let mut i = 0;
-    while i < k {
-        if a.len() <= i {
-            return false;
-        }
-        if b.len() <= i {
-            return false;
-        }
-        if a[i] != b[i] {
-            return false;
-        }
-        i += 1;
-    }
-    true
-}
-
-// Whether each number from k on is 7, as in a table that nobody has written.
-fn fresh_numbers(a: &[u32], k: usize) -> bool {
-    let mut i = k;
-    while i < a.len() {
-        if a[i] != 7 {
-            return false;
-        }
-        i += 1;
-    }
-    true
-}
-
-// Whether each byte from k on is 33, as in a buffer that nobody has written.
-fn fresh_bytes(a: &[u8], k: usize) -> bool {
-    let mut i = k;
-    while i < a.len() {
-        if a[i] != 33 {
-            return false;
-        }
-        i += 1;
-    }
-    true
-}
-
 fn say_kept(kept: bool) {
     if kept {
         say(b", rest kept\n");
@@ -63,29 +21,57 @@ fn say_kept(kept: bool) {
     }
 }
 
-// Reads the text into a table whose numbers are all 7.
-fn reads_into(name: &[u8], text: &[u8], table: &mut [u32]) {
-    say(name);
-    let loaded = read_lustre(text, table);
+// Says whether each number from k on is 7, as in a table that nobody has written.
+fn say_numbers_from(table: &[u32], k: usize) {
+    let fresh = [7u32; 16384];
+    if table.len() <= 16384 {
+        if k <= table.len() {
+            say_kept(lists::same_numbers(&table[k..], &fresh[k..table.len()]));
+        }
+    }
+}
+
+// Says whether each byte from k on is 33, as in a buffer that nobody has written.
+fn say_bytes_from(buffer: &[u8], k: usize) {
+    let fresh = [33u8; 128];
+    if buffer.len() <= 128 {
+        if k <= buffer.len() {
+            say_kept(check::same(&buffer[k..], &fresh[k..buffer.len()]));
+        }
+    }
+}
+
+// What reading answered, and the table that it left.
+fn say_loaded(loaded: Loaded, table: &[u32]) {
     match loaded {
         Loaded::Equations(n) => {
             say(b": equations=");
             say_number(n);
             if n <= 4096 {
-                say_kept(fresh_numbers(table, 4 * n));
+                say_numbers_from(table, 4 * n);
             }
         },
         Loaded::Refused(r) => {
             say(b": refused=");
             say_number(r as usize);
-            say_kept(fresh_numbers(table, 0));
+            say_numbers_from(table, 0);
         },
     }
 }
 
 fn reads(name: &[u8], text: &[u8]) {
     let mut table = [7u32; 16384];
-    reads_into(name, text, &mut table);
+    say(name);
+    let loaded = read_lustre(text, &mut table);
+    say_loaded(loaded, &table);
+}
+
+// Reads into a table that is one number too short.
+fn reads_short(name: &[u8], text: &[u8]) {
+    let mut table = [7u32; 16383];
+    say(name);
+    let loaded = read_lustre(text, &mut table);
+    say_loaded(loaded, &table);
 }
 
 // Compares what was written with the text, and what it is read back as with the table.
@@ -104,38 +90,56 @@ fn compare(table: &[u32], n: usize, bytes: &[u8], text: &[u8]) {
     say(b", read equations=");
     say_number(m);
     if n <= 4096 {
-        if same_numbers(&back, table, 4 * n) {
-            say(b", numbers the same");
-        } else {
-            say(b", numbers OTHERS");
+        if 4 * n <= table.len() {
+            if lists::same_numbers(&back[..4 * n], &table[..4 * n]) {
+                say(b", numbers the same");
+            } else {
+                say(b", numbers OTHERS");
+            }
         }
     }
 }
 
-// Writes the table to a buffer whose bytes are all 33.
-fn writes_into(name: &[u8], table: &[u32], n: usize, buffer: &mut [u8], text: &[u8]) {
-    say(name);
-    let written = write_lustre(table, n, buffer);
+// What writing answered, and the buffer that it left.
+fn say_written(written: Written, table: &[u32], n: usize, buffer: &[u8], text: &[u8]) {
     match written {
         Written::Length(l) => {
             say(b": length=");
             say_number(l);
             if l <= buffer.len() {
                 compare(table, n, &buffer[..l], text);
-                say_kept(fresh_bytes(buffer, l));
+                say_bytes_from(buffer, l);
             }
         },
         Written::Refused(r) => {
             say(b": refused=");
             say_number(r as usize);
-            say_kept(fresh_bytes(buffer, 0));
+            say_bytes_from(buffer, 0);
         },
     }
 }
 
 fn writes(name: &[u8], table: &[u32], n: usize, text: &[u8]) {
     let mut buffer = [33u8; 128];
-    writes_into(name, table, n, &mut buffer, text);
+    say(name);
+    let written = write_lustre(table, n, &mut buffer);
+    say_written(written, table, n, &buffer, text);
+}
+
+// Writes to a buffer of 19 bytes,
+fn writes_short(name: &[u8], table: &[u32], n: usize, text: &[u8]) {
+    let mut buffer = [33u8; 19];
+    say(name);
+    let written = write_lustre(table, n, &mut buffer);
+    say_written(written, table, n, &buffer, text);
+}
+
+// and to one of 20.
+fn writes_enough(name: &[u8], table: &[u32], n: usize, text: &[u8]) {
+    let mut buffer = [33u8; 20];
+    say(name);
+    let written = write_lustre(table, n, &mut buffer);
+    say_written(written, table, n, &buffer, text);
 }
 
 // Kinds 0 to 2, with both constants.
@@ -239,15 +243,12 @@ fn write_rules() {
 
 // and by 15.
 fn write_room() {
-    let mut short = [33u8; 19];
-    writes_into(b"11 before 15", &[7, 0, 0, 0], 1, &mut short, b"");
-    writes_into(b"one byte short", &[1, 0, 0, 0], 1, &mut short, b"");
-    let mut enough = [33u8; 20];
-    writes_into(
+    writes_short(b"11 before 15", &[7, 0, 0, 0], 1, b"");
+    writes_short(b"one byte short", &[1, 0, 0, 0], 1, b"");
+    writes_enough(
         b"just long enough",
         &[1, 0, 0, 0],
         1,
-        &mut enough,
         b"let\nf0=b;\na=f0;\ntel\n",
     );
 }
@@ -258,9 +259,8 @@ fn read_room() {
         b"eleven",
         b"let\nf0=b;\nf1=b;\nf2=b;\nf3=b;\nf4=b;\nf5=b;\nf6=b;\nf7=b;\nf8=b;\nf9=b;\nf10=not f9;\na=f10;\ntel\n",
     );
-    let mut short = [7u32; 16383];
-    reads_into(b"one number short", b"let\nf0=b;\na=f0;\ntel\n", &mut short);
-    reads_into(b"16 before 9", b"let\nf0=b;\na=f0;\ntel", &mut short);
+    reads_short(b"one number short", b"let\nf0=b;\na=f0;\ntel\n");
+    reads_short(b"16 before 9", b"let\nf0=b;\na=f0;\ntel");
 }
 
 // Texts that no well-formed table writes: a needless 0,

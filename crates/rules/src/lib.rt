@@ -6,7 +6,6 @@ ghost use mathlib.Core.Path.{_≡_};
 ghost use Prim.Native.Nat.{_≤_, _<_};
 ghost use lib.Dec.{eqb};
 ghost use lib.ListN.{length};
-ghost use Rattle.lists.specs.Same.{same};
 ghost use Rattle.grammar.specs.Fragment.{beyond};
 ghost use Rattle.words.specs.Word.{CHOP, EXISTS};
 ghost use Rattle.words.specs.Split.Out.{made};
@@ -189,23 +188,6 @@ pub fn read_rule(text: &[u8]) -> Answer
     Answer::Rule(nodes)
 }
 
-// Whether two slices hold the same numbers.
-fn same_numbers(a: &[u32], b: &[u32]) -> bool
-    ensures { λ r. ⌜ r ≡ same (now (a .entry)) (now (b .entry)) ⌝ }
-{
-    if a.len() != b.len() {
-        return false;
-    }
-    let mut i = 0;
-    while i < a.len() {
-        if a[i] != b[i] {
-            return false;
-        }
-        i += 1;
-    }
-    true
-}
-
 // Same rule, two texts: refusals 1 to 8 of the first, then of the second; otherwise yes exactly if both read to one tree.
 pub fn same_rule(first: &[u8], second: &[u8]) -> Same
     ensures { λ r. ⌜ Compared (ruleOf (now (first .entry))) (ruleOf (now (second .entry))) r ⌝ }
@@ -220,7 +202,7 @@ pub fn same_rule(first: &[u8], second: &[u8]) -> Same
     let Records::Rule(m, _) = others else {
         return Same::Refused(records_refusal(others));
     };
-    if same_numbers(&arena[..n], &other[..m]) {
+    if lists::same_numbers(&arena[..n], &other[..m]) {
         return Same::Yes;
     }
     Same::No

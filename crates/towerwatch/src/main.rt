@@ -1,19 +1,51 @@
 // The program `towerwatch`: reads a card from standard input and prints what it says, piece by piece and in constant
 // memory (document 01, "towerwatch"). All but the reads and the writes is in `cards`, where it is proved that what is
-// printed does not depend on the pieces that a card comes in.
+// printed does not depend on the pieces that a card comes in. Here `once` promises that what it hands to the write is
+// what its piece prints, and `run` that all of it together is what a card prints (specs/Run.antt).
 use cards::Watch;
 use libc::STDIN_FILENO;
 use libc::STDOUT_FILENO;
+ghost use mathlib.Core.Bool.{cond};
+ghost use mathlib.Core.List.{List};
 ghost use mathlib.Core.Path.{_≡_};
-ghost use Prim.Native.Nat.{_+_, _≤_};
+ghost use Prim.Native.Nat.{ℕ, _+_, _≤_, _<_};
 ghost use lib.ListN.{length, take};
+ghost use Rattle.cards.specs.Card.{World, worldOf, start};
 ghost use Rattle.cards.specs.Feed.{Ready};
+ghost use Rattle.towerwatch.specs.Run.{isReading, Once, Whole};
 
-// Where the program stands between two reads: `to` bytes are left over.
+// How the program stands after a turn.
+enum Stand {
+    // It reads on.
+    Reading,
+    // The input is over.
+    Ended,
+    // The card is over: nothing more is printed, whatever comes.
+    Over,
+    // A write failed.
+    Stuck,
+}
+
+// What a turn leaves: `to` bytes are left over. In it `got` bytes came in, and `shown` were handed to the write.
 struct Next {
     watch: Watch,
     to: usize,
-    more: bool,
+    got: usize,
+    shown: usize,
+    stand: Stand,
+}
+
+// A whole run: so many bytes came in, and so many were handed to the write.
+struct Total {
+    got: u64,
+    shown: u64,
+    stand: Stand,
+}
+
+// A write: so many bytes were handed over, and whether all were taken.
+struct Shown {
+    count: usize,
+    done: bool,
 }
 
 // The one read: reads on after the first `to` bytes, which stay. Answers how many bytes came, 0 at the end of the
@@ -26,11 +58,98 @@ fn fill(buf: &mut [u8], to: usize) -> usize
     io::count(libc::read(STDIN_FILENO, &mut buf[to..]), &buf[to..])
 }
 
-// The one write: the first n bytes, in as many calls as it takes.
-fn show(out: &[u8], n: usize)
+// The one write: hands over the first n bytes, in as many calls as it takes.
+fn show(out: &[u8], n: usize) -> Shown
     requires { ⌜ n ≤ length (now out) ⌝ }
+    ensures { λ r. ⌜ r .count ≡ n ⌝ }
 {
-    io::write_all(STDOUT_FILENO, &out[..n]);
+    let done = io::write_all(STDOUT_FILENO, &out[..n]);
+    Shown { count: n, done }
+}
+
+// After the last write.
+fn ended(done: bool) -> Stand
+    ensures { λ r. ⌜ r ≡ cond done Stand.Ended Stand.Stuck ⌝ }
+{
+    if done { Stand::Ended } else { Stand::Stuck }
+}
+
+// After another one.
+fn going(done: bool, over: bool) -> Stand
+    ensures { λ r. ⌜ r ≡ cond done (cond over Stand.Over Stand.Reading) Stand.Stuck ⌝ }
+{
+    if done {
+        if over {
+            return Stand::Over;
+        }
+        return Stand::Reading;
+    }
+    Stand::Stuck
+}
+
+fn reads_on(stand: Stand) -> bool
+    ensures { λ r. ⌜ r ≡ isReading stand ⌝ }
+{
+    match stand {
+        Stand::Reading => true,
+        Stand::Ended => false,
+        Stand::Over => false,
+        Stand::Stuck => false,
+    }
+}
+
+// The end of the input, with the first `to` bytes of buf left over: what they print, whatever the lent arrays hold.
+fn end(watch: Watch, buf: &[u8], to: usize, out: &mut [u8]) -> Next
+    requires { ⌜ Ready (now buf) to (now out) ⌝ }
+    ensures { λ r. ⌜ (r .to ≡ 0) × ((ps t c v : List ℕ) (w : World) (s : List ℕ) →
+        Once (worldOf watch ps t c v) (take to (now (buf .entry))) r w s (now (out .exit))) ⌝ }
+{
+    let at = cards::finish(watch, buf, to, out);
+    let last = show(out, at);
+    let stand = ended(last.done);
+    Next {
+        watch: watch,
+        to: 0,
+        got: 0,
+        shown: last.count,
+        stand: stand,
+    }
+}
+
+// A piece of `got` bytes, after the first `to` bytes of buf, which were left over: what it prints.
+fn piece(
+    watch: Watch,
+    buf: &mut [u8],
+    to: usize,
+    got: usize,
+    parameters: &mut [u32; 8],
+    table: &mut [u32],
+    state: &mut [u32],
+    values: &mut [u32],
+    out: &mut [u8],
+) -> Next
+    requires { ⌜ Ready (now buf) to (now out) × (to + got ≤ length (now buf)) × (0 < got) ⌝ }
+    ensures { λ r. ⌜ Ready (now (buf .exit)) (r .to) (now (out .exit)) ⌝ }
+    ensures { λ r. ⌜ Once
+        (worldOf watch (now (parameters .entry)) (now (table .entry)) (now (state .entry)) (now (values .entry)))
+        (take to (now (buf .entry))) r
+        (worldOf (r .watch) (now (parameters .exit)) (now (table .exit)) (now (state .exit)) (now (values .exit)))
+        (take (r .to) (now (buf .exit))) (now (out .exit)) ⌝ }
+{
+    let f = cards::run_turn(watch, buf, to + got, parameters, table, state, values, out);
+    let written = f.written;
+    let next = f.watch;
+    let kept = f.used;
+    let shown = show(out, written);
+    let over = cards::is_over(next);
+    let stand = going(shown.done, over);
+    Next {
+        watch: next,
+        to: kept,
+        got: got,
+        shown: shown.count,
+        stand: stand,
+    }
 }
 
 // One read, and what it prints.
@@ -46,31 +165,20 @@ fn once(
 ) -> Next
     requires { ⌜ Ready (now buf) to (now out) ⌝ }
     ensures { λ r. ⌜ Ready (now (buf .exit)) (r .to) (now (out .exit)) ⌝ }
+    ensures { λ r. ⌜ Once
+        (worldOf watch (now (parameters .entry)) (now (table .entry)) (now (state .entry)) (now (values .entry)))
+        (take to (now (buf .entry))) r
+        (worldOf (r .watch) (now (parameters .exit)) (now (table .exit)) (now (state .exit)) (now (values .exit)))
+        (take (r .to) (now (buf .exit))) (now (out .exit)) ⌝ }
 {
     let got = fill(buf, to);
     if got == 0 {
-        let at = cards::finish(watch, buf, to, out);
-        show(out, at);
-        return Next {
-            watch: watch,
-            to: 0,
-            more: false,
-        };
+        return end(watch, buf, to, out);
     }
-    let f = cards::run_turn(watch, buf, to + got, parameters, table, state, values, out);
-    let written = f.written;
-    let next = f.watch;
-    let kept = f.used;
-    show(out, written);
-    Next {
-        watch: next,
-        to: kept,
-        more: cards::is_over(next) == false,
-    }
+    piece(watch, buf, to, got, parameters, table, state, values, out)
 }
 
-// Reads until the input ends or the card is over. The counter is there so that the loop is seen to end: it would take
-// 2 to the power of 64 reads.
+// Reads until the input ends, the card is over or a write fails.
 fn run(
     buf: &mut [u8],
     parameters: &mut [u32; 8],
@@ -78,17 +186,22 @@ fn run(
     state: &mut [u32],
     values: &mut [u32],
     out: &mut [u8],
-)
-    requires { ⌜ Ready (now buf) 0 (now out) ⌝ }
+) -> Total
+    requires { ⌜ Ready (now buf) 0 (now out) × (length (now out) ≡ 65536) ⌝ }
+    requires { ⌜ worldOf (start .watch) (now parameters) (now table) (now state) (now values) ≡ start ⌝ }
+    ensures { λ r. ⌜ Whole r ⌝ }
 {
     let mut watch = cards::begin();
     let mut to = 0;
-    let mut turns = u64::MAX;
-    while 0 < turns {
-        turns -= 1;
+    let mut got = 0u64;
+    let mut shown = 0u64;
+    loop {
         let n = once(watch, buf, to, parameters, table, state, values, out);
-        if !n.more {
-            return;
+        got += n.got as u64;
+        shown += n.shown as u64;
+        let stand = n.stand;
+        if !reads_on(stand) {
+            return Total { got, shown, stand };
         }
         let next = n.watch;
         watch = next;

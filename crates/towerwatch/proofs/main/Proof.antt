@@ -1,4 +1,5 @@
--- `towerwatch::main` meets its contract. Assumes nothing.
+-- `towerwatch::main` meets its contract: the run begins with arrays of 0. Assumes nothing.
+use mathlib.Core.Path.{refl}
 use borrow.Author.Needs.{needs}
 use native.Mathlib.Omega.{arith}
 use Rattle.cards.proofs.Resuming.{short-none}
@@ -6,7 +7,8 @@ use Rattle.towerwatch.proofs.main.Statement.{statement}
 use Rattle.towerwatch.proofs.main.Tie as tie
 
 run-requires : tie.Need-run-requires
-run-requires c κs = record { short = short-none; within = omega arith; size = search needs; room = search needs }
+run-requires c κs =
+    ((record { short = short-none; within = omega arith; size = search needs; room = search needs }, search needs), refl)
 
 pub main-spec : {M : Type 1} → statement M
 main-spec =

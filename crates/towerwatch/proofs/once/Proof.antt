@@ -1,63 +1,55 @@
--- `towerwatch::once` meets its contract: after a read and its turn the buffers are ready for the next. Assumes
--- nothing.
-use mathlib.Core.Path.{_≡_, _∙_}
-use borrow.Author.Needs.{needs}
+-- `towerwatch::once` meets its contract: a read keeps what was left over, so the turn is one from there. Assumes nothing.
+use mathlib.Core.Path.{sym}
 use native.Mathlib.Omega.{arith}
-use lib.ListN.{length}
-use Rattle.cards.proofs.Resuming.{short-none, short-eq}
+use borrow.Author.Needs.{needs}
+use Rattle.towerwatch.proofs.Turning.{ready-read, ready-none}
 use Rattle.towerwatch.proofs.once.Statement.{statement}
 use Rattle.towerwatch.proofs.once.Tie as tie
 
-finish-requires : tie.Need-finish-requires
-finish-requires c κs =
+-- The buffers after the read.
+end-requires : tie.Need-end-requires
+end-requires c κs =
     let read = c .before .before .before .before .before in
     let pre = read .before .before .before .before .before .before .before .pre in
-    (omega (arith, pre .within), (short-eq (read .fill .ensures .0) (pre .short), omega (arith, pre .room)))
+    ready-read pre (read .fill .ensures .0) (read .fill .kept .0)
+
+piece-requires : tie.Need-piece-requires
+piece-requires c κs =
+    let read = c .before .before .before .before .before .before .before .before .before in
+    let pre = read .before .before .before .before .before .before .before .pre in
+    let b = read .fill .kept .0 in (
+      ready-read pre (read .fill .ensures .0) b,
+      omega (arith, b, read .fill .ensures .1),
+      omega (arith, c .before .before .before .before .before .before .if1 .left),
+    )
 
 -- The input is over.
 returns : tie.Need-returns
 returns c =
-    let read = c .before .before .before .before .before .before .before .before .before .before in
-    let pre = read .before .before .before .before .before .before .before .pre in
-    record {
-      short = short-none;
-      within = omega arith;
-      size = omega (arith, pre .size);
-      room = omega (arith, pre .room);
-    }
+    let end = c .before .before .end in
+    let read = c .before .before .before .before .before .before .before .before in
+    let entry = read .before .before .before .before .before .before .before in (
+      ready-none (entry .pre) (end .ensures .0) (read .fill .kept .0) (end .kept .1 .1 .1 .0),
+      rw (sym (read .fill .ensures .0)) (end .ensures .1 _ _ _ _ _ _),
+    )
 
--- The turn left the start of a line, and no buffer changed its length.
+-- A piece came in.
 returns-2 : tie.Need-returns-2
 returns-2 c =
-    let shown = c .before .before .before .before .before .before .before in
-    let ran = shown .before .before .before .before .before .before .before in
-    let turn = ran .run-turn in
-    let read = ran .before .before .before .before .before .before .before .before .before .before in
-    let entry = read .before .before .before .before .before .before .before in
-    let b : length (turn .last .1 .0) ≡ length (entry .args .buf .now) = turn .kept .1 .0 ∙ read .fill .kept .0 in
-    let outs = turn .kept .1 .1 .1 .1 .1 .1 .1 .0 in
-    let o : length (turn .last .1 .1 .1 .1 .1 .1 .1 .0) ≡ length (entry .args .out .now) = outs in
-    record {
-      short = turn .ensures .short;
-      within = omega (arith, b, turn .ensures .within, read .fill .ensures .1);
-      size = omega (arith, b, entry .pre .size);
-      room = omega (arith, b, o, entry .pre .room);
-    }
+    let piece = c .before .before .before .before .before .before .before .before .before .before .piece in
+    let read = c .before .before .before .before .before .before .before .before .before .before .before .before .before .before .before .before .before .before .before .before in
+    (piece .ensures .0, rw (sym (read .fill .ensures .0)) (piece .ensures .1))
 
 pub once-spec : {M : Type 1} → statement M
 once-spec =
     tie.close
     (tie.spec
     (λ c κs. search needs)
-    finish-requires
-    (λ c κs. search needs)
+    end-requires
     (λ c. search needs)
     (λ c. search needs)
     returns
-    (λ c. search needs)
-    (λ c κs. search needs)
-    (λ c κs. search needs)
-    (λ c κs. search needs)
+    piece-requires
     (λ c. search needs)
     (λ c. search needs)
     (λ c. search needs)

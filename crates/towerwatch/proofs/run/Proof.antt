@@ -1,42 +1,94 @@
--- `towerwatch::run` meets its contract: each turn leaves the buffers ready for the next. Assumes nothing.
-use mathlib.Core.Path.{_≡_, refl, _∙_}
+-- `towerwatch::run` meets its contract: the turns so far have come from the start to where the program stands, and each
+-- turn leaves fewer bytes to come. Assumes nothing.
+use mathlib.Core.Path.{_≡_, refl, _∙_, sym, subst}
+use native.Mathlib.Omega.{arith}
 use borrow.Author.Needs.{needs}
-use lib.ListN.{length}
+use borrow.Author.Tests.{not-true, not-false}
+use lib.ListN.{length, take}
+use Rattle.cards.specs.Card.{World, worldOf}
 use Rattle.cards.specs.Feed.{Ready}
+use Rattle.towerwatch.proofs.Turning.{budget, Reached, reached-start, reached-on, fewer, ends-whole}
 use Rattle.towerwatch.proofs.run.Statement.{statement}
 use Rattle.towerwatch.proofs.run.Tie as tie
 
 abbrev Inv-loop : tie.InvT-loop
-Inv-loop buf₀ ps₀ table₀ state₀ values₀ out₀ watch₀ to₀ turns₀ buf ps table state values out watch to turns =
+Inv-loop buf₀ ps₀ table₀ state₀ values₀ out₀ watch₀ to₀ got₀ shown₀ buf ps table state values out watch to got shown =
     Ready buf to out
-    × (length buf ≡ length buf₀)
+    × Reached (worldOf watch ps table state values) (take to buf) got shown
+    × ((length buf ≡ length buf₀)
     × (length out ≡ length out₀)
     × (length table ≡ length table₀)
     × (length state ≡ length state₀)
-    × (length values ≡ length values₀)
+    × (length values ≡ length values₀))
 
 abbrev μ-loop : tie.MeasureT-loop
-μ-loop buf₀ ps₀ table₀ state₀ values₀ out₀ watch₀ to₀ turns₀ buf ps table state values out watch to turns = turns
+μ-loop buf₀ ps₀ table₀ state₀ values₀ out₀ watch₀ to₀ got₀ shown₀ buf ps table state values out watch to got shown =
+    budget watch (length (take to buf))
 
 loop-holds : tie.Need-loop-holds Inv-loop μ-loop
-loop-holds c = (c .before .before .before .before .before .before .pre, refl, refl, refl, refl, refl)
+loop-holds c =
+    let pre = c .before .before .before .before .before .before .pre in
+    (pre .0 .0, rw (c .begin .ensures, pre .1) reached-start, (refl, refl, refl, refl, refl))
 
 once-requires : tie.Need-once-requires Inv-loop μ-loop
-once-requires c κs = c .before .before .before .before .before .before .before .loop .inv .0
+once-requires c κs = c .before .before .before .before .before .before .loop .inv .0
+
+-- No buffer changes its length.
+lengths : (c : tie.After-once Inv-loop μ-loop) →
+    let last = c .once .last .1 in
+    let args = c .before .before .before .before .before .before .before .before .before .before .before .before .before .before .args in
+    (length (last .0) ≡ length (args .buf .now))
+    × (length (last .1 .1 .1 .1 .1 .1 .0) ≡ length (args .out .now))
+    × (length (last .1 .1 .1 .0) ≡ length (args .table .now))
+    × (length (last .1 .1 .1 .1 .0) ≡ length (args .state .now))
+    × (length (last .1 .1 .1 .1 .1 .0) ≡ length (args .values .now))
+lengths c =
+    let kept = c .once .kept .1 in
+    let inv = c .before .before .before .before .before .before .before .loop .inv .2 in (
+      kept .0 ∙ inv .0,
+      kept .1 .1 .1 .1 .1 .1 .0 ∙ inv .1,
+      kept .1 .1 .1 .0 ∙ inv .2,
+      kept .1 .1 .1 .1 .0 ∙ inv .3,
+      kept .1 .1 .1 .1 .1 .0 ∙ inv .4,
+    )
+
+-- What comes in and what is handed over stays far below 2 to the power of 64.
+room : (c : tie.After-once Inv-loop μ-loop) → length (c .once .last .1 .1 .1 .1 .1 .1 .1 .0) ≡ 65536
+room c = lengths c .1 ∙ c .before .before .before .before .before .before .before .before .before .before .before .before .before .before .pre .0 .1
+
+add-got : tie.Need-add-got Inv-loop μ-loop
+add-got c =
+    let turn = c .before .before .before .before .before .before .before .before .before .before in
+    let reached = turn .before .before .before .before .before .before .before .loop .inv .1 in
+    omega (arith, reached .read, turn .once .ensures .1 .room, room turn)
+
+add-shown : tie.Need-add-shown Inv-loop μ-loop
+add-shown c =
+    let turn = c .before .before .before .before .before .before .before .before .before .before in
+    let reached = turn .before .before .before .before .before .before .before .loop .inv .1 in
+    omega (arith, reached .written, turn .once .ensures .1 .shown, room turn)
+
+returns : tie.Need-returns Inv-loop μ-loop
+returns c =
+    let turn = c .before .before .before .before .before .before .before .before .before .before .before .before in
+    let reached = turn .before .before .before .before .before .before .before .loop .inv .1 in
+    ends-whole reached _ (turn .once .ensures .1) (sym (c .before .reads-on .ensures) ∙ not-true _ (c .if1 .taken)) _ refl refl refl
+
+loop-less : tie.Need-loop-less Inv-loop μ-loop
+loop-less c =
+    let turn = c .before .before .before .before .before .before .before .before .before .before .before .before .before in
+    let reached = turn .before .before .before .before .before .before .before .loop .inv .1 in
+    let once = turn .once .ensures in
+    let on = sym (c .before .before .reads-on .ensures) ∙ not-false _ (c .before .if1 .left) in
+    omega (arith, fewer reached _ (once .1) on (once .0 .short .below), once .1 .more on)
 
 loop-again : tie.Need-loop-again Inv-loop μ-loop
 loop-again c =
-    let more = c .before .before .before .before .before .before in
-    let turn = more .before .before .before .before .before .before .before in
-    let inv = turn .before .before .before .before .before .before .before .before .loop .inv in
-    let kept = turn .once .kept .1 in (
-      turn .once .ensures,
-      kept .0 ∙ inv .1,
-      kept .1 .1 .1 .1 .1 .1 .0 ∙ inv .2,
-      kept .1 .1 .1 .0 ∙ inv .3,
-      kept .1 .1 .1 .1 .0 ∙ inv .4,
-      kept .1 .1 .1 .1 .1 .0 ∙ inv .5,
-    )
+    let turn = c .before .before .before .before .before .before .before .before .before .before .before .before .before in
+    let inv = turn .before .before .before .before .before .before .before .loop .inv in
+    let once = turn .once .ensures in
+    let on = sym (c .before .before .reads-on .ensures) ∙ not-false _ (c .before .if1 .left) in
+    (once .0, reached-on (inv .1) _ (once .1) on (once .0 .short .below) (room turn), lengths turn)
 
 pub run-spec : {M : Type 1} → statement M
 run-spec =
@@ -46,19 +98,15 @@ run-spec =
     μ-loop
     (λ c κs. search needs)
     loop-holds
-    (λ c. search needs)
     once-requires
-    (λ c. search needs)
-    (λ c. search needs)
-    (λ c. search needs)
-    (λ c. search needs)
-    (λ c. search needs)
-    (λ c. search needs)
-    (λ c. search needs)
-    loop-again
-    (λ c. search needs)
-    (λ c. search needs)
-    (λ c. search needs)
-    (λ c. search needs)
-    (λ c. search needs)
-    (λ c. search needs))
+    add-got
+    add-shown
+    (λ c κs. search needs)
+    (λ c. lengths (c .before .before .before .before .before .before .before .before .before .before .before .before) .0)
+    (λ c. lengths (c .before .before .before .before .before .before .before .before .before .before .before .before) .2)
+    (λ c. lengths (c .before .before .before .before .before .before .before .before .before .before .before .before) .3)
+    (λ c. lengths (c .before .before .before .before .before .before .before .before .before .before .before .before) .4)
+    (λ c. lengths (c .before .before .before .before .before .before .before .before .before .before .before .before) .1)
+    returns
+    loop-less
+    loop-again)

@@ -1,4 +1,4 @@
--- `rules::same_numbers` meets its contract. The loop's invariant: the whole slices are the same exactly if what is left
+-- `lists::same_numbers` meets its contract. The loop's invariant: the whole slices are the same exactly if what is left
 -- of them is. Assumes nothing.
 use mathlib.Core.Path.{_≡_, sym, _∙_, refl}
 use Prim.Native.Nat.{_-_, _≤_}
@@ -6,10 +6,10 @@ use native.Mathlib.Omega.{arith}
 use borrow.Author.Needs.{needs}
 use borrow.Author.Tests.{eq-eqb, ne-eqb}
 use lib.ListN.{length, drop}
 use Rattle.lists.specs.Same.{same}
 use Rattle.lists.proofs.Same.{same-not, same-step, same-done}
-use Rattle.rules.proofs.same_numbers.Statement.{statement}
-use Rattle.rules.proofs.same_numbers.Tie as tie
+use Rattle.lists.proofs.same_numbers.Statement.{statement}
+use Rattle.lists.proofs.same_numbers.Tie as tie
 
 abbrev Inv-loop : tie.InvT-loop
 Inv-loop a b i₀ i = (i ≤ length a) × (same a b ≡ same (drop i a) (drop i b))

@@ -1,0 +1,51 @@
+-- The examples of document 01's table of kinds, column "text after `fN=`", and a whole text: the definitions write what
+-- document 01 has. Assumes nothing.
+use mathlib.Core.List.{List, [], _∷_}
+use mathlib.Core.Path.{_≡_, refl}
+use Prim.Native.Nat.{ℕ}
+use Rattle.lists.specs.Text.{bytes}
+use Rattle.tables.specs.Table.{kindOf}
+use Rattle.lustre.specs.Decimal.{digits, decimal}
+use Rattle.lustre.specs.Text.{valueText, lineEnd, lineText, lines, foot, textOf}
+
+-- What follows `fN=` for an equation of these four numbers.
+abbrev after : ℕ → ℕ → ℕ → ℕ → List ℕ
+after k a b c = valueText (kindOf k) (record { kind = k; a = a; b = b; c = c })
+
+-- Each row of the table.
+record Column : Type 0 where
+  kind0 : after 0 5 0 0 ≡ bytes "s5"
+  kind1 : after 1 0 0 0 ≡ bytes "b"
+  kind2 : after 2 1 0 0 ≡ bytes "true"
+  kind3 : after 3 1 0 0 ≡ bytes "not f1"
+  kind4 : after 4 1 2 0 ≡ bytes "f1 and f2"
+  kind5 : after 5 1 2 0 ≡ bytes "f1 or f2"
+  kind6 : after 6 5 0 0 ≡ bytes "false->pre(f5)"
+  kind7 : after 7 6 0 0 ≡ bytes "0->pre(f6)"
+  kind8 : after 8 7 6 0 ≡ bytes "cap(f7,f6)"
+  kind9 : after 9 3 7 0 ≡ bytes "if f3 then f7 else 0"
+  kind10 : after 10 9 0 12 ≡ bytes "f9<=12"
+  kind11 : after 11 9 0 3 ≡ bytes "f9<=k3"
+
+column : Column
+unfolding valueText kindOf digits decimal
+column =
+    record {
+      kind0 = refl;
+      kind1 = refl;
+      kind2 = refl;
+      kind3 = refl;
+      kind4 = refl;
+      kind5 = refl;
+      kind6 = refl;
+      kind7 = refl;
+      kind8 = refl;
+      kind9 = refl;
+      kind10 = refl;
+      kind11 = refl;
+    }
+
+-- "the line `let`, a line per equation as `f0=b;`, then `a=fN;` with the last N, then `tel`"
+whole : textOf (1 ∷ 0 ∷ 0 ∷ 0 ∷ 3 ∷ 0 ∷ 0 ∷ 0 ∷ []) 2 ≡ bytes "let\nf0=b;\nf1=not f0;\na=f1;\ntel\n"
+unfolding textOf lines lineText lineEnd foot valueText kindOf digits decimal
+whole = refl

@@ -1,0 +1,2 @@
+-- What the program's turns and its whole run promise.
+pub mod Run
