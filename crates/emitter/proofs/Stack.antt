@@ -1,4 +1,4 @@
--- The first numbers of an array as a stack, and one record entered. Assumes nothing.
+-- The first numbers of an array as a stack, one node added and one record entered. Assumes nothing.
 use mathlib.Core.List.{List, _∷_}
 use mathlib.Core.Path.{_≡_, refl, sym, ap, _∙_}
 use Prim.Native.Nat.{ℕ, zero, suc, _+_, _-_, _≤_, _<_}
@@ -8,13 +8,10 @@ use native.Mathlib.Omega.{arith}
 use lib.ListN.{getD, set, drop, length}
 use lib.Seq.{getD-set-same, getD-set-other}
 use Rattle.agreement.specs.Scheme.{_⊕_, fill}
-use Rattle.emitter.specs.Machine.{widest, written, before, stacked, nodeOf, first, count, takes, result}
-use Rattle.emitter.specs.Machine.{idleOf, valuesAt, applied, step}
-use Rattle.emitter.specs.Contract.{Pushed, Stepped}
-use Rattle.emitter.specs.declared.Node.{Node}
+use Rattle.emitter.specs.Machine.{widest, written, Node, node, nodeOf, before, stacked, valuesAt, applied, step}
+use Rattle.emitter.specs.Contract.{Pushed, Added, Stepped}
 use Rattle.emitter.specs.declared.Place.{Place}
 use Rattle.emitter.specs.declared.Record.{Record}
-use Rattle.emitter.proofs.Nodes.{count-few}
 
 pub before-is : (n : ℕ) → (n ≡ 0 → ⊥) → n - 1 ≡ before n
 before-is zero h = absurd (h refl)
@@ -73,15 +70,21 @@ pub pushed : {stack : List ℕ} {h t v : ℕ} {stack′ : List ℕ} {low : ℕ} 
 pushed {stack} {h} {t} {v} {stack′} {low} e l s =
     record { holds = rw (s, l) (stacked-next stack h t v e); low = omega arith }
 
--- ---- one record: what the calls of `enter` gave
+-- ---- one node: what the calls of `add_node` gave
 
+pub added : {vs t stack : List ℕ} {m : Place} {first count takes result idle : ℕ} {t′ stack′ : List ℕ} {v n h : ℕ}
+    → count ≤ widest → t′ ≡ written t (m .next) (fill vs first count) → v ≡ getD vs result 0 → n ≡ getD vs idle 0
+    → Pushed stack (m .height) takes v stack′ h
+    → Added (node first count takes result idle) vs t stack m t′ stack′
+    (record { next = m .next + count; idle = n; height = h })
+unfolding applied
+added {m = m} {count = count} few e-t e-v e-n e-h =
+    record { stands = cc (⊕-add (m .next) count, e-h .holds); near = omega arith; low = e-h .low }
+
+-- One record, whose node was added.
 pub entered : {places : List ℕ} {x : Record} {t stack : List ℕ} {m : Place} {d : Node} {vs t′ stack′ : List ℕ}
-    {v idle h : ℕ} → d ≡ nodeOf (x .kind)
-    → vs ≡ valuesAt places (m .next) (m .idle) (stacked stack (m .height)) x
-    → t′ ≡ written t (m .next) (fill vs (first d) (count d))
-    → v ≡ getD vs (result d) 0 → idle ≡ getD vs (idleOf d) 0 → Pushed stack (m .height) (takes d) v stack′ h
-    → Stepped places x t stack m t′ stack′ (record { next = m .next + count d; idle = idle; height = h })
-unfolding step applied
-entered {x = x} {m = m} {d = d} e-d e-vs e-t e-v e-idle e-h =
-    let few : count d ≤ widest = rw e-d (count-few (x .kind)) in
-    record { stands = cc (⊕-add (m .next) (count d), e-h .holds); near = omega arith; low = e-h .low }
+    {m′ : Place} → nodeOf (x .kind) ≡ d
+    → vs ≡ valuesAt places (m .next) (m .idle) (stacked stack (m .height)) x → Added d vs t stack m t′ stack′ m′
+    → Stepped places x t stack m t′ stack′ m′
+unfolding step
+entered e-d e-vs h = record { stands = cc (e-d, e-vs, h .stands); near = h .near; low = h .low }

@@ -96,6 +96,12 @@ filling-one {t₀} {o} {vs} {f} {n} {t} {t′} {i} g h e long =
           ∙ g .left);
     }
 
+pub filling-first : {t : List ℕ} {o : ℕ} {vs : List ℕ} {f n : ℕ} {t′ : List ℕ} → 0 < n
+    → t′ ≡ written t o (resolved vs (rowAt f) ∷ []) → length t′ ≡ length t → Filling t o vs f n t′ 1
+filling-first {t} {o} {vs} {f} {n} {t′} h e long =
+    let at : t′ ≡ written t (o + 0) (resolved vs (rowAt (f + 0)) ∷ []) = e ∙ rw (add-zero, add-zero) in
+    filling-one filling-none h at long
+
 pub filling-all : {t₀ : List ℕ} {o : ℕ} {vs : List ℕ} {f n : ℕ} {t : List ℕ} {i : ℕ} → Filling t₀ o vs f n t i
     → n ≤ i → t ≡ written t₀ o (fill vs f n)
 filling-all {o = o} {n = n} {t = t} {i = i} g h =

@@ -9,7 +9,7 @@ use Rattle.formulas.specs.Arena.{flat}
 use Rattle.formulas.specs.Raw.{raw}
 use Rattle.tables.specs.Table.{equationLimit, signalCount}
 use Rattle.agreement.specs.Emit.{observer, numbersOf}
-use Rattle.emitter.specs.Machine.{State, state, step, ran, stacked, widest, headerOf, headed}
+use Rattle.emitter.specs.Machine.{State, state, Node, applied, step, ran, stacked, widest, headerOf, headed}
 use Rattle.emitter.specs.declared.Place.{Place}
 use Rattle.emitter.specs.declared.Record.{Record}
 
@@ -36,6 +36,12 @@ stateOf t stack m = state t (m .next) (m .idle) (stacked stack (m .height))
 pub record Pushed (stack : List ℕ) (height takes v : ℕ) (stack′ : List ℕ) (height′ : ℕ) : Type 0 where
   pub holds : stacked stack′ height′ ≡ v ∷ drop takes (stacked stack height)
   pub low : height′ ≤ height + 1
+
+-- The node d was added, with its values.
+pub record Added (d : Node) (vs t stack : List ℕ) (m : Place) (t′ stack′ : List ℕ) (m′ : Place) : Type 0 where
+  pub stands : stateOf t′ stack′ m′ ≡ applied d vs (stateOf t stack m)
+  pub near : m′ .next ≤ m .next + widest
+  pub low : m′ .height ≤ m .height + 1
 
 -- One record was entered.
 pub record Stepped (places : List ℕ) (x : Record) (t stack : List ℕ) (m : Place) (t′ stack′ : List ℕ) (m′ : Place)

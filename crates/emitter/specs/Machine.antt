@@ -16,7 +16,6 @@ use Rattle.agreement.specs.Scheme.{_⊕_, equation, rowAt, fill, values}
 use Rattle.agreement.specs.Scheme.{N, P, Q, SIGNAL, O, O1, O3, O4}
 use Rattle.agreement.specs.Emit.{numbersOf}
 use Rattle.emitter.specs.declared.Row.{Row}
-use Rattle.emitter.specs.declared.Node.{Node}
 use Rattle.emitter.specs.declared.Record.{Record}
 
 -- ---- the constants
@@ -45,7 +44,7 @@ written t o es = sets t (4 * o) (numbersOf es)
 
 -- ---- the tables
 
--- Row i of the scheme, as the code's table EQUATIONS has it.
+-- Row i of the scheme, as the code's `row_of` gives it.
 abbrev pub asRow : Equation → Row
 asRow e = record { 0 = e .kind; 1 = e .a; 2 = e .b; 3 = e .c }
 
@@ -54,23 +53,16 @@ rowOf i = asRow (rowAt i)
 
 -- What a record of some kind adds: the first of its rows and how many they are, how many operands it takes off the
 -- stack, which value it puts there, and which value is the negated start flow from here on.
+pub record Node : Type 0 where
+  pub first : ℕ
+  pub count : ℕ
+  pub takes : ℕ
+  pub result : ℕ
+  pub idle : ℕ
+
 abbrev pub node : ℕ → ℕ → ℕ → ℕ → ℕ → Node
-node first count takes result idle = record { 0 = first; 1 = count; 2 = takes; 3 = result; 4 = idle }
-
-abbrev pub first : Node → ℕ
-first d = d .0
-
-abbrev pub count : Node → ℕ
-count d = d .1
-
-abbrev pub takes : Node → ℕ
-takes d = d .2
-
-abbrev pub result : Node → ℕ
-result d = d .3
-
-abbrev pub idleOf : Node → ℕ
-idleOf d = d .4
+node first count takes result idle =
+    record { first = first; count = count; takes = takes; result = result; idle = idle }
 
 -- In the order of the kinds of records. The end of a lead is the start of the second part: the present start waits on
 -- the stack until `then` takes it back.
@@ -134,8 +126,8 @@ valuesAt places o n st r =
 -- What a node leaves, with its values.
 unfoldable pub applied : Node → List ℕ → State → State
 applied d vs s =
-    state (written (s .table) (s .next) (fill vs (first d) (count d))) (s .next ⊕ count d) (getD vs (idleOf d) 0)
-    (getD vs (result d) 0 ∷ drop (takes d) (s .stack))
+    state (written (s .table) (s .next) (fill vs (d .first) (d .count))) (s .next ⊕ d .count) (getD vs (d .idle) 0)
+    (getD vs (d .result) 0 ∷ drop (d .takes) (s .stack))
 
 unfoldable pub step : List ℕ → Record → State → State
 step places r s = applied (nodeOf (r .kind)) (valuesAt places (s .next) (s .idle) (s .stack) r) s

@@ -1,6 +1,6 @@
 // The observer of a rule (document 01, "Compile a text"): one pass over the records of the rule's tree, operands
-// first, as a stack machine. A record's kind picks a node of NODES, the node names rows of EQUATIONS, and every number
-// of a row is looked up in one small array of values. So there is no branch on the kind, and a new node is new rows.
+// first, as a stack machine. A record's kind picks a node (`enter`), the node names rows of the observer scheme
+// (`row_of`), and every number of a row is looked up in one small array of values. So a new node is new rows.
 // The pass as a definition is in specs/Machine.antt; that it gives the emitter's equations is what `emit_observer`
 // promises.
 ghost use mathlib.Core.Path.{_≡_};
@@ -9,9 +9,9 @@ ghost use Prim.Native.Nat.{_≤_, _<_, _+_, _-_};
 ghost use lib.ListN.{getD, set, length};
 ghost use Rattle.tables.specs.Table.{equationLimit, signalCount};
 ghost use Rattle.agreement.specs.Scheme.{equation, rowAt, resolved, fill, values};
-ghost use Rattle.emitter.specs.Machine.{arenaLimit, widest, written, rowOf, nodeOf, before, recordAt};
+ghost use Rattle.emitter.specs.Machine.{arenaLimit, widest, written, rowOf, node, before, recordAt};
 ghost use Rattle.emitter.specs.Machine.{valuesAt, stacked, marked, marks, headerOf, settled};
-ghost use Rattle.emitter.specs.Contract.{Emitted, Room, Pushed, Stepped, Ran, Headed};
+ghost use Rattle.emitter.specs.Contract.{Emitted, Room, Pushed, Added, Stepped, Ran, Headed};
 
 // ---- the tables
 
@@ -74,92 +74,64 @@ const NAMES: usize = 25;
 // A row: the kind and the three numbers of an equation, each the name of a value.
 struct Row(pub u32, pub u32, pub u32, pub u32);
 
-const ROWS: usize = 39;
-
-// The observer scheme (agreement, specs/Scheme.antt): s and n are the start flow and its negation, m a memory.
-const EQUATIONS: [Row; ROWS] = [
-    // 0, a constant; 1, not; 2, and; 3, or
-    Row(CONSTANT, A, 0, 0),
-    Row(NOT, P, 0, 0),
-    Row(AND, Q, P, 0),
-    Row(OR, Q, P, 0),
-    // 4, begin: v = (s and P) or (n and m), m = false -> pre v
-    Row(PRE, O3, 0, 0),
-    Row(AND, S, P, 0),
-    Row(AND, N, O, 0),
-    Row(OR, O1, O2, 0),
-    // 8, point: s and P
-    Row(AND, S, P, 0),
-    // 9, kept: k = s or m, m = false -> pre (k and P); with the fourth, held: n and m
-    Row(PRE, O2, 0, 0),
-    Row(OR, S, O, 0),
-    Row(AND, O1, P, 0),
-    Row(AND, N, O, 0),
-    // 13, len: c = if n then cap(m, n) else 0, m = 0 -> pre c
-    Row(COUNT_PRE, O2, 0, 0),
-    Row(CAP, O, N, 0),
-    Row(IF, N, O1, 0),
-    Row(B, O2, A, C),
-    // 17, sum: c = if n then m else 0, m = 0 -> pre cap(c, P)
-    Row(COUNT_PRE, O2, 0, 0),
-    Row(IF, N, O, 0),
-    Row(CAP, O1, P, 0),
-    Row(B, O1, A, C),
-    // 21, age: c = if P then cap(if n then m else 0, P) else 0, m = 0 -> pre c
-    Row(COUNT_PRE, O3, 0, 0),
-    Row(IF, N, O, 0),
-    Row(CAP, O1, P, 0),
-    Row(IF, P, O2, 0),
-    Row(B, O3, A, C),
-    // 26, the end of the lead l: n and pre(l) and not l; the last is its negation
-    Row(PRE, P, 0, 0),
-    Row(NOT, P, 0, 0),
-    Row(AND, N, O, 0),
-    Row(AND, O2, O1, 0),
-    Row(NOT, O3, 0, 0),
-    // 31, then: running r = n and (s' or pre r); r and f
-    Row(PRE, O2, 0, 0),
-    Row(OR, S, O, 0),
-    Row(AND, Q, O1, 0),
-    Row(AND, O2, P, 0),
-    // 35, the whole rule: started = s or pre started; verdict = (not started) or v
-    Row(PRE, O1, 0, 0),
-    Row(OR, S, O, 0),
-    Row(NOT, O1, 0, 0),
-    Row(OR, O2, P, 0),
-];
-
-// What a record of some kind adds: the first of its rows and how many they are, how many operands it takes off the
-// stack, which value it puts there, and which value is the negated start flow from here on.
-struct Node(pub u32, pub u32, pub u32, pub u32, pub u32);
-
-const KINDS: usize = 16;
-
-// In the order of the kinds of records (formulas), and the whole rule's last.
-const NODES: [Node; KINDS] = [
-    // a constant, a signal, not, and, or
-    Node(0, 1, 0, O, N),
-    Node(0, 0, 0, SIGNAL, N),
-    Node(1, 1, 1, O, N),
-    Node(2, 1, 2, O, N),
-    Node(3, 1, 2, O, N),
-    // begin, end, point, held, kept
-    Node(4, 4, 1, O3, N),
-    Node(0, 0, 1, P, N),
-    Node(8, 1, 1, O, N),
-    Node(9, 4, 1, O3, N),
-    Node(9, 3, 1, O1, N),
-    // len, sum, age
-    Node(13, 4, 0, O3, N),
-    Node(17, 4, 1, O3, N),
-    Node(21, 5, 1, O4, N),
-    // the end of a lead: the second part has a start of its own, and the present one waits on the stack
-    Node(26, 5, 1, N, O4),
-    // then: back to the start that waits on the stack
-    Node(31, 4, 2, O3, Q),
-    // the whole rule
-    Node(35, 4, 1, O3, N),
-];
+// Row i of the observer scheme (agreement, specs/Scheme.antt); past its end all zeros. s and n are the start flow and its
+// negation, m a memory. A match, so that no copy of the table is made.
+fn row_of(i: usize) -> Row
+    ensures { λ r. ⌜ r ≡ rowOf i ⌝ }
+{
+    match i {
+        // 0, a constant; 1, not; 2, and; 3, or
+        0 => Row(CONSTANT, A, 0, 0),
+        1 => Row(NOT, P, 0, 0),
+        2 => Row(AND, Q, P, 0),
+        3 => Row(OR, Q, P, 0),
+        // 4, begin: v = (s and P) or (n and m), m = false -> pre v
+        4 => Row(PRE, O3, 0, 0),
+        5 => Row(AND, S, P, 0),
+        6 => Row(AND, N, O, 0),
+        7 => Row(OR, O1, O2, 0),
+        // 8, point: s and P
+        8 => Row(AND, S, P, 0),
+        // 9, kept: k = s or m, m = false -> pre (k and P); with the fourth, held: n and m
+        9 => Row(PRE, O2, 0, 0),
+        10 => Row(OR, S, O, 0),
+        11 => Row(AND, O1, P, 0),
+        12 => Row(AND, N, O, 0),
+        // 13, len: c = if n then cap(m, n) else 0, m = 0 -> pre c
+        13 => Row(COUNT_PRE, O2, 0, 0),
+        14 => Row(CAP, O, N, 0),
+        15 => Row(IF, N, O1, 0),
+        16 => Row(B, O2, A, C),
+        // 17, sum: c = if n then m else 0, m = 0 -> pre cap(c, P)
+        17 => Row(COUNT_PRE, O2, 0, 0),
+        18 => Row(IF, N, O, 0),
+        19 => Row(CAP, O1, P, 0),
+        20 => Row(B, O1, A, C),
+        // 21, age: c = if P then cap(if n then m else 0, P) else 0, m = 0 -> pre c
+        21 => Row(COUNT_PRE, O3, 0, 0),
+        22 => Row(IF, N, O, 0),
+        23 => Row(CAP, O1, P, 0),
+        24 => Row(IF, P, O2, 0),
+        25 => Row(B, O3, A, C),
+        // 26, the end of the lead l: n and pre(l) and not l; the last is its negation
+        26 => Row(PRE, P, 0, 0),
+        27 => Row(NOT, P, 0, 0),
+        28 => Row(AND, N, O, 0),
+        29 => Row(AND, O2, O1, 0),
+        30 => Row(NOT, O3, 0, 0),
+        // 31, then: running r = n and (s' or pre r); r and f
+        31 => Row(PRE, O2, 0, 0),
+        32 => Row(OR, S, O, 0),
+        33 => Row(AND, Q, O1, 0),
+        34 => Row(AND, O2, P, 0),
+        // 35, the whole rule: started = s or pre started; verdict = (not started) or v
+        35 => Row(PRE, O1, 0, 0),
+        36 => Row(OR, S, O, 0),
+        37 => Row(NOT, O1, 0, 0),
+        38 => Row(OR, O2, P, 0),
+        _ => Row(0, 0, 0, 0),
+    }
+}
 
 // The kind of the whole rule's node: no record has it.
 const WHOLE: u32 = 15;
@@ -188,11 +160,18 @@ fn store(t: &mut [u32], i: usize, v: u32)
     }
 }
 
-// One equation at place o.
+// One equation at place o; the numbers that have no room are dropped.
 fn put(t: &mut [u32], o: u32, kind: u32, a: u32, b: u32, c: u32)
     ensures { λ _. ⌜ now (t .exit) ≡ written (now (t .entry)) o (equation kind a b c ∷ []) ⌝ }
 {
     let i = 4 * (o as usize);
+    if i + 4 <= t.len() {
+        t[i] = kind;
+        t[i + 1] = a;
+        t[i + 2] = b;
+        t[i + 3] = c;
+        return;
+    }
     store(t, i, kind);
     store(t, i + 1, a);
     store(t, i + 2, b);
@@ -201,27 +180,6 @@ fn put(t: &mut [u32], o: u32, kind: u32, a: u32, b: u32, c: u32)
 
 // ---- rows
 
-// Row i of EQUATIONS; past its end all zeros.
-fn row_of(i: usize) -> Row
-    ensures { λ r. ⌜ r ≡ rowOf i ⌝ }
-{
-    if i < ROWS {
-        return EQUATIONS[i];
-    }
-    Row(0, 0, 0, 0)
-}
-
-// What a record of kind k adds: node k of NODES; past its end all zeros.
-fn node_of(k: u32) -> Node
-    ensures { λ r. ⌜ r ≡ nodeOf k ⌝ }
-{
-    let i = k as usize;
-    if i < KINDS {
-        return NODES[i];
-    }
-    Node(0, 0, 0, 0, 0)
-}
-
 // The number before n, and 0 before 0: a start flow stands right before its negation.
 fn before(n: u32) -> u32
     ensures { λ r. ⌜ r ≡ before n ⌝ }
@@ -229,7 +187,7 @@ fn before(n: u32) -> u32
     if n == 0 { 0 } else { n - 1 }
 }
 
-// The values that the numbers of EQUATIONS name, in the order of their names.
+// The values that the numbers of a row name, in the order of their names.
 fn values(o: u32, n: u32, s: u32, p: u32, q: u32, f: u32, x: Record) -> [u32; NAMES]
     requires { ⌜ o ≤ equationLimit ⌝ }
     ensures { λ r. ⌜ r ≡ values o n s p q f (x .a) (x .b) (x .c) ⌝ }
@@ -275,16 +233,32 @@ fn put_row(t: &mut [u32], o: u32, vs: &[u32; NAMES], i: usize)
     put(t, o, kind, a, b, c);
 }
 
-// `count` rows from row `first` on, put from place o on.
+// `count` rows from row `first` on, put from place o on. Without a loop, so that a caller's constants decide all tests.
 fn fill(t: &mut [u32], o: u32, vs: &[u32; NAMES], first: u32, count: u32)
     requires { ⌜ (o ≤ equationLimit) × (count ≤ widest) ⌝ }
     ensures { λ _. ⌜ now (t .exit) ≡ written (now (t .entry)) o (fill (now (vs .entry)) first count) ⌝ }
 {
-    let mut i: u32 = 0;
-    while i < count {
-        put_row(t, o + i, vs, first as usize + i as usize);
-        i += 1;
+    let row = first as usize;
+    if count == 0 {
+        return;
     }
+    put_row(t, o, vs, row);
+    if count == 1 {
+        return;
+    }
+    put_row(t, o + 1, vs, row + 1);
+    if count == 2 {
+        return;
+    }
+    put_row(t, o + 2, vs, row + 2);
+    if count == 3 {
+        return;
+    }
+    put_row(t, o + 3, vs, row + 3);
+    if count == 4 {
+        return;
+    }
+    put_row(t, o + 4, vs, row + 4);
 }
 
 // ---- the stack of operands: the first `height` numbers of an array
@@ -360,22 +334,67 @@ fn values_at(stack: &[u32], places: &[u32], m: Place, x: Record) -> [u32; NAMES]
     values(m.next, m.idle, s, p, q, f, x)
 }
 
-// One record: its node's equations go to the table, its operands off the stack, its result on.
+// One node: `count` rows from row `first` on go to the table, `takes` operands come off the stack, the value `result` goes
+// on, and the value `idle` is the negated start flow from here on.
+fn add_node(
+    table: &mut [u32],
+    stack: &mut [u32],
+    m: Place,
+    vs: &[u32; NAMES],
+    first: u32,
+    count: u32,
+    takes: u32,
+    result: u32,
+    idle: u32,
+) -> Place
+    requires { ⌜ Room m (now stack) × (count ≤ widest) ⌝ }
+    ensures { λ r. ⌜ Added (node first count takes result idle) (now (vs .entry)) (now (table .entry))
+        (now (stack .entry)) m (now (table .exit)) (now (stack .exit)) r ⌝ }
+{
+    fill(table, m.next, vs, first, count);
+    let v = at(vs, result as usize);
+    let n = at(vs, idle as usize);
+    let height = push(stack, m.height, takes, v);
+    Place {
+        next: m.next + count,
+        idle: n,
+        height,
+    }
+}
+
+// One record: its kind picks its node. The kinds are numbered as those of records (formulas), and the whole rule's is the
+// last. The numbers of a node are constants, so that its rows are found when this is compiled.
 fn enter(table: &mut [u32], stack: &mut [u32], places: &[u32], m: Place, x: Record) -> Place
     requires { ⌜ Room m (now stack) ⌝ }
     ensures { λ r. ⌜ Stepped (now (places .entry)) x (now (table .entry)) (now (stack .entry)) m
         (now (table .exit)) (now (stack .exit)) r ⌝ }
 {
-    let d = node_of(x.kind);
     let vs = values_at(stack, places, m, x);
-    fill(table, m.next, &vs, d.0, d.1);
-    let result = at(&vs, d.3 as usize);
-    let idle = at(&vs, d.4 as usize);
-    let height = push(stack, m.height, d.2, result);
-    Place {
-        next: m.next + d.1,
-        idle,
-        height,
+    let k = x.kind;
+    match k {
+        // a constant, a signal, not, and, or
+        0 => add_node(table, stack, m, &vs, 0, 1, 0, O, N),
+        1 => add_node(table, stack, m, &vs, 0, 0, 0, SIGNAL, N),
+        2 => add_node(table, stack, m, &vs, 1, 1, 1, O, N),
+        3 => add_node(table, stack, m, &vs, 2, 1, 2, O, N),
+        4 => add_node(table, stack, m, &vs, 3, 1, 2, O, N),
+        // begin, end, point, held, kept
+        5 => add_node(table, stack, m, &vs, 4, 4, 1, O3, N),
+        6 => add_node(table, stack, m, &vs, 0, 0, 1, P, N),
+        7 => add_node(table, stack, m, &vs, 8, 1, 1, O, N),
+        8 => add_node(table, stack, m, &vs, 9, 4, 1, O3, N),
+        9 => add_node(table, stack, m, &vs, 9, 3, 1, O1, N),
+        // len, sum, age
+        10 => add_node(table, stack, m, &vs, 13, 4, 0, O3, N),
+        11 => add_node(table, stack, m, &vs, 17, 4, 1, O3, N),
+        12 => add_node(table, stack, m, &vs, 21, 5, 1, O4, N),
+        // the end of a lead: the second part has a start of its own, and the present one waits on the stack
+        13 => add_node(table, stack, m, &vs, 26, 5, 1, N, O4),
+        // then: back to the start that waits on the stack
+        14 => add_node(table, stack, m, &vs, 31, 4, 2, O3, Q),
+        // the whole rule
+        15 => add_node(table, stack, m, &vs, 35, 4, 1, O3, N),
+        _ => add_node(table, stack, m, &vs, 0, 0, 0, 0, 0),
     }
 }
 

@@ -1,66 +1,145 @@
--- The functions on word lists that the limits and the fragment are defined by, one word at a time, as a loop over the
--- positions meets them. Assumes nothing.
-use mathlib.Core.Bool.{Bool, true, false, _||_, cond, or-true}
+-- The functions on word lists that the limits and the fragment are defined by, one word at a time, and what is known while
+-- a loop passes the words. Assumes nothing.
+use mathlib.Core.Bool.{Bool, true, false, not, _&&_, _||_, cond, or-false}
 use mathlib.Core.Path.{_≡_, refl, sym, ap, _∙_}
-use mathlib.Core.List.{List, [], _∷_}
+use mathlib.Core.List.{List, _∷_}
 use Prim.Native.Nat.{ℕ, suc, _+_, _≤_, _<_}
+use native.Mathlib.Nat.{zero-add}
 use native.Mathlib.Numerals.{add-one}
 use native.Mathlib.Omega.{arith}
 use lib.Dec.{eqb, ltb}
 use lib.ListN.{length, getD, drop, drop-of-length-le}
 use lib.Seq.{drop-cons}
-use borrow.Author.Tests.{eq-eqb, ne-eqb, lt-ltb, le-ltb}
-use Rattle.grammar.specs.Fragment.{names}
-use Rattle.rules.specs.Limits.{opened, deep, counted, tally}
+use borrow.Author.Tests.{lt-ltb, le-ltb}
+use Rattle.words.specs.Word.{CHOP, EXISTS}
+use Rattle.grammar.specs.Fragment.{names, beyond}
+use Rattle.rules.specs.Limits.{opened, deep, counted, tally, over}
+
+or-eq-false-left : (a b : Bool) → (a || b) ≡ false → a ≡ false
+or-eq-false-left true b e = e
+or-eq-false-left false b e = refl
 
 -- The words from position i on: the one at i and those after it.
 words-at : (ws : List ℕ) (i : ℕ) → i < length ws → drop i ws ≡ getD ws i 0 ∷ drop (i + 1) ws
 words-at ws i h = drop-cons ws i 0 h ∙ rw add-one
 
--- ---- a word among the words
+-- ---- `chop` or `exists` among the words
 
-module _ (w : ℕ) (ws : List ℕ) (i : ℕ) where
-  pub named-here : i < length ws → getD ws i 0 ≡ w → names w (drop i ws) ≡ true
-  unfolding names
-  named-here h e = ap (names w) (words-at ws i h) ∙ ap (λ (b : Bool). b || names w (drop (i + 1) ws)) (eq-eqb _ _ e)
+regroup : (b p q r s : Bool) → ((b || (p || q)) || (r || s)) ≡ (b || ((p || r) || (q || s)))
+regroup true p q r s = refl
+regroup false true q r s = refl
+regroup false false true true s = refl
+regroup false false true false s = refl
+regroup false false false r s = refl
 
-  pub named-later : i < length ws → (getD ws i 0 ≡ w → ⊥) → names w (drop i ws) ≡ names w (drop (i + 1) ws)
+module _ (ws : List ℕ) (i : ℕ) where
+  beyond-at : (b : Bool) → i < length ws → let w = getD ws i 0 in
+      ((b || (eqb w CHOP || eqb w EXISTS)) || beyond (drop (i + 1) ws)) ≡ (b || beyond (drop i ws))
   unfolding names
-  named-later h e = ap (names w) (words-at ws i h) ∙ ap (λ (b : Bool). b || names w (drop (i + 1) ws)) (ne-eqb _ _ e)
+  beyond-at b h =
+      let w = getD ws i 0 in
+      let rest = drop (i + 1) ws in
+      rw (words-at ws i h) (regroup b (eqb w CHOP) (eqb w EXISTS) (names CHOP rest) (names EXISTS rest))
 
-  pub named-never : length ws ≤ i → names w (drop i ws) ≡ false
+  beyond-end : length ws ≤ i → beyond (drop i ws) ≡ false
   unfolding names
-  named-never h = ap (names w) (drop-of-length-le ws h)
+  beyond-end h = ap beyond (drop-of-length-le ws h)
 
 -- ---- round brackets open, d before position i
 
 module _ (d : ℕ) (ws : List ℕ) (i : ℕ) where
-  pub deep-here : i < length ws → 16 < opened d (getD ws i 0) → deep d (drop i ws) ≡ true
+  deep-here : i < length ws → 16 < opened d (getD ws i 0) → deep d (drop i ws) ≡ true
   unfolding deep
   deep-here h l =
       ap (deep d) (words-at ws i h)
       ∙ ap (λ (b : Bool). b || deep (opened d (getD ws i 0)) (drop (i + 1) ws)) (lt-ltb _ _ l)
 
-  pub deep-later : i < length ws → opened d (getD ws i 0) ≤ 16 → deep d (drop i ws) ≡ deep (opened d (getD ws i 0)) (drop (i + 1) ws)
+  deep-later : i < length ws → opened d (getD ws i 0) ≤ 16 → deep d (drop i ws) ≡ deep (opened d (getD ws i 0)) (drop (i + 1) ws)
   unfolding deep
   deep-later h l =
       ap (deep d) (words-at ws i h)
       ∙ ap (λ (b : Bool). b || deep (opened d (getD ws i 0)) (drop (i + 1) ws)) (le-ltb _ _ l)
 
-  pub deep-never : length ws ≤ i → deep d (drop i ws) ≡ false
+  deep-never : length ws ≤ i → deep d (drop i ws) ≡ false
   unfolding deep
   deep-never h = ap (deep d) (drop-of-length-le ws h)
 
 -- ---- how many words are counted
 
 module _ (ws : List ℕ) (i : ℕ) where
-  pub tally-at : i < length ws → (b : Bool) → counted (getD ws i 0) ≡ b
+  tally-at : i < length ws → (b : Bool) → counted (getD ws i 0) ≡ b
       → tally (drop i ws) ≡ cond b (suc (tally (drop (i + 1) ws))) (tally (drop (i + 1) ws))
   unfolding tally
   tally-at h b e =
       ap tally (words-at ws i h)
       ∙ ap (λ (x : Bool). cond x (suc (tally (drop (i + 1) ws))) (tally (drop (i + 1) ws))) e
 
-  pub tally-end : length ws ≤ i → tally (drop i ws) ≡ 0
+  tally-end : length ws ≤ i → tally (drop i ws) ≡ 0
   unfolding tally
   tally-end h = ap tally (drop-of-length-le ws h)
+
+-- ---- one pass over the words
+
+-- Before position i: `depth` round brackets are open, n words were counted, and b tells of `chop` and `exists`.
+pub record Passed (ws : List ℕ) (depth n : ℕ) (b : Bool) (i : ℕ) : Type 0 where
+  pub in-words : i ≤ length ws
+  pub low : depth ≤ 16
+  pub few : n ≤ i
+  pub deep-left : deep depth (drop i ws) ≡ deep 0 ws
+  pub tally-left : n + tally (drop i ws) ≡ tally ws
+  pub beyond-left : (b || beyond (drop i ws)) ≡ beyond ws
+
+pub passed-none : (ws : List ℕ) → Passed ws 0 0 false 0
+passed-none ws =
+    record {
+      in-words = omega arith;
+      low = omega arith;
+      few = omega arith;
+      deep-left = refl;
+      tally-left = zero-add _;
+      beyond-left = refl;
+    }
+
+module _ {ws : List ℕ} {depth n : ℕ} {b : Bool} {i : ℕ} (h : Passed ws depth n b i) where
+  -- The word at i opens one bracket too many.
+  pub passed-deep : i < length ws → 16 < opened depth (getD ws i 0) → deep 0 ws ≡ true
+  passed-deep l m = sym (h .deep-left) ∙ deep-here depth ws i l m
+
+  counts : (x : Bool) (n′ : ℕ) → i < length ws → counted (getD ws i 0) ≡ x → n′ ≡ cond x (suc n) n
+      → (n′ ≤ i + 1) × (n′ + tally (drop (i + 1) ws) ≡ tally ws)
+  counts true n′ l e c = omega (arith, h .few, h .tally-left, tally-at ws i l true e)
+  counts false n′ l e c = omega (arith, h .few, h .tally-left, tally-at ws i l false e)
+
+  -- The word at i.
+  pub passed-one : (x : Bool) {depth′ n′ : ℕ} {b′ : Bool} → i < length ws → depth′ ≡ opened depth (getD ws i 0)
+      → depth′ ≤ 16 → counted (getD ws i 0) ≡ x → n′ ≡ cond x (suc n) n
+      → b′ ≡ (b || (eqb (getD ws i 0) CHOP || eqb (getD ws i 0) EXISTS)) → Passed ws depth′ n′ b′ (i + 1)
+  passed-one x {depth′} {n′} {b′} l d m e c g =
+      let more = counts x n′ l e c in
+      record {
+        in-words = omega arith;
+        low = m;
+        few = more .0;
+        deep-left =
+            ap (λ (k : ℕ). deep k (drop (i + 1) ws)) d
+            ∙ sym (deep-later depth ws i l (omega arith)) ∙ h .deep-left;
+        tally-left = more .1;
+        beyond-left = rw g (beyond-at ws i b l) ∙ h .beyond-left;
+      }
+
+  -- After the last word.
+  module _ (l : length ws ≤ i) where
+    not-deep : deep 0 ws ≡ false
+    not-deep = sym (h .deep-left) ∙ deep-never depth ws i l
+
+    pub passed-over : ltb 32 n ≡ over ws
+    passed-over =
+        let all : n ≡ tally ws = omega (arith, h .tally-left, tally-end ws i l) in
+        rw (all, not-deep)
+
+    pub passed-beyond : b ≡ (not (deep 0 ws) && beyond ws)
+    passed-beyond = rw (not-deep, ← (h .beyond-left), beyond-end ws i l) (sym (or-false b))
+
+-- What the pass tells of `chop` and `exists` where no limit is passed.
+pub beyond-told : (ws : List ℕ) {r : Bool} → over ws ≡ false → r ≡ (not (deep 0 ws) && beyond ws) → beyond ws ≡ r
+beyond-told ws o e = let no-deep : deep 0 ws ≡ false = or-eq-false-left (deep 0 ws) (ltb 32 (tally ws)) o in sym (e ∙ rw no-deep)

@@ -1,13 +1,15 @@
 // Reading a rule (document 01, "Read a rule"): its words, limits, grammar and fragment.
 use grammar::Parsed;
 use words::Split;
-ghost use mathlib.Core.Bool.{Bool};
+ghost use mathlib.Core.Bool.{Bool, not, _&&_, _||_};
 ghost use mathlib.Core.Path.{_≡_};
 ghost use Prim.Native.Nat.{_≤_, _<_};
+ghost use lib.Dec.{eqb};
 ghost use lib.ListN.{length};
-ghost use Rattle.grammar.specs.Fragment.{names, beyond};
+ghost use Rattle.grammar.specs.Fragment.{beyond};
+ghost use Rattle.words.specs.Word.{CHOP, EXISTS};
 ghost use Rattle.words.specs.Split.Out.{made};
-ghost use Rattle.rules.specs.Limits.{opened, deep, counted, tally, over};
+ghost use Rattle.rules.specs.Limits.{opened, deep, counted, over};
 ghost use Rattle.rules.specs.Reading.{ruleOf, ofWords};
 ghost use Rattle.rules.specs.Same.{Compared};
 ghost use Rattle.rules.specs.Answer.{answerOf, Told, Laid, splitRefusal, recordsRefusal};
@@ -48,22 +50,6 @@ fn open_after(depth: usize, w: u32) -> usize
     depth
 }
 
-// "more than 16 round brackets open at some word"
-fn is_deep(ws: &[u32]) -> bool
-    ensures { λ r. ⌜ r ≡ deep 0 (now (ws .entry)) ⌝ }
-{
-    let mut depth: usize = 0;
-    let mut i: usize = 0;
-    while i < ws.len() {
-        depth = open_after(depth, ws[i]);
-        if 16 < depth {
-            return true;
-        }
-        i += 1;
-    }
-    false
-}
-
 // Whether a word is `!`, `then`, `chop` or `exists`.
 fn is_counted(w: u32) -> bool
     ensures { λ r. ⌜ r ≡ counted w ⌝ }
@@ -80,53 +66,53 @@ fn is_counted(w: u32) -> bool
     w == words::EXISTS
 }
 
-// How many words are.
-fn count(ws: &[u32]) -> usize
-    ensures { λ r. ⌜ r ≡ tally (now (ws .entry)) ⌝ }
+// Whether `chop` or `exists` stands among some words and the word w after them.
+fn beyond_after(beyond: bool, w: u32) -> bool
+    ensures { λ r. ⌜ r ≡ (beyond || (eqb w CHOP || eqb w EXISTS)) ⌝ }
 {
+    if w == words::CHOP {
+        return true;
+    }
+    if w == words::EXISTS {
+        return true;
+    }
+    beyond
+}
+
+// What one pass over the words tells. Refusal 5: "more than 16 round brackets open at some word", or more than 32 of the
+// counted words. Refusal 7: `chop` or `exists` stands among them; too many brackets end the pass before this is known.
+struct Limits {
+    pub over: bool,
+    pub beyond: bool,
+}
+
+fn limits_of(ws: &[u32]) -> Limits
+    ensures { λ r. ⌜ (r .over ≡ over (now (ws .entry)))
+        × (r .beyond ≡ (not (deep 0 (now (ws .entry))) && beyond (now (ws .entry)))) ⌝ }
+{
+    let mut depth: usize = 0;
     let mut n: usize = 0;
+    let mut beyond = false;
     let mut i: usize = 0;
     while i < ws.len() {
-        if is_counted(ws[i]) {
+        let w = ws[i];
+        depth = open_after(depth, w);
+        if 16 < depth {
+            return Limits {
+                over: true,
+                beyond: false,
+            };
+        }
+        if is_counted(w) {
             n += 1;
         }
+        beyond = beyond_after(beyond, w);
         i += 1;
     }
-    n
-}
-
-// Refusal 5.
-fn is_over(ws: &[u32]) -> bool
-    ensures { λ r. ⌜ r ≡ over (now (ws .entry)) ⌝ }
-{
-    if is_deep(ws) {
-        return true;
+    Limits {
+        over: 32 < n,
+        beyond,
     }
-    32 < count(ws)
-}
-
-// Whether a word stands among the words.
-fn has_word(ws: &[u32], w: u32) -> bool
-    ensures { λ r. ⌜ r ≡ names w (now (ws .entry)) ⌝ }
-{
-    let mut i: usize = 0;
-    while i < ws.len() {
-        if ws[i] == w {
-            return true;
-        }
-        i += 1;
-    }
-    false
-}
-
-// Refusal 7.
-fn is_beyond(ws: &[u32]) -> bool
-    ensures { λ r. ⌜ r ≡ beyond (now (ws .entry)) ⌝ }
-{
-    if has_word(ws, words::CHOP) {
-        return true;
-    }
-    has_word(ws, words::EXISTS)
 }
 
 // The words' refusal, where there is one.
@@ -144,7 +130,9 @@ fn read_words(ws: &[u32], arena: &mut [u32]) -> Records
     requires { ⌜ (length (now ws) ≤ 240) × (1920 ≤ length (now arena)) ⌝ }
     ensures { λ r. ⌜ Laid (ofWords (made (now (ws .entry)))) (now (arena .entry)) r (now (arena .exit)) ⌝ }
 {
-    if is_over(ws) {
+    let limits = limits_of(ws);
+    let over = limits.over;
+    if over {
         return Records::Refused(5);
     }
     let Parsed::At(next, top, facts) = grammar::parse_f(ws, false, 0, arena, 0) else {
@@ -153,7 +141,8 @@ fn read_words(ws: &[u32], arena: &mut [u32]) -> Records
     if next != ws.len() {
         return Records::Refused(6);
     }
-    if is_beyond(ws) {
+    let beyond = limits.beyond;
+    if beyond {
         return Records::Refused(7);
     }
     let leads = facts.leads;

@@ -3,6 +3,7 @@ pub mod Classes
 pub mod Runs
 pub mod Keywords
 pub mod Numbers
+pub mod Widths
 pub mod Turns
 pub mod Bounds
 pub mod Examples

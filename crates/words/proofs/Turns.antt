@@ -1,5 +1,5 @@
--- What is known while a text is split, byte by byte, and what its answer is. Assumes nothing.
-use mathlib.Core.Bool.{true, false, cond}
+-- What is known while a text is split, word by word, and what its answer is. Assumes nothing.
+use mathlib.Core.Bool.{cond}
 use mathlib.Core.List.{List, [], _∷_, _++_}
 use mathlib.Core.Path.{_≡_, refl, sym, ap, _∙_}
 use Prim.Native.Nat.{ℕ, _+_, _≤_, _<_}
@@ -13,7 +13,9 @@ use borrow.Author.Tests.{eq-eqb, ne-eqb, lt-ltb, le-ltb}
 use Rattle.lists.proofs.Buffers.{sets-append}
 use Rattle.words.specs.Split.{SPACE, classOf, begins, wordOf, add, words, splitOf}
 use Rattle.words.specs.Split.Out.{refused, made}
+use Rattle.words.specs.Width.{widthOf}
 use Rattle.words.specs.Answer.{answerOf, Splits}
+use Rattle.words.proofs.Widths.{text-past}
 use Rattle.words.specs.declared.Word.the-variants.{Made, Bad}
 use Rattle.words.specs.declared.Split.the-variants.{Words, Refused}
 
@@ -43,20 +45,18 @@ refuses text before after n e =
       few = λ ws m. refused-made (sym e ∙ m);
     }
 
--- At byte i, after a byte of class p: the first `count` words are stored, and what is left of the text gives the rest.
-pub record At (text before after : List ℕ) (p count i : ℕ) : Type 0 where
+-- At byte i, where no word goes on: the first `count` words are stored, and what is left of the text gives the rest.
+pub record At (text before after : List ℕ) (count i : ℕ) : Type 0 where
   pub ws : List ℕ
-  pub rest : words text SPACE [] ≡ words (drop i text) p ws
+  pub rest : words text SPACE [] ≡ words (drop i text) SPACE ws
   pub counted : count ≡ length ws
   pub few : count ≤ 240
-  pub in-text : i ≤ length text
   pub stored : after ≡ sets before 0 ws
 
-pub at-start : (text before : List ℕ) → At text before before SPACE 0 0
-at-start text before =
-    record { ws = []; rest = refl; counted = refl; few = omega arith; in-text = omega arith; stored = refl }
+pub at-start : (text before : List ℕ) → At text before before 0 0
+at-start text before = record { ws = []; rest = refl; counted = refl; few = omega arith; stored = refl }
 
-pub at-length : {text before after : List ℕ} {p count i : ℕ} → At text before after p count i
+pub at-length : {text before after : List ℕ} {count i : ℕ} → At text before after count i
     → length after ≡ length before
 at-length {before = before} h = ap length (h .stored) ∙ length-sets before 0 (h .ws)
 
@@ -70,65 +70,44 @@ unfolding words
 words-at text i p ws h = rw (add-one i, drop-cons text i 0 h)
 
 -- What the byte at i, of class c, does.
-module _ {text before after : List ℕ} {p count i : ℕ} (h : At text before after p count i) (l : i < length text)
-    (c : ℕ) (e : c ≡ classOf (getD text i 0)) where
+module _ {text before after : List ℕ} {count i : ℕ} (h : At text before after count i) (l : i < length text) (c : ℕ)
+    (e : c ≡ classOf (getD text i 0)) where
   turn : words text SPACE []
       ≡ let one = add (wordOf c (drop i text)) (h .ws) (λ more. words (drop (i + 1) text) c more) in
-      cond (begins p c) (cond (eqb count 240) (refused 4) one) (words (drop (i + 1) text) c (h .ws))
-  turn = h .rest ∙ words-at text i p (h .ws) l ∙ rw (← e, ← (h .counted))
+      cond (begins SPACE c) (cond (eqb count 240) (refused 4) one) (words (drop (i + 1) text) c (h .ws))
+  turn = h .rest ∙ words-at text i SPACE (h .ws) l ∙ rw (← e, ← (h .counted))
 
-  pub skips : begins p c ≡ false → At text before after c count (i + 1)
+  pub skips : c ≡ SPACE → At text before after count (i + 1)
   skips b =
-      record {
-        ws = h .ws;
-        rest = turn ∙ simp b;
-        counted = h .counted;
-        few = h .few;
-        in-text = omega arith;
-        stored = h .stored;
-      }
+      record { ws = h .ws; rest = turn ∙ simp b; counted = h .counted; few = h .few; stored = h .stored }
 
-  pub too-many : begins p c ≡ true → count ≡ 240 → words text SPACE [] ≡ refused 4
-  too-many b f = turn ∙ simp (b, eq-eqb count 240 f)
+  pub too-many : (c ≡ SPACE → ⊥) → count ≡ 240 → words text SPACE [] ≡ refused 4
+  too-many b f = turn ∙ simp (ne-eqb c SPACE b, eq-eqb count 240 f)
 
-  pub breaks : (n : ℕ) → begins p c ≡ true → (count ≡ 240 → ⊥) → wordOf c (drop i text) ≡ Bad n
+  pub breaks : (n : ℕ) → (c ≡ SPACE → ⊥) → (count ≡ 240 → ⊥) → wordOf c (drop i text) ≡ Bad n
       → words text SPACE [] ≡ refused n
-  breaks n b f w = turn ∙ simp (b, ne-eqb count 240 f, w)
+  breaks n b f w = turn ∙ simp (ne-eqb c SPACE b, ne-eqb count 240 f, w)
 
-  pub adds : (word : ℕ) → begins p c ≡ true → (count ≡ 240 → ⊥) → wordOf c (drop i text) ≡ Made word
-      → At text before (set after count word) c (count + 1) (i + 1)
-  adds word b f w =
+  pub adds : (word end : ℕ) → (c ≡ SPACE → ⊥) → (count ≡ 240 → ⊥) → wordOf c (drop i text) ≡ Made word
+      → end ≡ i + widthOf c (drop i text) → At text before (set after count word) (count + 1) end
+  adds word end b f w g =
       record {
         ws = h .ws ++ word ∷ [];
-        rest = turn ∙ simp (b, ne-eqb count 240 f, w);
+        rest = turn ∙ simp (ne-eqb c SPACE b, ne-eqb count 240 f, w) (rw g (text-past text i c _ l e));
         counted = simp length-append (omega (arith, h .counted));
         few = omega (arith, h .few);
-        in-text = omega arith;
         stored =
             ap (λ (o : List ℕ). set o count word) (h .stored)
             ∙ ap (λ (n : ℕ). set (sets before 0 (h .ws)) n word) (h .counted ∙ sym (zero-add _))
             ∙ sets-append before 0 (h .ws) (word ∷ []);
       }
 
--- The same at equal values.
-pub at-moved : {text before o₁ o₂ : List ℕ} {p n₁ n₂ i : ℕ}
-    → At text before o₁ p n₁ i → o₂ ≡ o₁ → n₂ ≡ n₁ → At text before o₂ p n₂ i
-at-moved h a b =
-    record {
-      ws = h .ws;
-      rest = h .rest;
-      counted = b ∙ h .counted;
-      few = omega (arith, h .few);
-      in-text = h .in-text;
-      stored = a ∙ h .stored;
-    }
-
 -- At the end of the text.
-module _ {text before after : List ℕ} {p count i : ℕ} (h : At text before after p count i)
+module _ {text before after : List ℕ} {count i : ℕ} (h : At text before after count i)
     (by-words : splitOf text ≡ words text SPACE []) (l : length text ≤ i) where
   all-words : splitOf text ≡ made (h .ws)
   unfolding words
-  all-words = by-words ∙ h .rest ∙ ap (λ (r : List ℕ). words r p (h .ws)) (drop-of-length-le text l)
+  all-words = by-words ∙ h .rest ∙ ap (λ (r : List ℕ). words r SPACE (h .ws)) (drop-of-length-le text l)
 
   same-words : (ws : List ℕ) → splitOf text ≡ made ws → h .ws ≡ ws
   same-words ws m = let both : made (h .ws) ≡ made ws = sym all-words ∙ m in cc

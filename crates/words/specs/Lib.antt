@@ -1,4 +1,5 @@
 -- Words of a rule text, and how a text is split into them.
 pub mod Word
 pub mod Split
+pub mod Width
 pub mod Answer

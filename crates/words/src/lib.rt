@@ -1,12 +1,14 @@
 // The words of a rule text, as numbers (document 01, "Rule text"). specs/Word.antt says which number is which word,
 // specs/Split.antt how a text is split.
 ghost use mathlib.Core.Path.{_≡_};
-ghost use Prim.Native.Nat.{_+_, _≤_, _<_};
+ghost use Prim.Native.Nat.{_+_, _≤_, _<_, _^_};
+ghost use lib.Dec.{eqb};
 ghost use lib.ListN.{length, getD, drop};
 ghost use Rattle.words.specs.Word.{within, isOp, isSignal, isNum, isBit, isTest, isCount};
 ghost use Rattle.lists.specs.Same.{same};
-ghost use Rattle.words.specs.Split.{classOf, begins, run, keywordOf, needless, numberOf, runOf};
+ghost use Rattle.words.specs.Split.{RUN, classOf, run, keywordOf, needless, numberOf, runOf};
 ghost use Rattle.words.specs.Split.{longest, wordOf};
+ghost use Rattle.words.specs.Width.{operatorWidth, widthOf};
 ghost use Rattle.words.specs.Answer.{Splits};
 
 pub const ROUND: u32 = 1;
@@ -35,6 +37,12 @@ pub const GE: u32 = 12;
 
 pub const BEGIN: u32 = 13;
 
+const END: u32 = 14;
+
+const POINT: u32 = 15;
+
+const HELD: u32 = 16;
+
 pub const KEPT: u32 = 17;
 
 pub const LEN: u32 = 18;
@@ -62,13 +70,16 @@ const RUN: u32 = 40;
 
 const OTHER: u32 = 50;
 
-// How long the keywords' spellings are, in the order of their numbers.
-const LENGTHS: [usize; 11] = [5, 3, 5, 4, 4, 3, 3, 3, 4, 4, 6];
-
 // One word: its number, or refusal 2 or 3.
 pub enum Word {
     Made(u32),
     Bad(u32),
+}
+
+// A word and the place after it in its text.
+struct Token {
+    pub word: Word,
+    pub end: usize,
 }
 
 // A text's words, or the refusal's number.
@@ -98,17 +109,13 @@ fn class(b: u8) -> u32
     }
 }
 
-// Whether a byte of class c begins a word after a byte of class p.
-fn begins_word(p: u32, c: u32) -> bool
-    ensures { λ r. ⌜ r ≡ begins p c ⌝ }
+// Whether a byte is part of a run.
+fn in_run(b: u8) -> bool
+    ensures { λ r. ⌜ r ≡ eqb (classOf b) RUN ⌝ }
 {
-    if c == SPACE {
-        return false;
-    }
-    match p {
-        RUN => c != RUN,
-        LT | GT => c != EQ,
-        _ => true,
+    match b {
+        b'a'..=b'z' | b'0'..=b'9' => true,
+        _ => false,
     }
 }
 
@@ -119,7 +126,7 @@ fn run_end(text: &[u8], i: usize) -> usize
 {
     let mut end = i;
     while end < text.len() {
-        if class(text[end]) != RUN {
+        if !in_run(text[end]) {
             return end;
         }
         end += 1;
@@ -148,16 +155,38 @@ fn same_bytes(a: &[u8], b: &[u8]) -> bool
 fn keyword(run: &[u8]) -> u32
     ensures { λ r. ⌜ r ≡ keywordOf (now (run .entry)) ⌝ }
 {
-    let spellings: &[u8] = b"beginendpointheldkeptlensumagethenchopexists";
-    let mut from = 0;
-    let mut k = 0;
-    while k < 11 {
-        let to = from + LENGTHS[k];
-        if same_bytes(run, &spellings[from..to]) {
-            return BEGIN + k as u32;
-        }
-        from = to;
-        k += 1;
+    if same_bytes(run, b"begin") {
+        return BEGIN;
+    }
+    if same_bytes(run, b"end") {
+        return END;
+    }
+    if same_bytes(run, b"point") {
+        return POINT;
+    }
+    if same_bytes(run, b"held") {
+        return HELD;
+    }
+    if same_bytes(run, b"kept") {
+        return KEPT;
+    }
+    if same_bytes(run, b"len") {
+        return LEN;
+    }
+    if same_bytes(run, b"sum") {
+        return SUM;
+    }
+    if same_bytes(run, b"age") {
+        return AGE;
+    }
+    if same_bytes(run, b"then") {
+        return THEN;
+    }
+    if same_bytes(run, b"chop") {
+        return CHOP;
+    }
+    if same_bytes(run, b"exists") {
+        return EXISTS;
     }
     0
 }
@@ -227,17 +256,30 @@ fn run_word(run: &[u8]) -> Word
     }
 }
 
-// The word of an operator byte of class c before the byte next.
-fn longest_word(c: u32, next: u8) -> Word
-    ensures { λ r. ⌜ r ≡ longest c next ⌝ }
+// The word of an operator byte of class c, at i before the byte next.
+fn operator_at(c: u32, next: u8, i: usize) -> Token
+    requires { ⌜ i < 2 ^ 63 ⌝ }
+    ensures { λ r. ⌜ (r .word ≡ longest c next) × (r .end ≡ i + operatorWidth c next) ⌝ }
 {
     if next != b'=' {
-        return Word::Made(c);
+        return Token {
+            word: Word::Made(c),
+            end: i + 1,
+        };
     }
     match c {
-        LT => Word::Made(LE),
-        GT => Word::Made(GE),
-        _ => Word::Made(c),
+        LT => Token {
+            word: Word::Made(LE),
+            end: i + 2,
+        },
+        GT => Token {
+            word: Word::Made(GE),
+            end: i + 2,
+        },
+        _ => Token {
+            word: Word::Made(c),
+            end: i + 1,
+        },
     }
 }
 
@@ -249,18 +291,23 @@ fn byte_at(text: &[u8], i: usize) -> u8
 }
 
 // The word that begins at i with a byte of class c.
-fn word_at(text: &[u8], i: usize, c: u32) -> Word
+fn word_at(text: &[u8], i: usize, c: u32) -> Token
     requires { ⌜ (i < length (now text)) × (c ≡ classOf (getD (now text) i 0)) ⌝ }
-    ensures { λ r. ⌜ r ≡ wordOf c (drop i (now (text .entry))) ⌝ }
+    ensures { λ r. ⌜ (r .word ≡ wordOf c (drop i (now (text .entry))))
+        × (r .end ≡ i + widthOf c (drop i (now (text .entry)))) ⌝ }
 {
     if c == RUN {
-        let end = run_end(text, i);
-        return run_word(&text[i..end]);
+        let end = run_end(text, i + 1);
+        let word = run_word(&text[i..end]);
+        return Token { word, end };
     }
     if c == OTHER {
-        return Word::Bad(2);
+        return Token {
+            word: Word::Bad(2),
+            end: i + 1,
+        };
     }
-    longest_word(c, byte_at(text, i + 1))
+    operator_at(c, byte_at(text, i + 1), i)
 }
 
 // The words of a text, stored at the front of out.
@@ -274,27 +321,29 @@ pub fn split_text(text: &[u8], out: &mut [u32]) -> Split
     if text.len() > 2048 {
         return Split::Refused(1);
     }
-    let mut previous = SPACE;
     let mut count: usize = 0;
     let mut i: usize = 0;
     while i < text.len() {
         let c = class(text[i]);
-        if begins_word(previous, c) {
+        if c == SPACE {
+            i += 1;
+        } else {
             if count == 240 {
                 return Split::Refused(4);
             }
-            match word_at(text, i, c) {
+            let token = word_at(text, i, c);
+            let made = token.word;
+            match made {
                 Word::Made(word) => {
                     out[count] = word;
                     count += 1;
+                    i = token.end;
                 }
                 Word::Bad(n) => {
                     return Split::Refused(n);
                 }
             }
         }
-        previous = c;
-        i += 1;
     }
     Split::Words(count)
 }

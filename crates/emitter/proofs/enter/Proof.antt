@@ -1,96 +1,152 @@
--- `emitter::enter` meets its contract: `entered` gathers what its calls gave.
-use Prim.Native.Nat.{_≤_}
-use native.Mathlib.Omega.{arith}
+-- `emitter::enter` meets its contract: each arm adds the node of its own number. Assumes nothing.
+use mathlib.Core.List.{List}
+use mathlib.Core.Path.{_≡_, ap}
+use Prim.Native.Nat.{ℕ}
 use borrow.Author.Needs.{needs}
-use Rattle.emitter.specs.Machine.{widest, count}
-use Rattle.emitter.proofs.Nodes.{count-few}
+use lib.ListN.{List·getD-eq-default}
+use Rattle.tables.proofs.Numbers.{none-below}
+use Rattle.emitter.specs.Machine.{node, nodes, nodeOf, stacked, valuesAt}
+use Rattle.emitter.specs.Contract.{Added, Stepped}
+use Rattle.emitter.specs.declared.Place.{Place}
+use Rattle.emitter.specs.declared.Record.{Record}
 use Rattle.emitter.proofs.Stack.{entered}
 use Rattle.emitter.proofs.enter.Statement.{statement}
 use Rattle.emitter.proofs.enter.Tie as tie
 
-few : (c : tie.After-node-of) →
-    let the-node-of = c .node-of in
-    count (the-node-of .result) ≤ widest
-few c =
-    let the-node-of = c .node-of in
-    let the-args = c .before .before .before .before .args in
-    rw (the-node-of .ensures) (count-few (the-args .x .kind))
+-- The arm of the kind k.
+arm : {places : List ℕ} {x : Record} {k : ℕ} {t stack : List ℕ} {m : Place} {vs t′ stack′ : List ℕ} {m′ : Place}
+    → x .kind ≡ k → vs ≡ valuesAt places (m .next) (m .idle) (stacked stack (m .height)) x
+    → Added (nodeOf k) vs t stack m t′ stack′ m′ → Stepped places x t stack m t′ stack′ m′
+arm e = entered (ap nodeOf e)
 
-fill-requires : tie.Need-fill-requires
-fill-requires c κs =
-    let at-after-node-of = c .before .before .before .before in
-    let the-pre = c .before .before .before .before .before .before .before .before .pre in
-    (omega (arith, the-pre .near), few at-after-node-of)
-
-add-t25 : tie.Need-add-t25
-add-t25 c =
-    let back = c .before .before .before .before .before .before .before .before in
-    let back2 = back .before .before .before .before .before .before .before .before in
-    let at-after-node-of = back2 .before .before .before in
-    let the-pre = back2 .before .before .before .before .before .before .before .pre in
-    omega (arith, few at-after-node-of, the-pre .near)
-
-returns : tie.Need-returns
-returns c =
-    let back = c .before .before .before .before .before .before .before .before in
-    let back2 = back .before .before .before .before .before .before .before .before in
-    let the-node-of = back2 .before .before .before .node-of in
-    let the-values-at = back2 .before .values-at in
-    let the-fill = back .before .before .before .before .before .before .fill in
-    let the-at = back .before .at in
-    let the-at2 = c .before .before .before .before .before .before .at2 in
-    let the-push = c .before .before .before .before .push in
-    entered (the-node-of .ensures) (the-values-at .ensures) (the-fill .ensures) (the-at .ensures) (the-at2 .ensures)
-    (the-push .ensures)
-
-node-of-requires : tie.Need-node-of-requires
-node-of-requires c κs = search needs
-
-values-at-requires : tie.Need-values-at-requires
-values-at-requires c κs = search needs
-
-slice-aggregate-at : tie.Need-slice-aggregate-at
-slice-aggregate-at c = search needs
-
-cast-at : tie.Need-cast-at
-cast-at c = search needs
-
-at-requires : tie.Need-at-requires
-at-requires c κs = search needs
-
-slice-aggregate-at-2 : tie.Need-slice-aggregate-at-2
-slice-aggregate-at-2 c = search needs
-
-cast-at-2 : tie.Need-cast-at-2
-cast-at-2 c = search needs
-
-at-requires-2 : tie.Need-at-requires-2
-at-requires-2 c κs = search needs
-
-push-requires : tie.Need-push-requires
-push-requires c κs = search needs
-
-same-length : tie.Need-same-length
-same-length c = search needs
-
-same-length-2 : tie.Need-same-length-2
-same-length-2 c = search needs
+-- Past the last kind.
+beyond : tie.Need-returns-17
+unfolding nodes nodeOf
+beyond c =
+    let call = c .before .before .before .before in
+    let match = call .before .before .before .before in
+    let none = List·getD-eq-default nodes (node 0 0 0 0 0) (none-below _ 16 (match .match .rest)) in
+    entered none (match .before .values-at .ensures) (call .add-node17 .ensures)
 
 pub enter-spec : {M : Type 1} → statement M
+unfolding nodes nodeOf
 enter-spec =
     tie.close
     (tie.spec
-    node-of-requires
-    values-at-requires
-    fill-requires
-    slice-aggregate-at
-    cast-at
-    at-requires
-    slice-aggregate-at-2
-    cast-at-2
-    at-requires-2
-    push-requires
-    add-t25
-    same-length
-    same-length-2
-    returns)
+    (λ c κs. search needs)
+    (λ c κs. search needs)
+    (λ c κs. search needs)
+    (λ c κs. search needs)
+    (λ c κs. search needs)
+    (λ c κs. search needs)
+    (λ c κs. search needs)
+    (λ c κs. search needs)
+    (λ c κs. search needs)
+    (λ c κs. search needs)
+    (λ c κs. search needs)
+    (λ c κs. search needs)
+    (λ c κs. search needs)
+    (λ c κs. search needs)
+    (λ c κs. search needs)
+    (λ c κs. search needs)
+    (λ c κs. search needs)
+    (λ c κs. search needs)
+    (λ c. search needs)
+    (λ c. search needs)
+    (λ c.
+    let call = c .before .before .before .before in
+    let match = call .before .before .before .before in
+    arm (match .match .keys1) (match .before .values-at .ensures) (call .add-node .ensures))
+    (λ c. search needs)
+    (λ c. search needs)
+    (λ c.
+    let call = c .before .before .before .before in
+    let match = call .before .before .before .before in
+    arm (match .match .keys2) (match .before .values-at .ensures) (call .add-node2 .ensures))
+    (λ c. search needs)
+    (λ c. search needs)
+    (λ c.
+    let call = c .before .before .before .before in
+    let match = call .before .before .before .before in
+    arm (match .match .keys3) (match .before .values-at .ensures) (call .add-node3 .ensures))
+    (λ c. search needs)
+    (λ c. search needs)
+    (λ c.
+    let call = c .before .before .before .before in
+    let match = call .before .before .before .before in
+    arm (match .match .keys4) (match .before .values-at .ensures) (call .add-node4 .ensures))
+    (λ c. search needs)
+    (λ c. search needs)
+    (λ c.
+    let call = c .before .before .before .before in
+    let match = call .before .before .before .before in
+    arm (match .match .keys5) (match .before .values-at .ensures) (call .add-node5 .ensures))
+    (λ c. search needs)
+    (λ c. search needs)
+    (λ c.
+    let call = c .before .before .before .before in
+    let match = call .before .before .before .before in
+    arm (match .match .keys6) (match .before .values-at .ensures) (call .add-node6 .ensures))
+    (λ c. search needs)
+    (λ c. search needs)
+    (λ c.
+    let call = c .before .before .before .before in
+    let match = call .before .before .before .before in
+    arm (match .match .keys7) (match .before .values-at .ensures) (call .add-node7 .ensures))
+    (λ c. search needs)
+    (λ c. search needs)
+    (λ c.
+    let call = c .before .before .before .before in
+    let match = call .before .before .before .before in
+    arm (match .match .keys8) (match .before .values-at .ensures) (call .add-node8 .ensures))
+    (λ c. search needs)
+    (λ c. search needs)
+    (λ c.
+    let call = c .before .before .before .before in
+    let match = call .before .before .before .before in
+    arm (match .match .keys9) (match .before .values-at .ensures) (call .add-node9 .ensures))
+    (λ c. search needs)
+    (λ c. search needs)
+    (λ c.
+    let call = c .before .before .before .before in
+    let match = call .before .before .before .before in
+    arm (match .match .keys10) (match .before .values-at .ensures) (call .add-node10 .ensures))
+    (λ c. search needs)
+    (λ c. search needs)
+    (λ c.
+    let call = c .before .before .before .before in
+    let match = call .before .before .before .before in
+    arm (match .match .keys11) (match .before .values-at .ensures) (call .add-node11 .ensures))
+    (λ c. search needs)
+    (λ c. search needs)
+    (λ c.
+    let call = c .before .before .before .before in
+    let match = call .before .before .before .before in
+    arm (match .match .keys12) (match .before .values-at .ensures) (call .add-node12 .ensures))
+    (λ c. search needs)
+    (λ c. search needs)
+    (λ c.
+    let call = c .before .before .before .before in
+    let match = call .before .before .before .before in
+    arm (match .match .keys13) (match .before .values-at .ensures) (call .add-node13 .ensures))
+    (λ c. search needs)
+    (λ c. search needs)
+    (λ c.
+    let call = c .before .before .before .before in
+    let match = call .before .before .before .before in
+    arm (match .match .keys14) (match .before .values-at .ensures) (call .add-node14 .ensures))
+    (λ c. search needs)
+    (λ c. search needs)
+    (λ c.
+    let call = c .before .before .before .before in
+    let match = call .before .before .before .before in
+    arm (match .match .keys15) (match .before .values-at .ensures) (call .add-node15 .ensures))
+    (λ c. search needs)
+    (λ c. search needs)
+    (λ c.
+    let call = c .before .before .before .before in
+    let match = call .before .before .before .before in
+    arm (match .match .keys16) (match .before .values-at .ensures) (call .add-node16 .ensures))
+    (λ c. search needs)
+    (λ c. search needs)
+    beyond)

@@ -1,35 +1,65 @@
--- `emitter::row_of` meets its contract: EQUATIONS is the scheme's list of rows.
-use borrow.Author.Needs.{needs}
-use mathlib.Core.Path.{sym, ap}
-use lib.ListN.{List·getD-eq-default, List·getD-map}
+-- `emitter::row_of` meets its contract: at each arm's number the scheme's list of rows computes.
+use mathlib.Core.Path.{_≡_, sym, ap}
+use Prim.Native.Nat.{ℕ}
+use lib.ListN.{List·getD-eq-default}
+use Rattle.tables.proofs.Numbers.{none-below}
 use Rattle.agreement.specs.Scheme.{equation, rows}
 use Rattle.emitter.specs.Machine.{asRow, rowOf}
 use Rattle.emitter.proofs.row_of.Statement.{statement}
 use Rattle.emitter.proofs.row_of.Tie as tie
 
-returns : tie.Need-returns
+-- The row of the number that an arm names.
+known : {i k : ℕ} → i ≡ k → rowOf k ≡ rowOf i
+known e = sym (ap rowOf e)
+
+-- Past the end.
+beyond : tie.Need-returns-40
 unfolding rowOf
-returns c =
-    let the-args = c .before .before .args in
-    List·getD-map asRow rows (the-args .i) (equation 0 0 0 0)
-
-returns-2 : tie.Need-returns-2
-unfolding rowOf
-returns-2 c =
-    let the-if1 = c .if1 in
-    ap asRow (sym (List·getD-eq-default rows (equation 0 0 0 0) (the-if1 .left)))
-
-mul-result : tie.Need-mul-result
-mul-result c = search needs
-
-array-copy-out-result : tie.Need-array-copy-out-result
-array-copy-out-result c = search needs
+beyond c =
+    ap asRow (sym (List·getD-eq-default rows (equation 0 0 0 0) (none-below (c .before .args .i) 39 (c .match .rest))))
 
 pub row-of-spec : {M : Type 1} → statement M
+unfolding rowOf
 row-of-spec =
     tie.close
     (tie.spec
-    mul-result
-    array-copy-out-result
-    returns
-    returns-2)
+    (λ c. known (c .match .keys1))
+    (λ c. known (c .match .keys2))
+    (λ c. known (c .match .keys3))
+    (λ c. known (c .match .keys4))
+    (λ c. known (c .match .keys5))
+    (λ c. known (c .match .keys6))
+    (λ c. known (c .match .keys7))
+    (λ c. known (c .match .keys8))
+    (λ c. known (c .match .keys9))
+    (λ c. known (c .match .keys10))
+    (λ c. known (c .match .keys11))
+    (λ c. known (c .match .keys12))
+    (λ c. known (c .match .keys13))
+    (λ c. known (c .match .keys14))
+    (λ c. known (c .match .keys15))
+    (λ c. known (c .match .keys16))
+    (λ c. known (c .match .keys17))
+    (λ c. known (c .match .keys18))
+    (λ c. known (c .match .keys19))
+    (λ c. known (c .match .keys20))
+    (λ c. known (c .match .keys21))
+    (λ c. known (c .match .keys22))
+    (λ c. known (c .match .keys23))
+    (λ c. known (c .match .keys24))
+    (λ c. known (c .match .keys25))
+    (λ c. known (c .match .keys26))
+    (λ c. known (c .match .keys27))
+    (λ c. known (c .match .keys28))
+    (λ c. known (c .match .keys29))
+    (λ c. known (c .match .keys30))
+    (λ c. known (c .match .keys31))
+    (λ c. known (c .match .keys32))
+    (λ c. known (c .match .keys33))
+    (λ c. known (c .match .keys34))
+    (λ c. known (c .match .keys35))
+    (λ c. known (c .match .keys36))
+    (λ c. known (c .match .keys37))
+    (λ c. known (c .match .keys38))
+    (λ c. known (c .match .keys39))
+    beyond)

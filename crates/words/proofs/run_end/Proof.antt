@@ -4,8 +4,9 @@ use mathlib.Core.Path.{_≡_, sym, ap, _∙_}
 use Prim.Native.Nat.{_+_, _-_, _≤_}
 use native.Mathlib.Omega.{arith}
 use borrow.Author.Needs.{needs}
+use borrow.Author.Tests.{eqb-true, eqb-false, not-true, not-false}
 use lib.ListN.{length, drop}
-use Rattle.words.specs.Split.{run}
+use Rattle.words.specs.Split.{RUN, run}
 use Rattle.words.proofs.Runs.{run-past, run-stops, run-goes}
 use Rattle.words.proofs.run_end.Statement.{statement}
 use Rattle.words.proofs.run_end.Tie as tie
@@ -20,18 +21,19 @@ abbrev μ-loop : tie.MeasureT-loop
 loop-holds : tie.Need-loop-holds Inv-loop μ-loop
 loop-holds c = omega arith
 
-shared-slice-read-class : tie.Need-shared-slice-read-class Inv-loop μ-loop
-shared-slice-read-class c = omega arith
+shared-slice-read-in-run : tie.Need-shared-slice-read-in-run Inv-loop μ-loop
+shared-slice-read-in-run c = omega arith
 
-class-requires : tie.Need-class-requires Inv-loop μ-loop
-class-requires c κs = search needs
+in-run-requires : tie.Need-in-run-requires Inv-loop μ-loop
+in-run-requires c κs = search needs
 
 returns : tie.Need-returns Inv-loop μ-loop
 returns c =
     let at = c .before .before .before .before in
     let text = at .before .before .args .text .now in
     let in-text = c .before .before .before .loop-test .taken in
-    let stops = run-stops text (at .loop .end) in-text (λ x. c .if1 .taken (c .before .class .ensures ∙ x)) in
+    let in-run = sym (c .before .in-run .ensures) ∙ not-true _ (c .if1 .taken) in
+    let stops = run-stops text (at .loop .end) in-text (eqb-false _ RUN in-run) in
     omega (arith, at .loop .inv .1, ap length stops)
 
 add-end : tie.Need-add-end Inv-loop μ-loop
@@ -45,7 +47,8 @@ loop-again c =
     let at = c .before .before .before .before in
     let text = at .before .before .args .text .now in
     let in-text = c .before .before .before .loop-test .taken in
-    let goes = run-goes text (at .loop .end) in-text (sym (c .before .class .ensures) ∙ c .if1 .left) in
+    let in-run = sym (c .before .in-run .ensures) ∙ not-false _ (c .if1 .left) in
+    let goes = run-goes text (at .loop .end) in-text (eqb-true _ RUN in-run) in
     (omega arith, omega (arith, at .loop .inv .1, ap length goes))
 
 returns-2 : tie.Need-returns-2 Inv-loop μ-loop
@@ -60,8 +63,8 @@ run-end-spec =
     Inv-loop
     μ-loop
     loop-holds
-    shared-slice-read-class
-    class-requires
+    shared-slice-read-in-run
+    in-run-requires
     returns
     add-end
     loop-less

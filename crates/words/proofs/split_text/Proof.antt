@@ -1,23 +1,23 @@
 -- `words::split_text` meets its contract. The loop's invariant: the words so far are stored, and what is left of the
 -- text gives the rest. Assumes nothing.
 use mathlib.Core.List.{[]}
-use mathlib.Core.Logic.{⊎-elim}
 use mathlib.Core.Path.{_≡_, sym, _∙_}
 use Prim.Native.Nat.{_-_}
 use native.Mathlib.Omega.{arith}
 use borrow.Author.Needs.{needs}
 use lib.ListN.{length}
 use Rattle.words.specs.Split.{SPACE, words, splitOf}
+use Rattle.words.proofs.Widths.{width-some}
 use Rattle.words.proofs.Turns.{split-empty, split-long, split-words, refuses}
-use Rattle.words.proofs.Turns.{At, at-start, at-length, at-moved, at-end, skips, too-many, breaks, adds}
+use Rattle.words.proofs.Turns.{At, at-start, at-length, at-end, skips, too-many, breaks, adds}
 use Rattle.words.proofs.split_text.Statement.{statement}
 use Rattle.words.proofs.split_text.Tie as tie
 
 abbrev Inv-loop : tie.InvT-loop
-Inv-loop text out₀ previous₀ count₀ i₀ out previous count i = At text out₀ out previous count i
+Inv-loop text out₀ count₀ i₀ out count i = At text out₀ out count i
 
 abbrev μ-loop : tie.MeasureT-loop
-μ-loop text out₀ previous₀ count₀ i₀ out previous count i = length text - i
+μ-loop text out₀ count₀ i₀ out count i = length text - i
 
 returns : tie.Need-returns Inv-loop μ-loop
 returns c =
@@ -44,71 +44,7 @@ shared-slice-read-class c = c .before .loop-test .taken
 class-requires : tie.Need-class-requires Inv-loop μ-loop
 class-requires c κs = search needs
 
-begins-word-requires : tie.Need-begins-word-requires Inv-loop μ-loop
-begins-word-requires c κs = search needs
-
--- The 241st word.
-same-length : tie.Need-same-length Inv-loop μ-loop
-same-length c = at-length (c .before .before .before .before .before .before .loop .inv)
-
-returns-3 : tie.Need-returns-3 Inv-loop μ-loop
-returns-3 c =
-    let turn = c .before .before in
-    let head = turn .before .before .before .before in
-    let text = head .before .before .before .before .before .args .text .now in
-    let in-text = turn .before .before .before .loop-test .taken in
-    let class = turn .before .class in
-    let begins = sym (turn .begins-word .ensures) ∙ c .before .if3 .taken in
-    let refusal = too-many (head .loop .inv) in-text (class .result) (class .ensures) begins (c .if4 .taken) in
-    refuses text _ _ 4 (by-words (head .before) ∙ refusal)
-
-word-at-requires : tie.Need-word-at-requires Inv-loop μ-loop
-word-at-requires c κs =
-    (c .before .before .before .before .before .loop-test .taken, c .before .before .before .class .ensures)
-
--- A word that is made is stored.
-enum-known-word : tie.Need-enum-known-word Inv-loop μ-loop
-enum-known-word c = search needs
-
-mul-out : tie.Need-mul-out Inv-loop μ-loop
-mul-out c =
-    let head = c .before .before .before .before .before .before .before .before .before .before in
-    omega (arith, head .loop .inv .few)
-
-slice-write-out : tie.Need-slice-write-out Inv-loop μ-loop
-slice-write-out c =
-    let head = c .before .before .before .before .before .before .before .before .before .before in
-    let room = head .before .before .before .before .before .pre in
-    let few = c .before .before .before .before .if4 .left in
-    omega (arith, head .loop .inv .few, few, at-length (head .loop .inv), room)
-
-add-count : tie.Need-add-count Inv-loop μ-loop
-add-count c =
-    let head = c .before .before .before .before .before .before .before .before .before .before in
-    omega (arith, head .loop .inv .few)
-
--- A word that cannot be made.
-enum-known-n : tie.Need-enum-known-n Inv-loop μ-loop
-enum-known-n c = search needs
-
-same-length-2 : tie.Need-same-length-2 Inv-loop μ-loop
-same-length-2 c =
-    let head = c .before .before .before .before .before .before .before .before .before .before in
-    at-length (head .loop .inv)
-
-returns-4 : tie.Need-returns-4 Inv-loop μ-loop
-returns-4 c =
-    let turn = c .before .before .before .before .before .before in
-    let head = turn .before .before .before .before in
-    let text = head .before .before .before .before .before .args .text .now in
-    let in-text = turn .before .before .before .loop-test .taken in
-    let class = turn .before .class in
-    let begins = sym (turn .begins-word .ensures) ∙ c .before .before .before .before .before .if3 .taken in
-    let few = c .before .before .before .before .if4 .left in
-    let bad = sym (c .before .before .before .word-at .ensures) ∙ c .before .n .given .1 in
-    let refusal = breaks (head .loop .inv) in-text (class .result) (class .ensures) _ begins few bad in
-    refuses text _ _ _ (by-words (head .before) ∙ refusal)
-
+-- A space.
 add-i : tie.Need-add-i Inv-loop μ-loop
 add-i c = omega arith
 
@@ -117,19 +53,86 @@ loop-less c = omega arith
 
 loop-again : tie.Need-loop-again Inv-loop μ-loop
 loop-again c =
-    let turn = c .before in
-    let head = turn .before .before .before .before in
-    let in-text = turn .before .before .before .loop-test .taken in
-    let class = turn .before .class in
-    let told = sym (turn .begins-word .ensures) in
-    let known = head .loop .inv in
-    ⊎-elim
-    (λ w.
-    let made = sym (w .2 .ensures) ∙ w .4 .given .1 in
-    let next = adds known in-text (class .result) (class .ensures) _ (told ∙ w .0 .taken) (w .1 .left) made in
-    at-moved next (w .6) (w .7))
-    (λ w. at-moved (skips known in-text (class .result) (class .ensures) (told ∙ w .0 .left)) (w .1) (w .2))
-    (c .if3 .came)
+    let head = c .before .before .before .before in
+    let class = c .before .class in
+    skips (head .loop .inv) (c .before .before .before .loop-test .taken) (class .result) (class .ensures)
+    (c .if3 .taken)
+
+-- The 241st word.
+same-length : tie.Need-same-length Inv-loop μ-loop
+same-length c = at-length (c .before .before .before .before .before .loop .inv)
+
+returns-3 : tie.Need-returns-3 Inv-loop μ-loop
+returns-3 c =
+    let head = c .before .before .before .before .before in
+    let text = head .before .before .before .before .before .args .text .now in
+    let in-text = c .before .before .before .before .loop-test .taken in
+    let class = c .before .before .class in
+    let refusal = too-many (head .loop .inv) in-text (class .result) (class .ensures) (c .before .if3 .left) in
+    refuses text _ _ 4 (by-words (head .before) ∙ refusal (c .if4 .taken))
+
+word-at-requires : tie.Need-word-at-requires Inv-loop μ-loop
+word-at-requires c κs = (c .before .before .before .before .loop-test .taken, c .before .before .class .ensures)
+
+-- A word that is made is stored.
+enum-known-made : tie.Need-enum-known-made Inv-loop μ-loop
+enum-known-made c = search needs
+
+mul-out : tie.Need-mul-out Inv-loop μ-loop
+mul-out c =
+    let turn = c .before .before .before .before in
+    omega (arith, turn .before .before .before .before .before .loop .inv .few)
+
+slice-write-out : tie.Need-slice-write-out Inv-loop μ-loop
+slice-write-out c =
+    let turn = c .before .before .before .before in
+    let head = turn .before .before .before .before .before in
+    let room = head .before .before .before .before .before .pre in
+    omega (arith, head .loop .inv .few, turn .if4 .left, at-length (head .loop .inv), room)
+
+add-count : tie.Need-add-count Inv-loop μ-loop
+add-count c =
+    let turn = c .before .before .before .before in
+    omega (arith, turn .before .before .before .before .before .loop .inv .few)
+
+loop-less-2 : tie.Need-loop-less-2 Inv-loop μ-loop
+loop-less-2 c =
+    let turn = c .before .before .before .before in
+    let head = turn .before .before .before .before .before in
+    let text = head .before .before .before .before .before .args .text .now in
+    let in-text = turn .before .before .before .before .loop-test .taken in
+    let some = width-some text (head .loop .i) _ in-text (turn .before .before .class .ensures) in
+    omega (arith, some, in-text, c .before .before .before .word-at .ensures .1)
+
+loop-again-2 : tie.Need-loop-again-2 Inv-loop μ-loop
+loop-again-2 c =
+    let turn = c .before .before .before .before in
+    let head = turn .before .before .before .before .before in
+    let in-text = turn .before .before .before .before .loop-test .taken in
+    let class = turn .before .before .class in
+    let token = c .before .before .before .word-at .ensures in
+    adds (head .loop .inv) in-text (class .result) (class .ensures) _ _ (turn .before .if3 .left) (turn .if4 .left)
+    (sym (token .0) ∙ c .before .made .given .1) (token .1)
+
+-- A word that cannot be made.
+enum-known-made-2 : tie.Need-enum-known-made-2 Inv-loop μ-loop
+enum-known-made-2 c = search needs
+
+same-length-2 : tie.Need-same-length-2 Inv-loop μ-loop
+same-length-2 c =
+    let turn = c .before .before .before .before in
+    at-length (turn .before .before .before .before .before .loop .inv)
+
+returns-4 : tie.Need-returns-4 Inv-loop μ-loop
+returns-4 c =
+    let turn = c .before .before .before .before in
+    let head = turn .before .before .before .before .before in
+    let text = head .before .before .before .before .before .args .text .now in
+    let in-text = turn .before .before .before .before .loop-test .taken in
+    let class = turn .before .before .class in
+    let bad = sym (c .before .before .before .word-at .ensures .0) ∙ c .before .made2 .given .1 in
+    let refusal = breaks (head .loop .inv) in-text (class .result) (class .ensures) _ (turn .before .if3 .left) in
+    refuses text _ _ _ (by-words (head .before) ∙ refusal (turn .if4 .left) bad)
 
 same-length-3 : tie.Need-same-length-3 Inv-loop μ-loop
 same-length-3 c = at-length (c .before .loop .inv)
@@ -148,19 +151,20 @@ split-text-spec =
     loop-holds
     shared-slice-read-class
     class-requires
-    begins-word-requires
-    same-length
-    returns-3
-    word-at-requires
-    enum-known-word
-    mul-out
-    slice-write-out
-    add-count
-    enum-known-n
-    same-length-2
-    returns-4
     add-i
     loop-less
     loop-again
+    same-length
+    returns-3
+    word-at-requires
+    enum-known-made
+    mul-out
+    slice-write-out
+    add-count
+    loop-less-2
+    loop-again-2
+    enum-known-made-2
+    same-length-2
+    returns-4
     same-length-3
     returns-5)
