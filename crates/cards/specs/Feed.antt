@@ -51,6 +51,10 @@ leftOver s = cond (ltb longestLine (length (cut s .tail))) [] (cut s .tail)
 unfoldable pub tickFirst : List ℕ → Ticked
 tickFirst s = cond (leb (length s) 20) T.Broken (cond (eqb (getD s 20 0) lineEnd) (tickLine (take 20 s)) T.Broken)
 
+-- No tick line that could be run is left at the front of these bytes.
+abbrev pub Stops : Watch → List ℕ → Type 0
+Stops w s = 0 < w .left → tickFirst s ≡ T.Broken
+
 -- The ticks come next, and a step with these parameters has no refusal, whatever its start and signals.
 pub record Admitted (w : World) : Type 0 where
   pub phase : w .watch .phase ≡ P.Ticks

@@ -14,7 +14,7 @@ ghost use Rattle.cards.specs.Ticks.{hexOf, tickLine};
 ghost use Rattle.cards.specs.Card.{editionOf, ruling, ruled, ticking, ticked, turned, lined, worldOf, start};
 ghost use Rattle.cards.specs.Card.{sayBytes, brokenBy, endedBy, isOver, stoppedTurn, goingTurn, keeping, kept};
 ghost use Rattle.cards.specs.Lines.{line, lineFrom};
-ghost use Rattle.cards.specs.Feed.{Room, tickFirst, Admitted, fedTo, Runs, Feeds, shifted, Turns, Short};
+ghost use Rattle.cards.specs.Feed.{Room, tickFirst, Stops, Admitted, fedTo, Runs, Feeds, shifted, Turns, Short};
 ghost use Rattle.cards.specs.Feed.{Finishes, placed};
 
 // The number at a place of a line, and the place after it.
@@ -597,6 +597,7 @@ fn run_ticks(
         (now (bytes .entry)) r
         (worldOf (r .watch) (now (parameters .exit)) (now (table .exit)) (now (state .exit)) (now (values .exit)))
         (now (out .entry)) (now (out .exit)) ⌝ }
+    ensures { λ r. ⌜ (Stops (r .watch) (drop (r .used) (now (bytes .entry)))) ⌝ }
 {
     let mut w = watch;
     let mut used = 0;
@@ -636,6 +637,12 @@ fn feed_ticks(
         (now (bytes .entry)) r
         (worldOf (r .watch) (now (parameters .exit)) (now (table .exit)) (now (state .exit)) (now (values .exit)))
         (now (out .entry)) (now (out .exit)) ⌝ }
+    ensures { λ r. ⌜ (Admitted
+        (worldOf w (now (parameters .entry)) (now (table .entry)) (now (state .entry)) (now (values .entry)))
+        → Stops (r .watch) (drop (r .used) (now (bytes .entry)))) ⌝ }
+    ensures { λ r. ⌜ ((Admitted
+        (worldOf w (now (parameters .entry)) (now (table .entry)) (now (state .entry)) (now (values .entry))) → ⊥)
+        → r ≡ fedTo w 0 0) ⌝ }
 {
     let phase = w.phase;
     let Phase::Ticks = phase else {

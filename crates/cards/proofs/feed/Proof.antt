@@ -46,7 +46,7 @@ run : (c : tie.After-feed-ticks Inv-loop μ-loop) →
     (loop .used + r .result .used) (loop .at + r .result .written)
 run c =
     let inv = turn c .loop .inv in
-    ran-on (inv .0) (c .feed-ticks .ensures) (c .feed-ticks .kept .1 .1 .1 .1 .1 .1 .0)
+    ran-on (inv .0) (c .feed-ticks .ensures .0) (c .feed-ticks .kept .1 .1 .1 .1 .1 .1 .0)
 
 lengths : (c : tie.After-feed-ticks Inv-loop μ-loop) →
     let args = start c .args in

@@ -31,13 +31,15 @@ returns : tie.Need-returns Inv-loop μ-loop
 returns c =
     let inv = c .before .before .before .before .before .before .loop .inv in
     let pre = c .before .before .before .before .before .before .before .before .before .before .before .before .pre in
-    rw (c .fed-to .ensures) (runs-all (inv .0) (pre .1 .phase) (inv .1 .phase))
+    let broken = sym (c .before .before .before .tick-at .ensures) ∙ c .before .enum-told .given .1 in
+    rw (c .fed-to .ensures) (runs-all (inv .0) (pre .1 .phase) (inv .1 .phase), λ more. broken)
 
 returns-2 : tie.Need-returns-2 Inv-loop μ-loop
 returns-2 c =
     let inv = c .before .before .before .loop .inv in
     let pre = c .before .before .before .before .before .before .before .before .before .pre in
-    rw (c .fed-to2 .ensures) (runs-all (inv .0) (pre .1 .phase) (inv .1 .phase))
+    rw (c .fed-to2 .ensures)
+    (runs-all (inv .0) (pre .1 .phase) (inv .1 .phase), λ more. absurd (omega (arith, more, c .before .if1 .left)))
 
 -- A tick line, and its step.
 step-passed-requires : tie.Need-step-passed-requires Inv-loop μ-loop
