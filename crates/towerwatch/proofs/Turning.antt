@@ -18,7 +18,7 @@ use Rattle.towerwatch.specs.declared.Next.{Next}
 use Rattle.towerwatch.specs.declared.Total.{Total}
 use Rattle.towerwatch.specs.declared.Stand.{Stand}
 use Rattle.towerwatch.specs.declared.Stand.the-variants as S
-use Rattle.towerwatch.specs.Run.{isReading, Ends, On, Stands, Once, Whole}
+use Rattle.towerwatch.specs.Run.{isReading, Ends, On, Stands, Takes, Once, Whole}
 
 -- ---- after a read
 
@@ -63,13 +63,12 @@ not-reading true e = false≢true e
 not-reading false e = false≢true e
 
 -- The end of the input, after the bytes s, with r bytes printed.
-pub end-once : {k : Watch} {s old out : List ℕ} {r : ℕ} → Finishes k s r old out → (n : Next) (done : Bool)
+pub end-takes : {k : Watch} {s old out : List ℕ} {r : ℕ} → Finishes k s r old out → (n : Next) (done : Bool)
     → n .got ≡ 0 → n .shown ≡ r → n .stand ≡ cond done S.Ended S.Stuck
-    → (ps t c v : List ℕ) (w' : World) (s' : List ℕ) → Once (worldOf k ps t c v) s n w' s' out
-end-once {k} {s} {old} {out} {r} f n done g h e ps t c v w' s' =
+    → (ps t c v : List ℕ) (w' : World) (s' : List ℕ) → Takes [] (worldOf k ps t c v) s n w' s' out
+end-takes {k} {s} {old} {out} {r} f n done g h e ps t c v w' s' =
     let w = worldOf k ps t c v in
     record {
-      piece = [];
       got = sym g;
       more = λ z. absurd (not-reading done (ap isReading (sym e) ∙ z));
       shown = rw h (f .room);
@@ -104,15 +103,14 @@ piece-stands g h l true false e = record { goes = g; world = h; left = l; going 
 piece-stands g h l false over e = front-goes g
 
 -- A piece of `got` bytes, after the first `to` bytes of buf.
-pub piece-once : {w w' : World} {buf buf' old out : List ℕ} {f : Fed} (to got : ℕ)
+pub piece-takes : {w w' : World} {buf buf' old out : List ℕ} {f : Fed} (to got : ℕ)
     → Turns w buf (to + got) f w' buf' old out → to + got ≤ length buf → length buf ≤ length out → 0 < got → (n : Next) (done over : Bool)
     → n .to ≡ f .used → n .got ≡ got → n .shown ≡ f .written → over ≡ isOver (w' .watch .phase)
     → n .stand ≡ cond done (cond over S.Over S.Reading) S.Stuck
-    → Once w (take to buf) n w' (take (n .to) buf') out
-piece-once {w} {w'} {buf} {buf'} {old} {out} {f} to got t h b p n done over e g k o z =
+    → Takes (take got (drop to buf)) w (take to buf) n w' (take (n .to) buf') out
+piece-takes {w} {w'} {buf} {buf'} {old} {out} {f} to got t h b p n done over e g k o z =
     let join : take (to + got) buf ≡ take to buf ++ take got (drop to buf) = take-add to got buf in
     record {
-      piece = take got (drop to buf);
       got = length-take-le got (drop to buf) (omega (arith, length-drop to buf)) ∙ sym g;
       more = λ x. omega (arith, p, g);
       shown = rw k (t .room);
@@ -187,29 +185,32 @@ ends-both {v} {r} {s} {o} g c p S.Stuck e =
     ∙ ap (λ (l : List ℕ). take (length o + length p) l) (sym (g .tells c))
     ∙ ap (λ (i : ℕ). take i (prints start (r ++ c))) (sym (length-append o p))
 
-module _ {w w' : World} {s s' out : List ℕ} {g h : ℕ} (r : Reached w s g h) (n : Next) (o : Once w s n w' s' out) where
-  input-length : length (r .input ++ o .piece) ≡ g + n .got
+module _ {w w' : World} {s s' out : List ℕ} {g h : ℕ} (r : Reached w s g h) (n : Next) (t : Once w s n w' s' out) where
+  o : Takes (t .piece) w s n w' s' out
+  o = t .takes
+
+  input-length : length (r .input ++ t .piece) ≡ g + n .got
   input-length = simp length-append (omega (arith, r .came, o .got))
 
   output-length : length (r .output ++ take (n .shown) out) ≡ h + n .shown
   output-length = simp length-append (omega (arith, r .gone, length-take-le (n .shown) out (o .shown)))
 
   -- The program reads on.
-  on-as : (k : Stand) → isReading k ≡ true → Stands k w (s ++ o .piece) (take (n .shown) out) w' s'
-      → On w (s ++ o .piece) (take (n .shown) out) w' s'
+  on-as : (k : Stand) → isReading k ≡ true → Stands k w (s ++ t .piece) (take (n .shown) out) w' s'
+      → On w (s ++ t .piece) (take (n .shown) out) w' s'
   on-as S.Reading f e = e
   on-as S.Ended f e = absurd (false≢true f)
   on-as S.Over f e = absurd (false≢true f)
   on-as S.Stuck f e = absurd (false≢true f)
 
   module _ (e : isReading (n .stand) ≡ true) (short : length s' < 4096) where
-    on : On w (s ++ o .piece) (take (n .shown) out) w' s'
+    on : On w (s ++ t .piece) (take (n .shown) out) w' s'
     on = on-as (n .stand) e (o .stands)
 
     near : length s + n .got + 4096 * rank (w' .watch) ≤ 4096 * rank (w .watch) + length s'
     near =
-        let b = fed-near w (s ++ o .piece) (ap (λ (x : World). isOver (x .watch .phase)) (sym (on .world)) ∙ on .going) in
-        rw (on .world, on .left) (omega (arith, length-append s (o .piece), o .got, b))
+        let b = fed-near w (s ++ t .piece) (ap (λ (x : World). isOver (x .watch .phase)) (sym (on .world)) ∙ on .going) in
+        rw (on .world, on .left) (omega (arith, length-append s (t .piece), o .got, b))
 
     -- Fewer bytes may still come.
     pub fewer : n .got + budget (w' .watch) (length s') ≤ budget (w .watch) (length s)
@@ -218,9 +219,9 @@ module _ {w w' : World} {s s' out : List ℕ} {g h : ℕ} (r : Reached w s g h) 
     pub reached-on : length out ≡ 65536 → Reached w' s' (g + n .got) (h + n .shown)
     reached-on z =
         record {
-          input = r .input ++ o .piece;
+          input = r .input ++ t .piece;
           output = r .output ++ take (n .shown) out;
-          goes = goes-both (o .piece) (r .goes) (on .goes);
+          goes = goes-both (t .piece) (r .goes) (on .goes);
           came = input-length;
           gone = output-length;
           going = on .going;
@@ -229,21 +230,21 @@ module _ {w w' : World} {s s' out : List ℕ} {g h : ℕ} (r : Reached w s g h) 
         }
 
   -- It ends.
-  ends-as : (k : Stand) → isReading k ≡ false → Stands k w (s ++ o .piece) (take (n .shown) out) w' s'
-      → Ends k (prints w) (s ++ o .piece) (take (n .shown) out)
+  ends-as : (k : Stand) → isReading k ≡ false → Stands k w (s ++ t .piece) (take (n .shown) out) w' s'
+      → Ends k (prints w) (s ++ t .piece) (take (n .shown) out)
   ends-as S.Reading f e = absurd (false≢true (sym f))
   ends-as S.Ended f e = e
   ends-as S.Over f e = e
   ends-as S.Stuck f e = e
 
-  pub ends-whole : isReading (n .stand) ≡ false → (t : Total) → t .got ≡ g + n .got → t .shown ≡ h + n .shown
-      → t .stand ≡ n .stand → Whole t
-  ends-whole f t e z k =
+  pub ends-whole : isReading (n .stand) ≡ false → (u : Total) → u .got ≡ g + n .got → u .shown ≡ h + n .shown
+      → u .stand ≡ n .stand → Whole u
+  ends-whole f u e z k =
       record {
-        input = r .input ++ o .piece;
+        input = r .input ++ t .piece;
         output = r .output ++ take (n .shown) out;
         got = input-length ∙ sym e;
         shown = output-length ∙ sym z;
         ends =
-            rw k (ends-both (r .goes) (o .piece) (take (n .shown) out) (n .stand) (ends-as (n .stand) f (o .stands)));
+            rw k (ends-both (r .goes) (t .piece) (take (n .shown) out) (n .stand) (ends-as (n .stand) f (o .stands)));
       }

@@ -41,15 +41,19 @@ Stands S.Ended w s o w' s' = Ends S.Ended (prints w) s o
 Stands S.Over w s o w' s' = Ends S.Over (prints w) s o
 Stands S.Stuck w s o w' s' = Ends S.Stuck (prints w) s o
 
--- One turn from w, with the bytes s left over: a piece comes in, or nothing at the end of the input, and the front of
--- out is handed to the write.
-pub record Once (w : World) (s : List ℕ) (r : Next) (w' : World) (s' out : List ℕ) : Type 0 where
-  pub piece : List ℕ
-  pub got : length piece ≡ r .got
+-- One turn from w, with the bytes s left over: the piece c comes in, or nothing at the end of the input, and the front
+-- of out is handed to the write.
+pub record Takes (c : List ℕ) (w : World) (s : List ℕ) (r : Next) (w' : World) (s' out : List ℕ) : Type 0 where
+  pub got : length c ≡ r .got
   pub more : isReading (r .stand) ≡ true → 0 < r .got
   pub shown : r .shown ≤ length out
   pub room : r .got ≤ length out
-  pub stands : Stands (r .stand) w (s ++ piece) (take (r .shown) out) w' s'
+  pub stands : Stands (r .stand) w (s ++ c) (take (r .shown) out) w' s'
+
+-- The same of whatever piece a read brings.
+pub record Once (w : World) (s : List ℕ) (r : Next) (w' : World) (s' out : List ℕ) : Type 0 where
+  pub piece : List ℕ
+  pub takes : Takes piece w s r w' s' out
 
 -- A whole run: the bytes that came in, and those that were handed to the write, which are what the definition of a
 -- card's output says of them.

@@ -6,13 +6,13 @@ use cards::Watch;
 use libc::STDIN_FILENO;
 use libc::STDOUT_FILENO;
 ghost use mathlib.Core.Bool.{cond};
-ghost use mathlib.Core.List.{List};
+ghost use mathlib.Core.List.{List, []};
 ghost use mathlib.Core.Path.{_≡_};
 ghost use Prim.Native.Nat.{ℕ, _+_, _≤_, _<_};
-ghost use lib.ListN.{length, take};
+ghost use lib.ListN.{length, take, drop};
 ghost use Rattle.cards.specs.Card.{World, worldOf, start};
 ghost use Rattle.cards.specs.Feed.{Ready};
-ghost use Rattle.towerwatch.specs.Run.{isReading, Once, Whole};
+ghost use Rattle.towerwatch.specs.Run.{isReading, Takes, Once, Whole};
 
 // How the program stands after a turn.
 enum Stand {
@@ -98,11 +98,12 @@ fn reads_on(stand: Stand) -> bool
     }
 }
 
-// The end of the input, with the first `to` bytes of buf left over: what they print, whatever the lent arrays hold.
-fn end(watch: Watch, buf: &[u8], to: usize, out: &mut [u8]) -> Next
-    requires { ⌜ Ready (now buf) to (now out) ⌝ }
+// The end of the input, where no byte came in and the first `to` bytes of buf are left over: what they print, whatever the
+// lent arrays hold.
+fn end(watch: Watch, buf: &[u8], to: usize, got: usize, out: &mut [u8]) -> Next
+    requires { ⌜ Ready (now buf) to (now out) × (got ≡ 0) ⌝ }
     ensures { λ r. ⌜ (r .to ≡ 0) × ((ps t c v : List ℕ) (w : World) (s : List ℕ) →
-        Once (worldOf watch ps t c v) (take to (now (buf .entry))) r w s (now (out .exit))) ⌝ }
+        Takes [] (worldOf watch ps t c v) (take to (now (buf .entry))) r w s (now (out .exit))) ⌝ }
 {
     let at = cards::finish(watch, buf, to, out);
     let last = show(out, at);
@@ -110,7 +111,7 @@ fn end(watch: Watch, buf: &[u8], to: usize, out: &mut [u8]) -> Next
     Next {
         watch: watch,
         to: 0,
-        got: 0,
+        got: got,
         shown: last.count,
         stand: stand,
     }
@@ -130,7 +131,7 @@ fn piece(
 ) -> Next
     requires { ⌜ Ready (now buf) to (now out) × (to + got ≤ length (now buf)) × (0 < got) ⌝ }
     ensures { λ r. ⌜ Ready (now (buf .exit)) (r .to) (now (out .exit)) ⌝ }
-    ensures { λ r. ⌜ Once
+    ensures { λ r. ⌜ Takes (take got (drop to (now (buf .entry))))
         (worldOf watch (now (parameters .entry)) (now (table .entry)) (now (state .entry)) (now (values .entry)))
         (take to (now (buf .entry))) r
         (worldOf (r .watch) (now (parameters .exit)) (now (table .exit)) (now (state .exit)) (now (values .exit)))
@@ -173,7 +174,7 @@ fn once(
 {
     let got = fill(buf, to);
     if got == 0 {
-        return end(watch, buf, to, out);
+        return end(watch, buf, to, got, out);
     }
     piece(watch, buf, to, got, parameters, table, state, values, out)
 }

@@ -1,7 +1,7 @@
 -- `towerwatch::end` meets its contract. Assumes nothing.
 use mathlib.Core.Path.{refl}
 use borrow.Author.Needs.{needs}
-use Rattle.towerwatch.proofs.Turning.{end-once}
+use Rattle.towerwatch.proofs.Turning.{end-takes}
 use Rattle.towerwatch.proofs.end.Statement.{statement}
 use Rattle.towerwatch.proofs.end.Tie as tie
 
@@ -9,7 +9,8 @@ returns : tie.Need-returns
 returns c =
     let shown = c .before .show in
     let finish = c .before .before .before .before .before .finish in
-    (refl, end-once (finish .ensures) _ (shown .result .done) refl (shown .ensures) (c .ended .ensures))
+    let entry = c .before .before .before .before .before .before .before .before .before in
+    (refl, end-takes (finish .ensures) _ (shown .result .done) (entry .pre .1) (shown .ensures) (c .ended .ensures))
 
 pub end-spec : {M : Type 1} → statement M
 end-spec =

@@ -4,7 +4,7 @@ use mathlib.Core.Path.{_≡_, refl}
 use native.Mathlib.Omega.{arith}
 use borrow.Author.Needs.{needs}
 use lib.ListN.{length}
-use Rattle.towerwatch.proofs.Turning.{piece-once}
+use Rattle.towerwatch.proofs.Turning.{piece-takes}
 use Rattle.towerwatch.proofs.piece.Statement.{statement}
 use Rattle.towerwatch.proofs.piece.Tie as tie
 
@@ -25,7 +25,7 @@ returns c =
         size = omega (arith, b, pre .0 .size);
         room = omega (arith, b, o, pre .0 .room);
       },
-      piece-once (entry .args .to) (entry .args .got) (turn .ensures) (pre .1)
+      piece-takes (entry .args .to) (entry .args .got) (turn .ensures) (pre .1)
           (omega (arith, o, pre .0 .room)) (pre .2) _ (shown .result .done)
           (over .result) refl refl (shown .ensures) (over .ensures) (c .going .ensures),
     )

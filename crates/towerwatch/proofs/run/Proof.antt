@@ -60,13 +60,13 @@ add-got : tie.Need-add-got Inv-loop μ-loop
 add-got c =
     let turn = c .before .before .before .before .before .before .before .before .before .before in
     let reached = turn .before .before .before .before .before .before .before .loop .inv .1 in
-    omega (arith, reached .read, turn .once .ensures .1 .room, room turn)
+    omega (arith, reached .read, turn .once .ensures .1 .takes .room, room turn)
 
 add-shown : tie.Need-add-shown Inv-loop μ-loop
 add-shown c =
     let turn = c .before .before .before .before .before .before .before .before .before .before in
     let reached = turn .before .before .before .before .before .before .before .loop .inv .1 in
-    omega (arith, reached .written, turn .once .ensures .1 .shown, room turn)
+    omega (arith, reached .written, turn .once .ensures .1 .takes .shown, room turn)
 
 returns : tie.Need-returns Inv-loop μ-loop
 returns c =
@@ -80,7 +80,7 @@ loop-less c =
     let reached = turn .before .before .before .before .before .before .before .loop .inv .1 in
     let once = turn .once .ensures in
     let on = sym (c .before .before .reads-on .ensures) ∙ not-false _ (c .before .if1 .left) in
-    omega (arith, fewer reached _ (once .1) on (once .0 .short .below), once .1 .more on)
+    omega (arith, fewer reached _ (once .1) on (once .0 .short .below), once .1 .takes .more on)
 
 loop-again : tie.Need-loop-again Inv-loop μ-loop
 loop-again c =
