@@ -25,7 +25,7 @@ static double seconds(void) {
             double each = (seconds() - begin) / (turns);                         \
             if (each < least) least = each;                                      \
         }                                                                        \
-        printf("%-52s %10.1f microseconds\n", what, least * 1e6);               \
+        printf("%-52s %10.2f microseconds\n", what, least * 1e6);               \
     } while (0)
 
 int main(void) {
@@ -38,6 +38,9 @@ int main(void) {
     TIME("read and compile it", 200, towerwatch_compile(bytes, length, table, 16384));
     TIME("the same in hand-written C", 200, compiler_compile(bytes, length, table, 16384));
     TIME("compare it with itself", 200, towerwatch_same_rule(bytes, length, bytes, length));
+    const uint8_t *brief = (const uint8_t *)"kept[s0] then end[s1]";
+    TIME("read and compile a rule of 9 words", 5000, towerwatch_compile(brief, 21, table, 16384));
+    TIME("the same in hand-written C", 5000, compiler_compile(brief, 21, table, 16384));
 
     /* a table of 4,096 equations with long lines: a signal, a count, then comparisons and gates */
     memset(table, 0, sizeof table);
