@@ -1,0 +1,2 @@
+-- The numbers that several crates name.
+pub mod Limits
