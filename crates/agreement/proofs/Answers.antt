@@ -15,15 +15,16 @@ use Rattle.formulas.specs.Meaning.{verdict}
 use Rattle.formulas.specs.Tree.{leads}
 use Rattle.formulas.specs.Bounds.{bounded}
 use Rattle.formulas.specs.Raw.{raw}
-use Rattle.tables.specs.Table.{equationLimit, literalCount, signalCount, checked}
-use Rattle.tables.specs.Flow.{freshState}
-use Rattle.tables.specs.Step.{AfterFresh, afterFresh, freshChecked, freshened}
-use Rattle.tables.specs.Run.{Call, flowAt, verdictAt, answers, ticks, expected}
-use Rattle.tables.specs.Lustre.{Lustre}
+use Rattle.limits.specs.Limits.{equationLimit, literalCount, signalCount}
+use Rattle.tables.specs.Table.{checked}
+use Rattle.flows.specs.Flow.{freshState}
+use Rattle.flows.specs.Step.{AfterFresh, afterFresh, freshChecked, freshened}
+use Rattle.flows.specs.Run.{Call, flowAt, verdictAt, answers, ticks, expected}
+use Rattle.flows.specs.Lustre.{Lustre}
 use Rattle.tables.specs.declared.Checked.the-variants.{Passed}
-use Rattle.tables.specs.declared.Fresh.the-variants.{Made}
+use Rattle.flows.specs.declared.Fresh.the-variants.{Made}
 use Rattle.tables.proofs.Checks.{passed-both}
-use Rattle.tables.proofs.Runs.{lustre, calls}
+use Rattle.flows.proofs.Runs.{lustre, calls}
 use Rattle.agreement.specs.Emit.{names, numbersOf}
 use Rattle.agreement.specs.Agreement.{SameParameters, traceOfTicks}
 use Rattle.agreement.proofs.Parts.{observerOver}

@@ -14,7 +14,8 @@ use Rattle.formulas.specs.Formula.Num.{literal, parameter}
 use Rattle.formulas.specs.Meaning.{value, each, tally, streak}
 use Rattle.formulas.specs.Bounds.{numBound}
 use Rattle.formulas.specs.Arena.{numKind, numValue}
-use Rattle.tables.specs.Table.{kindOf, parameterCount}
+use Rattle.tables.specs.Table.{kindOf}
+use Rattle.limits.specs.Limits.{parameterCount}
 use Rattle.agreement.specs.Scheme.{_⊕_, equation}
 use Rattle.agreement.specs.Emit.{begin-es, point-es, kept-es, held-es, len-es, sum-es, age-es}
 use Rattle.agreement.proofs.Offsets.{longer, each-last, tally-last, streak-single}

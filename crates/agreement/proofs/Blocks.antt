@@ -12,7 +12,8 @@ use Rattle.formulas.specs.Formula.Count.{sum, age}
 use Rattle.formulas.specs.Formula.Formula.{test, len, count, neg, and, or, then}
 use Rattle.formulas.specs.Bounds.{bounded, numBound}
 use Rattle.formulas.specs.Raw.{rawP, raw}
-use Rattle.tables.specs.Table.{Equation, literalCount}
+use Rattle.tables.specs.Table.{Equation}
+use Rattle.limits.specs.Limits.{literalCount}
 use Rattle.tables.specs.declared.Sort.the-variants.{Boolean}
 use Rattle.agreement.specs.Scheme.{_⊕_}
 use Rattle.agreement.specs.Emit.{Block, after, emitP, emit, namesP, names, join-block, not-es, and-es, or-es}

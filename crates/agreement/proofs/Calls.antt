@@ -8,13 +8,14 @@ use lib.Dec.{leb}
 use lib.ListN.{length, getD}
 use borrow.Author.Tests.{ltb-true}
 use Rattle.traces.specs.declared.Tick.{Tick}
-use Rattle.tables.specs.Table.{all, parameterCount}
-use Rattle.tables.specs.Step.{parameterFits}
-use Rattle.tables.specs.Run.{Call, callChecked, admits, tickIf, ticks, nextIf, verdictIf, expected}
+use Rattle.tables.specs.Table.{all}
+use Rattle.limits.specs.Limits.{parameterCount}
+use Rattle.flows.specs.Step.{parameterFits}
+use Rattle.flows.specs.Run.{Call, callChecked, admits, tickIf, ticks, nextIf, verdictIf, expected}
 use Rattle.tables.specs.declared.Checked.{Checked}
 use Rattle.tables.specs.declared.Checked.the-variants.{Passed, Refused as Failed}
-use Rattle.tables.specs.declared.Stepped.{Stepped}
-use Rattle.tables.specs.declared.Stepped.the-variants.{Refused}
+use Rattle.flows.specs.declared.Stepped.{Stepped}
+use Rattle.flows.specs.declared.Stepped.the-variants.{Refused}
 use Rattle.tables.proofs.Tests.{all-at}
 use Rattle.agreement.specs.Agreement.{SameParameters, traceOfTicks}
 use Rattle.agreement.specs.Agreement.SameParameters.{none, more}

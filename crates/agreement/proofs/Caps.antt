@@ -8,7 +8,7 @@ use native.Mathlib.Omega.{arith}
 use borrow.Author.Tests.{lt-leb, le-leb, lt-ltb, le-ltb, ne-eqb}
 use Rattle.traces.specs.Compare.{Op, compares}
 use Rattle.traces.specs.Compare.Op.{le, lt, eq, gt, ge}
-use Rattle.tables.specs.Flow.{increased}
+use Rattle.flows.specs.Flow.{increased}
 
 -- What a comparison says of every number above n.
 abbrev above : Op → Bool

@@ -9,7 +9,8 @@ use Rattle.formulas.specs.Formula.{Formula}
 use Rattle.formulas.specs.Bounds.{bounded}
 use Rattle.formulas.specs.Raw.{raw}
 use Rattle.tables.specs.Table.{Equation, kindOf, kindAt, shapeOf, sortOf, sameSort, shapeFits, operandFits}
-use Rattle.tables.specs.Table.{equationFits, equationLimit, literalCount, signalCount, checked, all}
+use Rattle.tables.specs.Table.{equationFits, checked, all}
+use Rattle.limits.specs.Limits.{equationLimit, literalCount, signalCount}
 use Rattle.tables.specs.declared.Sort.the-variants.{Boolean}
 use Rattle.tables.specs.declared.Checked.the-variants.{Passed}
 use Rattle.tables.proofs.Tests.{all-of}

@@ -12,7 +12,8 @@ use Rattle.formulas.specs.Formula.Prop.{constant, signal, negP, andP, orP}
 use Rattle.formulas.specs.Formula.Formula.{test, len, count, neg, and, or, then}
 use Rattle.formulas.specs.Bounds.{bounded, numBound}
 use Rattle.formulas.specs.Raw.{rawP, raw}
-use Rattle.tables.specs.Table.{Equation, kindOf, shapeOf, shapeFits, operandFits, signalCount}
+use Rattle.tables.specs.Table.{Equation, kindOf, shapeOf, shapeFits, operandFits}
+use Rattle.limits.specs.Limits.{signalCount}
 use Rattle.agreement.specs.Scheme.{_⊕_, equation}
 use Rattle.agreement.specs.Emit.{after, namesP, names, signals, places}
 use Rattle.agreement.proofs.Offsets.{suc-⊕}

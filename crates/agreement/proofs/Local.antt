@@ -12,10 +12,10 @@ use Rattle.traces.proofs.Laws.{nonzero-truth, truth-nonzero}
 use Rattle.tables.specs.Table.{Equation, equationAt, Kind, kindOf, kindAt, shapeOf, sortOf, sameSort}
 use Rattle.tables.specs.Table.Kind.{signal, start, constant, negation, conjunction, disjunction, booleanPre}
 use Rattle.tables.specs.Table.Kind.{countPre, capped, ifElse, compareLiteral, compareParameter, unknown}
-use Rattle.tables.specs.Flow.{increased, valueOf, initial, inRange}
+use Rattle.flows.specs.Flow.{increased, valueOf, initial, inRange}
 use Rattle.tables.specs.declared.Sort.{Sort}
 use Rattle.tables.specs.declared.Sort.the-variants.{Boolean, Count}
-use Rattle.tables.specs.Lustre.{arrowPre, Lustre}
+use Rattle.flows.specs.Lustre.{arrowPre, Lustre}
 use Rattle.agreement.specs.Emit.{numbersOf}
 use Rattle.agreement.proofs.Offsets.{zero-⊕}
 use Rattle.agreement.proofs.Places.{Each, each-from, equation-at}

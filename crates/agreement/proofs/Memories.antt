@@ -16,7 +16,7 @@ use Rattle.formulas.specs.Arena.{numKind}
 use Rattle.formulas.specs.Tree.{nodes}
 use Rattle.formulas.specs.Raw.{raw}
 use Rattle.tables.specs.Table.{Equation, kindOf, kindAt}
-use Rattle.tables.specs.Flow.{isMemory}
+use Rattle.tables.specs.Table.{isMemory}
 use Rattle.agreement.specs.Scheme.{_⊕_, equation}
 use Rattle.agreement.specs.Emit.{after, emitP, emit, names, flowIn, signals, header, whole-es, body, observer}
 use Rattle.agreement.specs.Emit.{numbersOf}

@@ -18,7 +18,8 @@ use Rattle.formulas.specs.Tree.{lead, leads}
 use Rattle.formulas.specs.Bounds.{bounded, numBound}
 use Rattle.formulas.specs.Raw.{rawP, raw}
 use Rattle.formulas.proofs.Meaning.{lead-falls}
-use Rattle.tables.specs.Table.{Equation, kindOf, parameterCount}
+use Rattle.tables.specs.Table.{Equation, kindOf}
+use Rattle.limits.specs.Limits.{parameterCount}
 use Rattle.agreement.specs.Scheme.{_⊕_}
 use Rattle.agreement.specs.Emit.{Block, after, emitP, emit, namesP, names, lead-end-es, then-es}
 use Rattle.agreement.specs.Emit.{begin-es, point-es, kept-es, held-es, sum-es, age-es}

@@ -12,8 +12,9 @@ use Rattle.formulas.specs.Formula.{Num}
 use Rattle.formulas.specs.Formula.Num.{literal, parameter}
 use Rattle.formulas.specs.Arena.{numKind, numValue}
 use Rattle.formulas.specs.Bounds.{numBound}
-use Rattle.tables.specs.Table.{all, Equation, kindOf, kindAt, shapeOf, sortOf, sameSort, truthCount, opCount}
-use Rattle.tables.specs.Table.{literalCount, parameterCount}
+use Rattle.tables.specs.Table.{all, Equation, kindOf, kindAt, shapeOf, sortOf, sameSort}
+use Rattle.limits.specs.Limits.{truthCount, opCount}
+use Rattle.limits.specs.Limits.{literalCount, parameterCount}
 use Rattle.tables.specs.declared.Sort.the-variants.{Boolean}
 use Rattle.agreement.specs.Scheme.{_⊕_, fill, values}
 use Rattle.agreement.specs.Emit.{constant-es, not-es, and-es, or-es, begin-es, point-es, kept-es, held-es}

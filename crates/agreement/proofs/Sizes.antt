@@ -14,7 +14,8 @@ use Rattle.formulas.specs.Formula.Count.{sum, age}
 use Rattle.formulas.specs.Formula.Formula.{test, len, count, neg, and, or, then}
 use Rattle.formulas.specs.Arena.{flat}
 use Rattle.formulas.specs.Raw.{rawP, raw}
-use Rattle.tables.specs.Table.{Equation, equationLimit}
+use Rattle.tables.specs.Table.{Equation}
+use Rattle.limits.specs.Limits.{equationLimit}
 use Rattle.agreement.specs.Scheme.{_⊕_, equation}
 use Rattle.agreement.specs.Emit.{after, emitP, emit, names, flowIn, signals, header, whole-es, body, observer}
 use Rattle.agreement.proofs.Header.{signals-length}

@@ -11,8 +11,9 @@ use Rattle.formulas.specs.Tree.{nodes, leads}
 use Rattle.formulas.specs.Bounds.{bounded}
 use Rattle.formulas.specs.Arena.{flat}
 use Rattle.formulas.specs.Raw.{raw}
-use Rattle.tables.specs.Table.{equationLimit, signalCount, checked}
-use Rattle.tables.specs.Step.{AfterFresh}
+use Rattle.limits.specs.Limits.{equationLimit, signalCount}
+use Rattle.tables.specs.Table.{checked}
+use Rattle.flows.specs.Step.{AfterFresh}
 use Rattle.tables.specs.declared.Checked.the-variants.{Passed}
 use Rattle.agreement.specs.Emit.{names, observer, numbersOf}
 use Rattle.agreement.specs.Agreement.{Observes}

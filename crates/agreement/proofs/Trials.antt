@@ -12,10 +12,12 @@ use Rattle.formulas.specs.Arena.{flat}
 use Rattle.formulas.specs.Raw.{raw}
 use Rattle.tables.specs.Table.{all, kindOf, shapeOf, sameSort, isFlow, operandFits, shapeFits, lengthFits}
 use Rattle.tables.specs.Table.{equationsFit}
-use Rattle.tables.specs.Flow.{standardCap, increased, valueOf, flows, isMemory, written, initial, inRange}
-use Rattle.tables.specs.Step.{parameterFits, cellFits, freshChecked, stepChecked, freshened, afterTick, stepped}
-use Rattle.tables.specs.Run.{answers}
-use Rattle.tables.specs.declared.Stepped.the-variants.{Verdict}
+use Rattle.limits.specs.Limits.{standardCap}
+use Rattle.flows.specs.Flow.{increased, valueOf, flows, written, initial, inRange}
+use Rattle.tables.specs.Table.{isMemory}
+use Rattle.flows.specs.Step.{parameterFits, cellFits, freshChecked, stepChecked, freshened, afterTick, stepped}
+use Rattle.flows.specs.Run.{answers}
+use Rattle.flows.specs.declared.Stepped.the-variants.{Verdict}
 use Rattle.agreement.specs.Trials.{Trial, trials, meant, ran}
 
 pub trials-meant : map meant trials ≡ map (λ (r : Trial). r .verdicts) trials

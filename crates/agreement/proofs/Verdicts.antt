@@ -12,8 +12,9 @@ use Rattle.formulas.specs.Meaning.{meaning, since, verdict}
 use Rattle.formulas.specs.Tree.{leads}
 use Rattle.formulas.specs.Bounds.{bounded}
 use Rattle.formulas.specs.Raw.{raw}
-use Rattle.tables.specs.Table.{kindOf, parameterCount}
-use Rattle.tables.specs.Lustre.{Lustre}
+use Rattle.tables.specs.Table.{kindOf}
+use Rattle.limits.specs.Limits.{parameterCount}
+use Rattle.flows.specs.Lustre.{Lustre}
 use Rattle.agreement.specs.Scheme.{_⊕_}
 use Rattle.agreement.specs.Emit.{names, whole-es, numbersOf}
 use Rattle.agreement.proofs.Offsets.{zero-⊕}

@@ -10,11 +10,11 @@ use Rattle.traces.specs.Trace.{Trace, traceOf}
 use Rattle.formulas.specs.Formula.{Formula}
 use Rattle.formulas.specs.Meaning.{verdict}
 use Rattle.tables.specs.Table.{kindAt, checked}
-use Rattle.tables.specs.Flow.{isMemory}
-use Rattle.tables.specs.Step.{freshened}
-use Rattle.tables.specs.Run.{Call, answers, ticks, expected}
+use Rattle.tables.specs.Table.{isMemory}
+use Rattle.flows.specs.Step.{freshened}
+use Rattle.flows.specs.Run.{Call, answers, ticks, expected}
 use Rattle.tables.specs.declared.Checked.the-variants.{Passed}
-use Rattle.tables.specs.declared.Fresh.the-variants.{Made}
+use Rattle.flows.specs.declared.Fresh.the-variants.{Made}
 
 -- "only the eight parameters are the same at all steps that are not refused"
 pub data SameParameters (ps : List ℕ) : List Tick → Type 0 where

@@ -13,10 +13,10 @@ use Rattle.formulas.specs.Formula.Test.{begin, end, point, held, kept}
 use Rattle.formulas.specs.Formula.Count.{sum, age}
 use Rattle.formulas.specs.Formula.Formula.{test, len, count, neg, then}
 use Rattle.formulas.specs.Meaning.{verdict}
-use Rattle.tables.specs.Flow.{standardCap}
-use Rattle.tables.specs.Step.{freshened}
-use Rattle.tables.specs.Run.{answers}
-use Rattle.tables.specs.declared.Stepped.{Stepped}
+use Rattle.limits.specs.Limits.{standardCap}
+use Rattle.flows.specs.Step.{freshened}
+use Rattle.flows.specs.Run.{answers}
+use Rattle.flows.specs.declared.Stepped.{Stepped}
 use Rattle.agreement.specs.Emit.{observer, numbersOf}
 use Rattle.agreement.specs.Agreement.{traceOfTicks}
 

@@ -11,7 +11,8 @@ use borrow.Author.Tests.{eqb-false, ltb-false}
 use Rattle.cards.specs.Numbers.{Listed, parametersOf, countOf}
 use Rattle.cards.specs.Numbers.Listed.{are, broken}
 use Rattle.cards.specs.Lines.{longestLine, Cut, cut, pushOn, push}
-use Rattle.cards.specs.Card.{World, worldOf, Turned, stop, brokenBy, isOver, editionOf, ruled, ticked, lined, linedIn}
+use Rattle.cards.specs.Card.{World, worldOf, Turned, stop, brokenBy, isOver, editionOf, ruled, ticked, lined}
+use Rattle.cards.specs.Card.{linedIn}
 use Rattle.cards.specs.Card.{afterEdition, afterParameters, afterRuled, afterCount, afterSaid, inTicks}
 use Rattle.cards.specs.Feed.{afterLines, afterTail, fedWorld, leftOver}
 use Rattle.cards.specs.declared.Watch.{Watch}

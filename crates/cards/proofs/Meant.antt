@@ -17,17 +17,18 @@ use Rattle.words.specs.Split.Out.{made}
 use Rattle.formulas.specs.Formula.{Formula}
 use Rattle.formulas.specs.Meaning.{verdict}
 use Rattle.formulas.specs.Tree.{Tree, nodes, formulaOf}
-use Rattle.tables.specs.Table.{Equation, all, parameterCount}
-use Rattle.tables.specs.Flow.{standardCap}
-use Rattle.tables.specs.Step.{After, freshened, stepped, stepChecked, steppedIf, afterTick as tickAfter, parameterFits}
-use Rattle.tables.specs.Run.{Call, answers, callChecked, ticks, expected}
+use Rattle.tables.specs.Table.{Equation, all}
+use Rattle.limits.specs.Limits.{parameterCount}
+use Rattle.limits.specs.Limits.{standardCap}
+use Rattle.flows.specs.Step.{After, freshened, stepped, stepChecked, steppedIf, afterTick as tickAfter, parameterFits}
+use Rattle.flows.specs.Run.{Call, answers, callChecked, ticks, expected}
 use Rattle.tables.specs.declared.Checked.{Checked}
 use Rattle.tables.specs.declared.Checked.the-variants.{Passed, Refused as Failed}
-use Rattle.tables.specs.declared.Fresh.the-variants as F
-use Rattle.tables.specs.declared.Stepped.{Stepped}
-use Rattle.tables.specs.declared.Stepped.the-variants as S
+use Rattle.flows.specs.declared.Fresh.the-variants as F
+use Rattle.flows.specs.declared.Stepped.{Stepped}
+use Rattle.flows.specs.declared.Stepped.the-variants as S
 use Rattle.tables.proofs.Tests.{all-of}
-use Rattle.tables.proofs.Buffers.{length-flows}
+use Rattle.flows.proofs.Buffers.{length-flows}
 use Rattle.agreement.specs.Emit.{observer, numbersOf}
 use Rattle.agreement.specs.Agreement.{Observes, SameParameters, traceOfTicks}
 use Rattle.agreement.specs.Agreement.SameParameters.{none as same-none, more as same-more}

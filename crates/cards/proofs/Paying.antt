@@ -8,8 +8,8 @@ use native.Mathlib.Omega.{arith}
 use lib.Dec.{eqb, ltb}
 use lib.ListN.{length}
 use borrow.Author.Tests.{eqb-true}
-use Rattle.tables.specs.Flow.{standardCap}
-use Rattle.tables.specs.Step.{stepped}
+use Rattle.limits.specs.Limits.{standardCap}
+use Rattle.flows.specs.Step.{stepped}
 use Rattle.cards.specs.Numbers.{Listed, parametersOf, countOf}
 use Rattle.cards.specs.Numbers.Listed.{are, broken}
 use Rattle.cards.specs.Ticks.{tickLine}

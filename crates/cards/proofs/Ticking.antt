@@ -8,11 +8,11 @@ use native.Mathlib.Omega.{arith}
 use lib.Dec.{eqb, ltb, leb}
 use lib.ListN.{length, getD, take, drop, length-drop}
 use borrow.Author.Tests.{eqb-true, ltb-false, leb-false, ne-eqb, le-ltb}
-use Rattle.tables.specs.Flow.{standardCap}
-use Rattle.tables.specs.Step.{After, after, parameterFits, stepChecked, stepped}
+use Rattle.limits.specs.Limits.{standardCap}
+use Rattle.flows.specs.Step.{After, after, parameterFits, stepChecked, stepped}
 use Rattle.tables.specs.declared.Checked.the-variants.{Passed}
-use Rattle.tables.specs.declared.Stepped.the-variants as S
-use Rattle.tables.proofs.Runs.{step-on}
+use Rattle.flows.specs.declared.Stepped.the-variants as S
+use Rattle.flows.proofs.Runs.{step-on}
 use Rattle.cards.specs.Ticks.{hexOf, hexes, tickLine}
 use Rattle.cards.specs.Lines.{line}
 use Rattle.cards.specs.Card.{World, worldOf, Turned, watchAt, tickOf, ticked, lined, sayBytes}

@@ -10,12 +10,12 @@ use Rattle.traces.specs.declared.Tick.{Tick}
 use Rattle.observers.specs.Compile.{AfterCompile, compiled}
 use Rattle.observers.specs.declared.Compiled.{Compiled}
 use Rattle.observers.specs.declared.Compiled.the-variants as C
-use Rattle.tables.specs.Flow.{standardCap}
-use Rattle.tables.specs.Step.{AfterFresh, freshened, After, stepped}
-use Rattle.tables.specs.declared.Fresh.{Fresh}
-use Rattle.tables.specs.declared.Fresh.the-variants as F
-use Rattle.tables.specs.declared.Stepped.{Stepped}
-use Rattle.tables.specs.declared.Stepped.the-variants as S
+use Rattle.limits.specs.Limits.{standardCap}
+use Rattle.flows.specs.Step.{AfterFresh, freshened, After, stepped}
+use Rattle.flows.specs.declared.Fresh.{Fresh}
+use Rattle.flows.specs.declared.Fresh.the-variants as F
+use Rattle.flows.specs.declared.Stepped.{Stepped}
+use Rattle.flows.specs.declared.Stepped.the-variants as S
 use Rattle.cards.specs.Numbers.{starts, Listed, parametersOf, countOf}
 use Rattle.cards.specs.Numbers.Listed.{are, broken}
 use Rattle.cards.specs.Ticks.{tickLine}

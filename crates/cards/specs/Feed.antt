@@ -5,8 +5,8 @@ use mathlib.Core.Path.{_≡_}
 use Prim.Native.Nat.{ℕ, _+_, _-_, _≤_, _<_}
 use lib.Dec.{ltb, leb, eqb}
 use lib.ListN.{length, take, drop, getD}
-use Rattle.tables.specs.Flow.{standardCap}
-use Rattle.tables.specs.Step.{stepChecked}
+use Rattle.limits.specs.Limits.{standardCap}
+use Rattle.flows.specs.Step.{stepChecked}
 use Rattle.tables.specs.declared.Checked.the-variants.{Passed}
 use Rattle.cards.specs.Card.{World, worldOf, tickOf, brokenBy, stop, lined, prints}
 use Rattle.cards.specs.Ticks.{tickLine}

@@ -1,10 +1,10 @@
 // Cards: what each line of a card says, the line machine, and the feeder that takes a card piece by piece. What a card
 // prints is defined in specs/Card.antt, what a piece of it does in specs/Feed.antt. The sentences quoted are
 // document 01's, from "towerwatch".
+use flows::Fresh;
+use flows::Stepped;
 use observers::Compiled;
 use tables::Checked;
-use tables::Fresh;
-use tables::Stepped;
 use traces::Tick;
 ghost use mathlib.Core.Path.{_≡_};
 ghost use Prim.Native.Nat.{_+_, _-_, _≤_, _<_};
@@ -294,7 +294,7 @@ fn rule_line(s: &[u8], table: &mut [u32], state: &mut [u32]) -> Ruled
     match compiled {
         Compiled::Refused(r) => Ruled::Refused(r),
         Compiled::Equations(n) => {
-            let fresh = tables::fresh_state(table, n, state);
+            let fresh = flows::fresh_state(table, n, state);
             match fresh {
                 Fresh::Refused(r) => Ruled::Refused(r),
                 Fresh::Made => Ruled::Is(n),
@@ -325,7 +325,7 @@ fn tick(
         signals,
         parameters,
     };
-    let stepped = tables::step(table, n, state, values, now);
+    let stepped = flows::step(table, n, state, values, now);
     match stepped {
         Stepped::Verdict(v) => Said::Verdict(v),
         Stepped::Refused(r) => Said::Refused(r),
@@ -612,7 +612,7 @@ fn run_ticks(
             signals,
             parameters,
         };
-        let v = tables::step_passed(table, w.n, state, values, now);
+        let v = flows::step_passed(table, w.n, state, values, now);
         at = put(out, at, Said::Verdict(v));
         used += 21;
         w.left -= 1;
@@ -653,7 +653,7 @@ fn feed_ticks(
         signals: 0,
         parameters: *parameters,
     };
-    let checked = tables::step_checked(table, w.n, state, values, now);
+    let checked = flows::step_checked(table, w.n, state, values, now);
     let Checked::Passed = checked else {
         return fed_to(w, 0, 0);
     };

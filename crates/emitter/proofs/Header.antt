@@ -9,7 +9,8 @@ use native.Mathlib.Omega.{arith}
 use lib.ListN.{getD, set, length, length-append}
 use lib.Seq.{getD-at, set-at}
 use Rattle.traces.specs.Trace.{nonzero}
-use Rattle.tables.specs.Table.{Equation, signalCount}
+use Rattle.tables.specs.Table.{Equation}
+use Rattle.limits.specs.Limits.{signalCount}
 use Rattle.agreement.specs.Scheme.{equation}
 use Rattle.agreement.specs.Emit.{after, signals, places}
 use Rattle.emitter.specs.Machine.{written, Header, headerOf, settled, settle}

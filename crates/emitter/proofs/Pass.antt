@@ -10,7 +10,8 @@ use Rattle.formulas.specs.Formula.Prop.{constant, signal, negP, andP, orP}
 use Rattle.formulas.specs.Formula.Test.{begin, end, point, held, kept}
 use Rattle.formulas.specs.Formula.Count.{sum, age}
 use Rattle.formulas.specs.Formula.Formula.{test, len, count, neg, and, or, then}
-use Rattle.formulas.specs.Arena.{NOT, AND, OR, TEST, COUNT, LEAD-END, THEN, testNumber, countNumber, numKind, numValue}
+use Rattle.formulas.specs.Arena.{NOT, AND, OR, TEST, COUNT, LEAD-END, THEN, testNumber, countNumber, numKind}
+use Rattle.formulas.specs.Arena.{numValue}
 use Rattle.formulas.specs.Arena.{row, flat}
 use Rattle.formulas.proofs.Formulas.{rawP, raw}
 use Rattle.tables.specs.Table.{Equation}

@@ -7,7 +7,8 @@ use native.Mathlib.Omega.{arith}
 use lib.ListN.{length, drop}
 use lib.Seq.{sets, sets-eq}
 use Rattle.formulas.specs.Formula.{Formula}
-use Rattle.tables.specs.Table.{Equation, equationLimit}
+use Rattle.tables.specs.Table.{Equation}
+use Rattle.limits.specs.Limits.{equationLimit}
 use Rattle.agreement.specs.Emit.{observer, numbersOf}
 use Rattle.emitter.proofs.Written.{numbers-length}
 

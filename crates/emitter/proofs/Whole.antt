@@ -9,7 +9,8 @@ use Rattle.traces.specs.Trace.{nonzero}
 use Rattle.formulas.specs.Formula.{Formula}
 use Rattle.formulas.specs.Arena.{flat}
 use Rattle.formulas.proofs.Formulas.{raw}
-use Rattle.tables.specs.Table.{Equation, signalCount}
+use Rattle.tables.specs.Table.{Equation}
+use Rattle.limits.specs.Limits.{signalCount}
 use Rattle.agreement.specs.Scheme.{_⊕_}
 use Rattle.agreement.specs.Emit.{Block, after, emit, names, signals, places, whole-es}
 use Rattle.emitter.specs.Machine.{arenaLimit, WHOLE, written, nodes, nodeOf, State, state, recordOf, valuesAt}

@@ -11,7 +11,8 @@ use lib.ListN.{getD, set, drop}
 use lib.Seq.{sets}
 use Rattle.traces.specs.Trace.{nonzero}
 use Rattle.formulas.specs.Arena as arena
-use Rattle.tables.specs.Table.{Equation, signalCount}
+use Rattle.tables.specs.Table.{Equation}
+use Rattle.limits.specs.Limits.{signalCount}
 use Rattle.agreement.specs.Scheme.{_⊕_, equation, rowAt, fill, values}
 use Rattle.agreement.specs.Scheme.{N, P, Q, SIGNAL, O, O1, O3, O4}
 use Rattle.agreement.specs.Emit.{numbersOf}

@@ -3,8 +3,8 @@ use mathlib.Core.List.{List}
 use mathlib.Core.Path.{_≡_}
 use Prim.Native.Nat.{ℕ, _≤_}
 use Rattle.traces.specs.declared.Tick.{Tick}
-use Rattle.tables.specs.Step as step
-use Rattle.tables.specs.Step.{After, AfterFresh, freshened, stepped, freshAnswer, steppedAnswer}
+use Rattle.flows.specs.Step as step
+use Rattle.flows.specs.Step.{After, AfterFresh, freshened, stepped, freshAnswer, steppedAnswer}
 use Rattle.rules.specs.declared.Answer as rules
 use Rattle.rules.specs.declared.Same.{Same}
 use Rattle.rules.specs.Answer as read

@@ -1,14 +1,14 @@
 // The functions that C calls: thin over the proved operations, on slices and numbers (include/towerwatch.h).
+use flows::Fresh;
+use flows::Stepped;
 use lustre::Loaded;
 use lustre::Written;
 use observers::Compiled;
 use rules::Same;
-use tables::Fresh;
-use tables::Stepped;
 use traces::Tick;
 ghost use mathlib.Core.Path.{_≡_};
-ghost use Rattle.tables.specs.Flow.{standardCap};
-ghost use Rattle.tables.specs.Step.{freshened, stepped, freshAnswer, steppedAnswer};
+ghost use Rattle.limits.specs.Limits.{standardCap};
+ghost use Rattle.flows.specs.Step.{freshened, stepped, freshAnswer, steppedAnswer};
 ghost use Rattle.rules.specs.Reading.{ruleOf};
 ghost use Rattle.rules.specs.Answer.{answerOf};
 ghost use Rattle.observers.specs.Compile.{compiled};
@@ -63,7 +63,7 @@ fn step_answer(s: Stepped) -> Answer
 pub extern "C" fn towerwatch_fresh_state(table: &[u32], n: usize, state: &mut [u32]) -> Answer
     ensures { λ r. ⌜ left r (now (state .exit)) ≡ fresh (freshened (now (table .entry)) n (now (state .entry))) ⌝ }
 {
-    fresh_answer(tables::fresh_state(table, n, state))
+    fresh_answer(flows::fresh_state(table, n, state))
 }
 
 // One step: a tick of the table's n equations.
@@ -87,7 +87,7 @@ pub extern "C" fn towerwatch_step(
         signals,
         parameters,
     };
-    step_answer(tables::step(table, n, state, values, now))
+    step_answer(flows::step(table, n, state, values, now))
 }
 
 // The answer of reading a rule.

@@ -7,7 +7,8 @@ use native.Mathlib.Nat.{zero-add}
 use native.Mathlib.Numerals.{add-one}
 use lib.ListN.{length, getD, take, drop, set}
 use lib.Seq.{paste, paste-suc}
-use Rattle.tables.specs.Table.{equationLimit, checked}
+use Rattle.limits.specs.Limits.{equationLimit}
+use Rattle.tables.specs.Table.{checked}
 use Rattle.tables.specs.declared.Checked.the-variants.{Passed, Refused as Failed}
 use Rattle.tables.proofs.Checks.{checked-fitting}
 use Rattle.lustre.specs.Read.{Writes, tableRoom, AfterRead, read}

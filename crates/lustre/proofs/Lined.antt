@@ -10,7 +10,8 @@ use native.Mathlib.Numerals.{add-one}
 use lib.ListN.{length, getD, drop, set, length-set}
 use lib.Seq.{sets, length-sets, getD-set-same, getD-set-other}
 use Rattle.lists.specs.Text.{bytes}
-use Rattle.tables.specs.Table.{numberAt, Equation, equationAt, equationLimit}
+use Rattle.tables.specs.Table.{numberAt, Equation, equationAt}
+use Rattle.limits.specs.Limits.{equationLimit}
 use Rattle.lustre.specs.Text.{lineEnd, lineText, lines}
 use Rattle.lustre.specs.Read.{tableRoom}
 use Rattle.lustre.specs.Form.{equation, equationOf, Letter, isA, isB, isC, slot, render, absent}

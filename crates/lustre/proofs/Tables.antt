@@ -12,7 +12,8 @@ use lib.Seq.{getD-take, length-take-le, ext-getD}
 use borrow.Author.Tests.{ltb-true}
 use Rattle.lists.specs.Text.{bytes}
 use Rattle.tables.specs.Table.{numberAt, all, Equation, equationAt, kindOf, kindAt, shapeOf, isFlow}
-use Rattle.tables.specs.Table.{operandFits, shapeFits, equationFits, equationLimit, equationsFit, checked}
+use Rattle.tables.specs.Table.{operandFits, shapeFits, equationFits, equationsFit, checked}
+use Rattle.limits.specs.Limits.{equationLimit}
 use Rattle.tables.specs.declared.Sort.{Sort}
 use Rattle.tables.specs.declared.Shape.{Shape}
 use Rattle.tables.specs.declared.Operand.{Operand}

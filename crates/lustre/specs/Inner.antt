@@ -7,7 +7,8 @@ use Prim.Native.Nat.{ℕ, _+_, _*_, _-_, _≤_, _<_}
 use lib.Dec.{ltb, eqb}
 use lib.ListN.{length, drop}
 use lib.Seq.{sets}
-use Rattle.tables.specs.Table.{Equation, equationAt, equationLimit}
+use Rattle.tables.specs.Table.{Equation, equationAt}
+use Rattle.limits.specs.Limits.{equationLimit}
 use Rattle.lustre.specs.Text.{lineEnd, lineText, lines, textOf}
 use Rattle.lustre.specs.Read.{Writes}
 use Rattle.lustre.specs.Form.{letter?, put, Plain, equationOf}

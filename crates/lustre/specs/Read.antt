@@ -5,7 +5,7 @@ use mathlib.Core.Path.{_≡_}
 use Prim.Native.Nat.{ℕ, _*_, _≤_, _<_}
 use lib.ListN.{length, take, drop}
 use Rattle.tables.specs.Table.{checked}
-use Rattle.tables.specs.Step.{Answer, refused, gives}
+use Rattle.flows.specs.Step.{Answer, refused, gives}
 use Rattle.tables.specs.declared.Checked.the-variants.{Passed}
 use Rattle.lustre.specs.Text.{textOf}
 use Rattle.lustre.specs.declared.Loaded.{Loaded}

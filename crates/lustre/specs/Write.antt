@@ -5,7 +5,7 @@ use Prim.Native.Nat.{ℕ}
 use lib.Dec.{leb}
 use lib.ListN.{length, drop}
 use Rattle.tables.specs.Table.{Test, test, firstFailed, tableTests}
-use Rattle.tables.specs.Step.{Answer, refused, gives}
+use Rattle.flows.specs.Step.{Answer, refused, gives}
 use Rattle.tables.specs.declared.Checked.{Checked}
 use Rattle.tables.specs.declared.Checked.the-variants.{Passed, Refused as Failed}
 use Rattle.lustre.specs.Text.{textOf}

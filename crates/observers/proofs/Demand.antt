@@ -19,7 +19,7 @@ use Rattle.formulas.specs.Raw.{raw}
 use Rattle.formulas.proofs.Formulas.{formula-raw}
 use Rattle.grammar.proofs.Theorems.{rule-numbers, rule-size}
 use Rattle.tables.specs.Table.{Equation}
-use Rattle.tables.specs.Flow.{standardCap}
+use Rattle.limits.specs.Limits.{standardCap}
 use Rattle.agreement.specs.Emit.{observer, numbersOf}
 use Rattle.agreement.specs.Agreement.{Observes}
 use Rattle.agreement.proofs.Theorem.{observes}

@@ -10,14 +10,18 @@ use lib.ListN.{length, replicate}
 use Rattle.lists.specs.Text.{bytes}
 use Rattle.traces.specs.declared.Tick.{Tick}
 use Rattle.formulas.specs.Tree.{formulaOf}
-use Rattle.tables.specs.Table.{Equation, kindOf, shapeOf, sameSort, isFlow, operandFits, shapeFits, lengthFits, equationsFit, all, checked}
-use Rattle.tables.specs.Flow.{standardCap, increased, valueOf, flows, isMemory, written, initial, inRange}
-use Rattle.tables.specs.Step.{freshened, freshChecked, stepped, stepChecked, afterTick, parameterFits, cellFits}
-use Rattle.tables.specs.Run.{Call, answers}
-use Rattle.tables.specs.declared.Stepped.{Stepped}
-use Rattle.tables.specs.declared.Stepped.the-variants.{Verdict, Refused}
+use Rattle.tables.specs.Table.{Equation, kindOf, shapeOf, sameSort, isFlow, operandFits, shapeFits, lengthFits}
+use Rattle.tables.specs.Table.{equationsFit, all, checked}
+use Rattle.limits.specs.Limits.{standardCap}
+use Rattle.flows.specs.Flow.{increased, valueOf, flows, written, initial, inRange}
+use Rattle.tables.specs.Table.{isMemory}
+use Rattle.flows.specs.Step.{freshened, freshChecked, stepped, stepChecked, afterTick, parameterFits, cellFits}
+use Rattle.flows.specs.Run.{Call, answers}
+use Rattle.flows.specs.declared.Stepped.{Stepped}
+use Rattle.flows.specs.declared.Stepped.the-variants.{Verdict, Refused}
 use Rattle.agreement.specs.Emit.{numbersOf}
-use Rattle.words.specs.Split.{classOf, run, keywordAmong, keywordOf, digits as areDigits, decimal, numberOf, runOf, wordOf, words, splitOf}
+use Rattle.words.specs.Split.{classOf, run, keywordAmong, keywordOf, digits as areDigits, decimal, numberOf, runOf}
+use Rattle.words.specs.Split.{wordOf, words, splitOf}
 use Rattle.words.specs.Word.{isOp, isSignal, isNum, isBit, isTest, isCount}
 use Rattle.grammar.specs.Fragment.{names}
 use Rattle.grammar.specs.Parse.{parse, read, treeOf}

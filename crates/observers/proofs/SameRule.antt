@@ -8,9 +8,9 @@ use lib.ListN.{length}
 use Rattle.formulas.specs.Formula.{Formula}
 use Rattle.formulas.specs.Tree.{Tree, nodes, formulaOf}
 use Rattle.formulas.specs.Meaning.{verdict}
-use Rattle.tables.specs.Flow.{standardCap}
-use Rattle.tables.specs.Step.{AfterFresh, freshened}
-use Rattle.tables.specs.Run.{Call, answers, ticks, expected}
+use Rattle.limits.specs.Limits.{standardCap}
+use Rattle.flows.specs.Step.{AfterFresh, freshened}
+use Rattle.flows.specs.Run.{Call, answers, ticks, expected}
 use Rattle.agreement.specs.Agreement.{SameParameters, traceOfTicks, Observes}
 use Rattle.agreement.specs.Emit.{observer}
 use Rattle.rules.specs.Reading.{ruleOf}

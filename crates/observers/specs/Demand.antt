@@ -9,7 +9,7 @@ use Prim.Native.Nat.{ℕ, _*_, _≤_, _<_}
 use lib.ListN.{length, drop}
 use Rattle.formulas.specs.Formula.{Formula}
 use Rattle.formulas.specs.Tree.{Tree, nodes, formulaOf}
-use Rattle.tables.specs.Flow.{standardCap}
+use Rattle.limits.specs.Limits.{standardCap}
 use Rattle.agreement.specs.Agreement.{Observes}
 use Rattle.rules.specs.Reading.{ruleOf}
 use Rattle.rules.specs.Reading.Outcome.{refused, rule}

@@ -13,7 +13,8 @@ use Rattle.lists.specs.Same.{same}
 use Rattle.lists.proofs.Same.{same→eq}
 use Rattle.formulas.specs.Formula.{Formula}
 use Rattle.formulas.specs.Tree.{Tree, nodes, formulaOf}
-use Rattle.words.specs.Split.{classOf, run, keywordAmong, keywordOf, digits as areDigits, decimal, numberOf, runOf, wordOf, words, splitOf}
+use Rattle.words.specs.Split.{classOf, run, keywordAmong, keywordOf, digits as areDigits, decimal, numberOf, runOf}
+use Rattle.words.specs.Split.{wordOf, words, splitOf}
 use Rattle.words.specs.Word.{isOp, isSignal, isNum, isBit, isTest, isCount}
 use Rattle.grammar.specs.Fragment.{names}
 use Rattle.grammar.specs.Parse.{parse, read, treeOf}

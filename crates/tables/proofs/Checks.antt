@@ -1,4 +1,4 @@
--- Laws of the checks: when the tests of a table, a fresh state and a step pass, and which one fails first.
+-- Laws of the check: when the tests of a table pass, and which one fails first.
 -- Assumes nothing.
 use mathlib.Core.Path.{_≡_, refl}
 use mathlib.Core.Bool.{Bool, true, false, cond, _&&_}
@@ -6,13 +6,12 @@ use mathlib.Core.List.{List, [], _∷_, _++_}
 use Prim.Native.Nat.{ℕ, _*_, _-_, _≤_, _<_}
 use native.Mathlib.Omega.{arith}
 use lib.Dec.{leb, ltb}
-use lib.ListN.{length, drop}
+use lib.ListN.{length}
 use borrow.Author.Tests.{le-ltb, lt-ltb, lt-leb, le-leb, ltb-true, leb-true}
-use Rattle.traces.specs.declared.Tick.{Tick}
 use Rattle.tables.specs.Table.{all, Equation, equationFits, operandFits, shapeFits, kindAt, sortOf, sameSort}
-use Rattle.tables.specs.Table.{equationLimit, lengthFits, equationsFit, Test, test, firstFailed}
+use Rattle.limits.specs.Limits.{equationLimit}
+use Rattle.tables.specs.Table.{lengthFits, equationsFit, Test, test, firstFailed}
 use Rattle.tables.specs.Table.{tableTests, checked}
-use Rattle.tables.specs.Step.{parameterFits, cellsFit, stepTests, freshChecked, stepChecked}
 use Rattle.tables.specs.declared.Sort.the-variants.{Boolean}
 use Rattle.tables.specs.declared.Shape.{Shape}
 use Rattle.tables.specs.declared.Checked.{Checked}
@@ -27,7 +26,7 @@ unfolding shapeFits
 three-fit t n i s e p q r z ep eq er ez = rw (← ep, ← eq, ← er) ez
 
 -- Where the first test passes, the others decide.
-passed-one : (b : Bool) (x : Checked) (r : ℕ) → cond b x (Refused r) ≡ Passed → (b ≡ true) × (x ≡ Passed)
+pub passed-one : (b : Bool) (x : Checked) (r : ℕ) → cond b x (Refused r) ≡ Passed → (b ≡ true) × (x ≡ Passed)
 passed-one true x r e = (refl, e)
 passed-one false x r e = (cc, cc)
 
@@ -71,7 +70,7 @@ module _ (t : List ℕ) (n : ℕ) where
       }
 
   -- A call whose tests pass has a fitting table, and passes what comes after the table's tests.
-  passed-table : (xs : List Test) → firstFailed (tableTests t n ++ xs) ≡ Passed
+  pub passed-table : (xs : List Test) → firstFailed (tableTests t n ++ xs) ≡ Passed
       → Fitting t n × (firstFailed xs ≡ Passed)
   passed-table xs e =
       let p = passed-one (lengthFits t n) _ 10 e in
@@ -81,36 +80,6 @@ module _ (t : List ℕ) (n : ℕ) where
   pub checked-fitting : checked t n ≡ Passed → Fitting t n
   unfolding checked
   checked-fitting e = passed-table [] e .0
-
-  pub fresh-passed : (state : List ℕ) → freshChecked t n state ≡ Passed → Fitting t n × (n ≤ length state)
-  unfolding freshChecked
-  fresh-passed state e =
-      let p = passed-table (test 12 (leb n (length state)) ∷ []) e in
-      (p .0, leb-true n (length state) (passed-one (leb n (length state)) Passed 12 (p .1) .0))
-
-  pub step-passed : (cap : ℕ) (state values : List ℕ) (k : Tick) → stepChecked cap t n state values k ≡ Passed
-      → Fitting t n × (n ≤ length state) × (n ≤ length values) × (cellsFit cap t n state ≡ true)
-  unfolding stepChecked
-  step-passed cap state values k e =
-      let p = passed-table (drop 2 (stepTests cap t n state values k)) e in
-      let q = passed-one (leb n (length state) && leb n (length values)) _ 12 (p .1) in
-      let l = and-true (leb n (length state)) _ (q .0) in
-      let m = passed-one (all (parameterFits cap k) 8) _ 13 (q .1) in (
-        p .0,
-        leb-true n (length state) (l .0),
-        leb-true n (length values) (l .1),
-        passed-one (cellsFit cap t n state) Passed 14 (m .1) .0,
-      )
-
-  -- What the table and the parameters alone decide.
-  pub step-admitted : (cap : ℕ) (state values : List ℕ) (k : Tick) → stepChecked cap t n state values k ≡ Passed
-      → (checked t n ≡ Passed) × (all (parameterFits cap k) 8 ≡ true)
-  unfolding stepChecked checked
-  step-admitted cap state values k e =
-      let p = passed-one (lengthFits t n) _ 10 e in
-      let q = passed-one (equationsFit t n) _ 11 (p .1) in
-      let r = passed-one (leb n (length state) && leb n (length values)) _ 12 (q .1) in
-      (rw (p .0, q .0), passed-one (all (parameterFits cap k) 8) _ 13 (r .1) .0)
 
 -- Where a table is refused, so is any call that is given it.
 refused-two : (b d : Bool) (x : Checked) (r : ℕ) → cond b (cond d Passed (Refused 11)) (Refused 10) ≡ Refused r

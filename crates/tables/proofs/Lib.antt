@@ -1,8 +1,4 @@
--- Laws of equation tables: tests, kinds by their numbers, buffers, ranges, and that a run satisfies its equations.
+-- Laws of equation tables: tests, kinds by their numbers, and the check.
 pub mod Tests
 pub mod Numbers
-pub mod Buffers
 pub mod Checks
-pub mod Ranges
-pub mod Runs
-mod Rows

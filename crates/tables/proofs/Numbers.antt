@@ -1,4 +1,4 @@
--- The kinds and the operators by their numbers: what holds of a kind or an operator, said as tests on its number.
+-- The kinds by their numbers: what holds of a kind, said as tests on its number.
 -- Assumes nothing.
 use mathlib.Core.Path.{_≡_, refl, _∙_}
 use mathlib.Core.Bool.{true, false, not, _&&_}
@@ -10,12 +10,9 @@ use native.Mathlib.Decide.{decLt}
 use lib.Dec.{leb, ltb, eqb}
 use lib.ListN.{length, getD, List·getD-map, List·getD-eq-default}
 use borrow.Author.Tests.{lt-leb, le-leb, lt-ltb, ne-eqb}
-use Rattle.traces.specs.Trace.{nonzero}
-use Rattle.traces.specs.Compare.{opOf}
-use Rattle.traces.specs.Compare.Op.{ge}
 use Rattle.tables.specs.Table.{kinds, kindOf, shapeOf, sortOf, sameSort, all}
 use Rattle.tables.specs.Table.Kind.{unknown}
-use Rattle.tables.specs.Flow.{isMemory, initial}
+use Rattle.tables.specs.Table.{isMemory}
 use Rattle.tables.specs.declared.Sort.{Sort}
 use Rattle.tables.specs.declared.Sort.the-variants.{Boolean, Count}
 use Rattle.tables.specs.declared.Shape.{Shape}
@@ -44,15 +41,6 @@ within (x ∷ l) (suc k) d e h = within l k d e (le-of-suc-le-suc h)
 pub rows : (k : ℕ) (d : Shape) → k < 12 → getD (map shapeOf kinds) k d ≡ shapeOf (kindOf k)
 unfolding kindOf
 rows k d h = within (map shapeOf kinds) k d (shapeOf unknown) h ∙ List·getD-map shapeOf kinds k unknown
-
--- The operators from 4 on.
-pub op-last : (k : ℕ) → 4 ≤ k → opOf k ≡ ge
-op-last zero h = absurd (omega arith)
-op-last (suc zero) h = absurd (omega arith)
-op-last (suc (suc zero)) h = absurd (omega arith)
-op-last (suc (suc (suc zero))) h = absurd (omega arith)
-op-last (suc (suc (suc (suc zero)))) h = refl
-op-last (suc (suc (suc (suc (suc k))))) h = refl
 
 -- A flow is a boolean if it is no count.
 pub boolean-or-count : (s : Sort) → sameSort s Boolean ≡ not (sameSort s Count)
@@ -85,27 +73,3 @@ no-memory k p q = memories k ∙ outside
       | yes h ↦ rw (lt-leb 6 k h)
       | no h ↦ rw (le-leb 6 k (omega arith), lt-leb k 7 (omega arith))
     ]
-
--- Tests of a number against 0.
-pub positive : (x : ℕ) → ltb 0 x ≡ nonzero x
-positive zero = refl
-positive (suc x) = lt-ltb 0 (suc x) (omega arith)
-
-pub is-zero : (x : ℕ) → eqb x 0 ≡ not (nonzero x)
-is-zero zero = refl
-is-zero (suc x) = ne-eqb (suc x) 0 (omega arith)
-
-pub nonzero-none : (x : ℕ) → x ≤ 0 → nonzero x ≡ false
-nonzero-none zero h = refl
-nonzero-none (suc x) h = absurd (not-suc-le-zero h)
-
--- The initial value of a count, and of a boolean.
-pub initial-count : (s : Sort) (c : ℕ) → sameSort s Count ≡ true → 0 ≡ initial s c
-unfolding sameSort initial
-initial-count Boolean c e = cc
-initial-count Count c e = refl
-
-pub initial-boolean : (s : Sort) (c : ℕ) → sameSort s Count ≡ false → c ≡ initial s c
-unfolding sameSort initial
-initial-boolean Boolean c e = refl
-initial-boolean Count c e = cc

@@ -1,6 +1,3 @@
--- Equation tables: what an equation is, which tables are well formed, what a fresh state and a step do.
+-- Equation tables: what an equation is, its kinds by their numbers, and which tables are well formed.
+pub mod Kind
 pub mod Table
-pub mod Flow
-pub mod Step
-pub mod Run
-pub mod Lustre

@@ -5,6 +5,7 @@ use mathlib.Core.List.{List, [], _∷_}
 use Prim.Native.Nat.{ℕ, zero, suc, _+_, _*_, _-_}
 use lib.Dec.{leb, ltb, eqb}
 use lib.ListN.{length, getD}
+use Rattle.limits.specs.Limits.{signalCount, truthCount, opCount, literalCount, parameterCount, equationLimit}
 use Rattle.tables.specs.declared.Sort.{Sort}
 use Rattle.tables.specs.declared.Sort.the-variants.{Boolean, Count}
 use Rattle.tables.specs.declared.Operand.{Operand}
@@ -62,26 +63,6 @@ kindAt t i = kindOf (numberAt t (4 * i))
 abbrev pub row : Operand → Operand → Operand → Sort → Shape
 row x y z s = record { a = x; b = y; c = z; gives = s }
 
--- "signal 0 to 63"
-abbrev pub signalCount : ℕ
-signalCount = 64
-
--- "a boolean (0, 1)"
-abbrev pub truthCount : ℕ
-truthCount = 2
-
--- "op is 0 `<=`, 1 `<`, 2 `=`, 3 `>`, 4 `>=`."
-abbrev pub opCount : ℕ
-opCount = 5
-
--- "A literal is 0 to 999,999.", for every cap.
-abbrev pub literalCount : ℕ
-literalCount = 1000000
-
--- "parameter 0 to 7"
-abbrev pub parameterCount : ℕ
-parameterCount = 8
-
 -- The table of kinds. "Operands are earlier equations of the right sort; only the operand of 6 and 7 may stand
 -- anywhere." "Unused numbers are 0." No number fits A of an unknown kind.
 unfoldable pub shapeOf : Kind → Shape
@@ -110,6 +91,22 @@ sameSort Boolean Count = false
 sameSort Count Boolean = false
 sameSort Count Count = true
 
+-- "Kinds 6 and 7 are the memories."
+unfoldable pub isMemory : Kind → Bool
+isMemory signal = false
+isMemory start = false
+isMemory constant = false
+isMemory negation = false
+isMemory conjunction = false
+isMemory disjunction = false
+isMemory booleanPre = true
+isMemory countPre = true
+isMemory capped = false
+isMemory ifElse = false
+isMemory compareLiteral = false
+isMemory compareParameter = false
+isMemory unknown = false
+
 -- x is one of the first m equations, and its flow has that sort.
 unfoldable pub isFlow : List ℕ → ℕ → Sort → ℕ → Bool
 isFlow t m s x = ltb x m && sameSort (sortOf (kindAt t x)) s
@@ -129,10 +126,6 @@ shapeFits t n i s e =
 -- Equation i of n keeps the rules of its kind.
 abbrev pub equationFits : List ℕ → ℕ → ℕ → Bool
 equationFits t n i = shapeFits t n i (shapeOf (kindAt t i)) (equationAt t i)
-
--- "A table has 1 to 4,096 equations."
-abbrev pub equationLimit : ℕ
-equationLimit = 4096
 
 -- "10: n is 0 or above 4,096, or the table is shorter than 4 times n."
 unfoldable pub lengthFits : List ℕ → ℕ → Bool

@@ -1,18 +1,12 @@
-// Equation tables: the check of a table, the fresh state and the step. What they mean is in specs/.
-use traces::Tick;
+// Equation tables: the kinds of equations by their numbers, and the check of a table, refusals 10 and 11. What they mean
+// is in specs/.
 ghost use mathlib.Core.Path.{_≡_};
-ghost use mathlib.Core.Bool.{_&&_, _||_, cond};
-ghost use mathlib.Core.List.{_++_};
-ghost use Prim.Native.Nat.{_+_, _*_, _≤_, _<_};
-ghost use lib.ListN.{length, drop};
-ghost use Rattle.traces.specs.Trace.{truth, nonzero, parameterAt, bit};
-ghost use Rattle.traces.specs.Compare.{opOf, compares};
-ghost use Rattle.tables.specs.Table.{numberAt, all, kindOf, shapeOf, sortOf, sameSort, isFlow, operandFits};
-ghost use Rattle.tables.specs.Table.{equationFits, checked, equationAt, kindAt, parameterCount};
-ghost use Rattle.tables.specs.Flow.{standardCap, increased, valueOf, flows, isMemory, initial};
-ghost use Rattle.tables.specs.Flow.{freshState, nextState};
-ghost use Rattle.tables.specs.Step.{parameterFits, cellFits, cellsFit, freshChecked, stepChecked};
-ghost use Rattle.tables.specs.Step.{afterFresh, freshened, after, afterTick, stepped};
+ghost use mathlib.Core.Bool.{_&&_};
+ghost use Prim.Native.Nat.{_*_, _≤_, _<_};
+ghost use lib.ListN.{length};
+ghost use Rattle.tables.specs.Kind.{kindCount};
+ghost use Rattle.tables.specs.Table.{all, kindOf, shapeOf, sortOf, sameSort, isMemory, isFlow, operandFits};
+ghost use Rattle.tables.specs.Table.{equationFits, checked};
 
 // The sort of a flow.
 pub enum Sort {
@@ -46,74 +40,39 @@ pub enum Checked {
     Refused(u32),
 }
 
-// What making a fresh state answers.
-pub enum Fresh {
-    Made,
-    Refused(u32),
-}
+// The numbers of the kinds. Every crate that names a kind by its number names it by these.
+pub const SIGNAL: u32 = 0;
 
-// What a step answers.
-pub enum Stepped {
-    Verdict(u32),
-    Refused(u32),
-}
+pub const START: u32 = 1;
 
-// The highest count.
-const CAP: u32 = 1000000;
+pub const CONSTANT: u32 = 2;
 
-// The highest number of equations.
-const EQUATIONS: usize = 4096;
+pub const NOT: u32 = 3;
 
-// How many signals, truth values, operators, literals and parameters there are.
-const SIGNALS: u32 = 64;
+pub const AND: u32 = 4;
 
-const TRUTHS: u32 = 2;
+pub const OR: u32 = 5;
 
-const OPERATORS: u32 = 5;
+pub const BOOLEAN_PRE: u32 = 6;
 
-const LITERALS: u32 = 1000000;
+pub const COUNT_PRE: u32 = 7;
 
-const PARAMETERS: u32 = 8;
+pub const CAPPED: u32 = 8;
 
-// The numbers of the kinds.
-const SIGNAL: u32 = 0;
+pub const IF: u32 = 9;
 
-const START: u32 = 1;
+pub const COMPARE_LITERAL: u32 = 10;
 
-const CONSTANT: u32 = 2;
+pub const COMPARE_PARAMETER: u32 = 11;
 
-const NOT: u32 = 3;
-
-const AND: u32 = 4;
-
-const OR: u32 = 5;
-
-const BOOLEAN_PRE: u32 = 6;
-
-const COUNT_PRE: u32 = 7;
-
-const CAPPED: u32 = 8;
-
-const IF: u32 = 9;
-
-const COMPARE_LITERAL: u32 = 10;
-
-const COMPARE_PARAMETER: u32 = 11;
-
-// The numbers of the operators; 4 is `>=`.
-const LE: u32 = 0;
-
-const LT: u32 = 1;
-
-const EQ: u32 = 2;
-
-const GT: u32 = 3;
+// How many kinds there are.
+pub const KIND_COUNT: usize = 12;
 
 // The table of kinds: a row for each, by its number.
-const KINDS: [Shape; 12] = [
+const KINDS: [Shape; KIND_COUNT] = [
     // 0: signal A.
     Shape {
-        a: Operand::Below(SIGNALS),
+        a: Operand::Below(limits::SIGNALS),
         b: Operand::Unused,
         c: Operand::Unused,
         gives: Sort::Boolean,
@@ -127,7 +86,7 @@ const KINDS: [Shape; 12] = [
     },
     // 2: constant A.
     Shape {
-        a: Operand::Below(TRUTHS),
+        a: Operand::Below(limits::TRUTHS),
         b: Operand::Unused,
         c: Operand::Unused,
         gives: Sort::Boolean,
@@ -157,7 +116,7 @@ const KINDS: [Shape; 12] = [
     Shape {
         a: Operand::Anywhere(Sort::Boolean),
         b: Operand::Unused,
-        c: Operand::Below(TRUTHS),
+        c: Operand::Below(limits::TRUTHS),
         gives: Sort::Boolean,
     },
     // 7: count A one tick ago, 0 at the first tick.
@@ -184,22 +143,22 @@ const KINDS: [Shape; 12] = [
     // 10: count A, op B, literal C.
     Shape {
         a: Operand::Earlier(Sort::Count),
-        b: Operand::Below(OPERATORS),
-        c: Operand::Below(LITERALS),
+        b: Operand::Below(limits::OPERATORS),
+        c: Operand::Below(limits::LITERALS),
         gives: Sort::Boolean,
     },
     // 11: count A, op B, parameter C.
     Shape {
         a: Operand::Earlier(Sort::Count),
-        b: Operand::Below(OPERATORS),
-        c: Operand::Below(PARAMETERS),
+        b: Operand::Below(limits::OPERATORS),
+        c: Operand::Below(limits::PARAMETERS),
         gives: Sort::Boolean,
     },
 ];
 
 // The row of kind k.
 fn shape_at(k: u32) -> Shape
-    requires { ⌜ k < 12 ⌝ }
+    requires { ⌜ k < kindCount ⌝ }
     ensures { λ r. ⌜ r ≡ shapeOf (kindOf k) ⌝ }
 {
     let i = k as usize;
@@ -233,7 +192,7 @@ fn shape_of(k: u32) -> Shape
 }
 
 // Whether the flow of a kind is a count.
-fn is_count(k: u32) -> bool
+pub fn is_count(k: u32) -> bool
     ensures { λ r. ⌜ r ≡ sameSort (sortOf (kindOf k)) Sort.Count ⌝ }
 {
     match k {
@@ -320,7 +279,7 @@ pub fn check_table(table: &[u32], n: usize) -> Checked
     if n == 0 {
         return Checked::Refused(10);
     }
-    if EQUATIONS < n {
+    if limits::EQUATIONS < n {
         return Checked::Refused(10);
     }
     if table.len() < 4 * n {
@@ -335,322 +294,12 @@ pub fn check_table(table: &[u32], n: usize) -> Checked
     Checked::Passed
 }
 
-// x op y, by the operator's number.
-pub fn compare(op: u32, x: u32, y: u32) -> bool
-    ensures { λ r. ⌜ r ≡ compares (opOf op) x y ⌝ }
-{
-    match op {
-        LE => x <= y,
-        LT => x < y,
-        EQ => x == y,
-        GT => x > y,
-        _ => x >= y,
-    }
-}
-
-// Number i of a buffer, or 0 past its end.
-fn number_at(numbers: &[u32], i: u32) -> u32
-    ensures { λ r. ⌜ r ≡ numberAt (now (numbers .entry)) i ⌝ }
-{
-    let j = i as usize;
-    if j < numbers.len() { numbers[j] } else { 0 }
-}
-
-// A truth value as a number.
-fn number(b: bool) -> u32
-    ensures { λ r. ⌜ r ≡ truth b ⌝ }
-{
-    if b { 1 } else { 0 }
-}
-
-// Bit j of the signals.
-fn signal_at(signals: u64, j: u32) -> u32
-    ensures { λ r. ⌜ r ≡ truth (nonzero (bit signals j)) ⌝ }
-{
-    if j < SIGNALS {
-        ((signals >> j) % 2) as u32
-    } else {
-        0
-    }
-}
-
-// Parameter j of a tick.
-fn parameter(tick: Tick, j: u32) -> u32
-    ensures { λ r. ⌜ r ≡ parameterAt tick j ⌝ }
-{
-    number_at(&tick.parameters, j)
-}
-
-// x and y.
-fn conjunction(x: u32, y: u32) -> u32
-    ensures { λ r. ⌜ r ≡ truth (nonzero x && nonzero y) ⌝ }
-{
-    if 0 < x {
-        if 0 < y {
-            return 1;
-        }
-    }
-    0
-}
-
-// x or y.
-fn disjunction(x: u32, y: u32) -> u32
-    ensures { λ r. ⌜ r ≡ truth (nonzero x || nonzero y) ⌝ }
-{
-    if 0 < x {
-        return 1;
-    }
-    if 0 < y {
-        return 1;
-    }
-    0
-}
-
-// The count x, one more if y is yes, never above the cap.
-fn increase(cap: u32, x: u32, y: u32) -> u32
-    ensures { λ r. ⌜ r ≡ increased cap x (nonzero y) ⌝ }
-{
-    if y == 0 {
-        return x;
-    }
-    if x < cap { x + 1 } else { cap }
-}
-
-// If x is yes then y, else 0.
-fn gate(x: u32, y: u32) -> u32
-    ensures { λ r. ⌜ r ≡ cond (nonzero x) y 0 ⌝ }
-{
-    if 0 < x { y } else { 0 }
-}
-
-// The value of equation i, from its cell and the flows before it.
-fn value(cap: u32, table: &[u32], i: usize, tick: Tick, cell: u32, before: &[u32]) -> u32
-    requires { ⌜ 4 * i + 3 < length (now table) ⌝ }
-    ensures { λ r. ⌜ r ≡ valueOf cap tick (numberAt (now (before .entry))) cell
-        (kindAt (now (table .entry)) i) (equationAt (now (table .entry)) i) ⌝ }
-{
-    let k = table[4 * i];
-    let a = table[4 * i + 1];
-    let b = table[4 * i + 2];
-    let c = table[4 * i + 3];
-    match k {
-        SIGNAL => signal_at(tick.signals, a),
-        START => number(0 < tick.start),
-        CONSTANT => a,
-        NOT => number(number_at(before, a) == 0),
-        AND => conjunction(number_at(before, a), number_at(before, b)),
-        OR => disjunction(number_at(before, a), number_at(before, b)),
-        BOOLEAN_PRE => cell,
-        COUNT_PRE => cell,
-        CAPPED => increase(cap, number_at(before, a), number_at(before, b)),
-        IF => gate(number_at(before, a), number_at(before, b)),
-        COMPARE_LITERAL => number(compare(b, number_at(before, a), c)),
-        COMPARE_PARAMETER => number(compare(b, number_at(before, a), parameter(tick, c))),
-        _ => 0,
-    }
-}
-
-// The flows of the n equations, into values.
-fn fill(cap: u32, table: &[u32], n: usize, state: &[u32], values: &mut [u32], tick: Tick)
-    requires { ⌜ (4 * n ≤ length (now table)) × (n ≤ length (now state)) × (n ≤ length (now values)) ⌝ }
-    ensures { λ r. ⌜ now (values .exit)
-        ≡ flows cap (now (table .entry)) tick (now (state .entry)) n ++ drop n (now (values .entry)) ⌝ }
-{
-    let mut i = 0;
-    while i < n {
-        let v = value(cap, table, i, tick, state[i], &values[..i]);
-        values[i] = v;
-        i += 1;
-    }
-}
-
-// Kinds 6 and 7.
-fn is_memory(k: u32) -> bool
+// Whether an equation of that kind is a memory: kinds 6 and 7.
+pub fn is_memory(k: u32) -> bool
     ensures { λ r. ⌜ r ≡ isMemory (kindOf k) ⌝ }
 {
     match k {
         BOOLEAN_PRE..=COUNT_PRE => true,
         _ => false,
     }
-}
-
-// The memories' next values, into the state.
-fn advance(table: &[u32], n: usize, state: &mut [u32], flows: &[u32])
-    requires { ⌜ (4 * n ≤ length (now table)) × (n ≤ length (now state)) ⌝ }
-    ensures { λ r. ⌜ now (state .exit) ≡ nextState (now (table .entry)) (now (flows .entry)) n (now (state .entry)) ⌝ }
-{
-    let mut i = 0;
-    while i < n {
-        if is_memory(table[4 * i]) {
-            let a = table[4 * i + 1];
-            state[i] = number_at(flows, a);
-        }
-        i += 1;
-    }
-}
-
-// A memory's initial value: C of a boolean, 0 of a count.
-fn initial_value(k: u32, c: u32) -> u32
-    ensures { λ r. ⌜ r ≡ initial (sortOf (kindOf k)) c ⌝ }
-{
-    if is_count(k) { 0 } else { c }
-}
-
-// The memories' initial values, into the state.
-fn reset(table: &[u32], n: usize, state: &mut [u32])
-    requires { ⌜ (4 * n ≤ length (now table)) × (n ≤ length (now state)) ⌝ }
-    ensures { λ r. ⌜ now (state .exit) ≡ freshState (now (table .entry)) n (now (state .entry)) ⌝ }
-{
-    let mut i = 0;
-    while i < n {
-        let k = table[4 * i];
-        if is_memory(k) {
-            let c = table[4 * i + 3];
-            state[i] = initial_value(k, c);
-        }
-        i += 1;
-    }
-}
-
-// Whether every parameter is below the cap.
-fn parameters_fit(cap: u32, tick: Tick) -> bool
-    ensures { λ r. ⌜ r ≡ all (parameterFits cap tick) parameterCount ⌝ }
-{
-    let mut j = 0;
-    while j < PARAMETERS {
-        if cap <= parameter(tick, j) {
-            return false;
-        }
-        j += 1;
-    }
-    true
-}
-
-// Whether x, if it is the cell of a memory, is in its sort's range.
-fn cell_fits(cap: u32, k: u32, x: u32) -> bool
-    ensures { λ r. ⌜ r ≡ cellFits cap (kindOf k) x ⌝ }
-{
-    match k {
-        BOOLEAN_PRE => x < TRUTHS,
-        COUNT_PRE => x <= cap,
-        _ => true,
-    }
-}
-
-// Whether the cell of each memory is in its sort's range.
-fn cells_fit(cap: u32, table: &[u32], n: usize, state: &[u32]) -> bool
-    requires { ⌜ (4 * n ≤ length (now table)) × (n ≤ length (now state)) ⌝ }
-    ensures { λ r. ⌜ r ≡ cellsFit cap (now (table .entry)) n (now (state .entry)) ⌝ }
-{
-    let mut i = 0;
-    while i < n {
-        if !cell_fits(cap, table[4 * i], state[i]) {
-            return false;
-        }
-        i += 1;
-    }
-    true
-}
-
-// The refusals of a fresh state: 10 to 12.
-fn check_fresh(table: &[u32], n: usize, state: &[u32]) -> Checked
-    ensures { λ r. ⌜ r ≡ freshChecked (now (table .entry)) n (now (state .entry)) ⌝ }
-{
-    let checked = check_table(table, n);
-    let Checked::Passed = checked else {
-        return checked;
-    };
-    if state.len() < n {
-        return Checked::Refused(12);
-    }
-    Checked::Passed
-}
-
-// The refusals of a step: 10 to 14.
-fn check_step(
-    cap: u32,
-    table: &[u32],
-    n: usize,
-    state: &[u32],
-    values: &[u32],
-    tick: Tick,
-) -> Checked
-    ensures { λ r. ⌜ r
-        ≡ stepChecked cap (now (table .entry)) n (now (state .entry)) (now (values .entry)) tick ⌝ }
-{
-    let checked = check_table(table, n);
-    let Checked::Passed = checked else {
-        return checked;
-    };
-    if state.len() < n {
-        return Checked::Refused(12);
-    }
-    if values.len() < n {
-        return Checked::Refused(12);
-    }
-    if !parameters_fit(cap, tick) {
-        return Checked::Refused(13);
-    }
-    if !cells_fit(cap, table, n, state) {
-        return Checked::Refused(14);
-    }
-    Checked::Passed
-}
-
-// A step that is not refused: its verdict.
-fn run(cap: u32, table: &[u32], n: usize, state: &mut [u32], values: &mut [u32], tick: Tick) -> u32
-    requires { ⌜ (0 < n) × (4 * n ≤ length (now table)) × (n ≤ length (now state)) × (n ≤ length (now values)) ⌝ }
-    ensures { λ r. ⌜ after (Stepped.Verdict r) (now (state .exit)) (now (values .exit))
-        ≡ afterTick cap (now (table .entry)) n (now (state .entry)) (now (values .entry)) tick ⌝ }
-{
-    fill(cap, table, n, state, values, tick);
-    let flows = &values[..n];
-    advance(table, n, state, flows);
-    flows[n - 1]
-}
-
-// Makes a fresh state.
-pub fn fresh_state(table: &[u32], n: usize, state: &mut [u32]) -> Fresh
-    ensures { λ r. ⌜ afterFresh r (now (state .exit)) ≡ freshened (now (table .entry)) n (now (state .entry)) ⌝ }
-{
-    let Checked::Refused(number) = check_fresh(table, n, state) else {
-        reset(table, n, state);
-        return Fresh::Made;
-    };
-    Fresh::Refused(number)
-}
-
-// One step: a tick of the table.
-pub fn step(table: &[u32], n: usize, state: &mut [u32], values: &mut [u32], tick: Tick) -> Stepped
-    ensures { λ r. ⌜ after r (now (state .exit)) (now (values .exit))
-        ≡ stepped standardCap (now (table .entry)) n (now (state .entry)) (now (values .entry)) tick ⌝ }
-{
-    let Checked::Refused(number) = check_step(CAP, table, n, state, values, tick) else {
-        return Stepped::Verdict(run(CAP, table, n, state, values, tick));
-    };
-    Stepped::Refused(number)
-}
-
-// What a step answers to these arguments: its refusal, or that it has none. No step is run.
-pub fn step_checked(table: &[u32], n: usize, state: &[u32], values: &[u32], tick: Tick) -> Checked
-    ensures { λ r. ⌜ r
-        ≡ stepChecked standardCap (now (table .entry)) n (now (state .entry)) (now (values .entry)) tick ⌝ }
-{
-    check_step(CAP, table, n, state, values, tick)
-}
-
-// A step that is known to have no refusal: its verdict. After `step_checked` has passed, every further step with the
-// same parameters is such a step.
-pub fn step_passed(
-    table: &[u32],
-    n: usize,
-    state: &mut [u32],
-    values: &mut [u32],
-    tick: Tick,
-) -> u32
-    requires { ⌜ stepChecked standardCap (now table) n (now state) (now values) tick ≡ Checked.Passed ⌝ }
-    ensures { λ r. ⌜ after (Stepped.Verdict r) (now (state .exit)) (now (values .exit))
-        ≡ stepped standardCap (now (table .entry)) n (now (state .entry)) (now (values .entry)) tick ⌝ }
-{
-    run(CAP, table, n, state, values, tick)
 }

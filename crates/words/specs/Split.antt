@@ -5,7 +5,8 @@ use Prim.Native.Nat.{ℕ, zero, suc, _+_, _-_, _*_}
 use lib.Dec.{eqb, leb, ltb}
 use lib.ListN.{length, getD, drop}
 use Rattle.lists.specs.Same.{same}
-use Rattle.words.specs.Word.{ROUND, ROUND-END, SQUARE, SQUARE-END, NOT, AND, OR, LE, LT, EQ, GT, GE, BEGIN, PARAMETER, SIGNAL, LITERAL, keywords, within}
+use Rattle.words.specs.Word.{ROUND, ROUND-END, SQUARE, SQUARE-END, NOT, AND, OR, LE, LT, EQ, GT, GE, BEGIN}
+use Rattle.words.specs.Word.{PARAMETER, SIGNAL, LITERAL, keywords, within}
 use Rattle.words.specs.declared.Word.{Word}
 use Rattle.words.specs.declared.Word.the-variants.{Made, Bad}
 

@@ -3,7 +3,7 @@ use Prim.Native.Nat.{_-_}
 use native.Mathlib.Omega.{arith}
 use borrow.Author.Needs.{needs}
 use mathlib.Core.Path.{_∙_}
-use Rattle.tables.specs.Table.{signalCount}
+use Rattle.limits.specs.Limits.{signalCount}
 use Rattle.emitter.proofs.Header.{first-two-is, Settling, settling-none, settling-one, settling-all}
 use Rattle.emitter.proofs.settle_all.Statement.{statement}
 use Rattle.emitter.proofs.settle_all.Tie as tie

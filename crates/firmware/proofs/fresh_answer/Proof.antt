@@ -1,7 +1,7 @@
 -- `firmware::fresh_answer` meets its contract, case by case. Assumes nothing.
 use mathlib.Core.Path.{_≡_, sym, ap}
-use Rattle.tables.specs.Step.{freshAnswer}
-use Rattle.tables.specs.declared.Fresh.{Fresh}
+use Rattle.flows.specs.Step.{freshAnswer}
+use Rattle.flows.specs.declared.Fresh.{Fresh}
 use Rattle.firmware.specs.Face.{answer}
 use borrow.Author.Needs.{needs}
 use Rattle.firmware.proofs.fresh_answer.Statement.{statement}

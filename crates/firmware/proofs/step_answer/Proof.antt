@@ -1,7 +1,7 @@
 -- `firmware::step_answer` meets its contract, case by case. Assumes nothing.
 use mathlib.Core.Path.{_≡_, sym, ap}
-use Rattle.tables.specs.Step.{steppedAnswer}
-use Rattle.tables.specs.declared.Stepped.{Stepped}
+use Rattle.flows.specs.Step.{steppedAnswer}
+use Rattle.flows.specs.declared.Stepped.{Stepped}
 use Rattle.firmware.specs.Face.{answer}
 use borrow.Author.Needs.{needs}
 use Rattle.firmware.proofs.step_answer.Statement.{statement}

@@ -7,9 +7,7 @@ mod Of-parse-d
 mod Of-parse-f
 mod Of-parse-square
 mod Of-parse-u
-use Rattle.grammar.proofs.+parse_atom+parse_c+parse_d+parse_f+parse_square+parse_u.{
-  statement,
-}
+use Rattle.grammar.proofs.+parse_atom+parse_c+parse_d+parse_f+parse_square+parse_u.{statement}
 use Rattle.grammar.proofs.+parse_atom+parse_c+parse_d+parse_f+parse_square+parse_u.Tie.{
   close,
 }

@@ -6,7 +6,8 @@ use borrow.Author.Needs.{needs}
 use lib.ListN.{length, drop, getD}
 use Rattle.lustre.specs.Form.{digitLimit}
 use Rattle.lustre.specs.Inner.{further}
-use Rattle.lustre.proofs.Reading.{further-ends, further-stuck, further-goes, further-end, digit-told, room-told}
+use Rattle.lustre.proofs.Reading.{further-ends, further-stuck, further-goes, further-end, digit-told}
+use Rattle.lustre.proofs.Reading.{room-told}
 use Rattle.lustre.proofs.read_further.Statement.{statement}
 use Rattle.lustre.proofs.read_further.Tie as tie
 

@@ -4,7 +4,7 @@ use mathlib.Core.Path.{_≡_, refl, _∙_, ap}
 use Prim.Native.Nat.{_-_}
 use native.Mathlib.Omega.{arith}
 use lib.ListN.{length}
-use Rattle.tables.specs.Table.{equationLimit}
+use Rattle.limits.specs.Limits.{equationLimit}
 use Rattle.lustre.specs.Inner.{LinesAt}
 use Rattle.lustre.proofs.Lined.{line-told, no-line-told, stored-length}
 use Rattle.lustre.proofs.Lined.{lines-none, lines-next, lines-stop, lines-full}

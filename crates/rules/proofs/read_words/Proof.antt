@@ -8,7 +8,8 @@ use borrow.Author.Tests.{not-true, not-false}
 use Rattle.grammar.specs.Fragment.{beyond}
 use Rattle.rules.specs.Limits.{over}
 use Rattle.rules.proofs.Passes.{beyond-told}
-use Rattle.rules.proofs.Join.{Got, got, lost, laid-refused, laid-rule, over-words, tree-words, lost-tree, part-tree, beyond-words, no-lead-words}
+use Rattle.rules.proofs.Join.{Got, got, lost, laid-refused, laid-rule, over-words, tree-words, lost-tree}
+use Rattle.rules.proofs.Join.{part-tree, beyond-words, no-lead-words}
 use Rattle.rules.proofs.read_words.Statement.{statement}
 use Rattle.rules.proofs.read_words.Tie as tie
 

@@ -1,0 +1,110 @@
+-- Laws of the flows of a tick and of what is written to the state. Assumes nothing.
+use mathlib.Core.Path.{_≡_, refl, _∙_, ap}
+use mathlib.Core.Bool.{Bool, true, false, cond}
+use mathlib.Core.List.{List, [], _∷_, _++_, append-assoc}
+use mathlib.Core.Logic.{_≢_}
+use Prim.Native.Nat.{ℕ, zero, suc, _+_, _≤_, _<_}
+use native.Mathlib.Omega.{arith}
+use native.Mathlib.Numerals.{add-one}
+use native.Mathlib.Decide.{ℕ-discrete}
+use lib.ListN.{length, getD, set, drop, length-append, length-set, List·getD-append}
+use lib.Seq.{drop-cons, set-at, getD-at, getD-set-same, getD-set-other}
+use Rattle.traces.specs.declared.Tick.{Tick}
+use Rattle.tables.specs.Table.{numberAt, kindAt}
+use Rattle.flows.specs.Flow.{valueAt, flows, written}
+use Rattle.tables.specs.Table.{isMemory}
+
+-- The flows of a tick.
+module _ (cap : ℕ) (t : List ℕ) (k : Tick) (state : List ℕ) where
+  pub length-flows : (i : ℕ) → length (flows cap t k state i) ≡ i
+  unfolding flows
+  length-flows zero = refl
+  length-flows (suc i) = rw (length-append, length-flows i) (add-one i)
+
+  pub flows-none : flows cap t k state 0 ≡ []
+  unfolding flows
+  flows-none = refl
+
+  -- Flow i, after the first i,
+  flows-new : (i : ℕ) → numberAt (flows cap t k state (suc i)) i ≡ valueAt cap t k state (flows cap t k state i) i
+  unfolding flows
+  flows-new i =
+      getD-at (flows cap t k state i) (valueAt cap t k state (flows cap t k state i) i) [] 0 i (length-flows i)
+
+  -- which are kept.
+  flows-old : (i j : ℕ) → j < i → numberAt (flows cap t k state (suc i)) j ≡ numberAt (flows cap t k state i) j
+  unfolding flows
+  flows-old i j h =
+      List·getD-append (flows cap t k state i) (valueAt cap t k state (flows cap t k state i) i ∷ []) 0 j
+      (rw (length-flows i) h)
+
+  -- A flow is the same among the first i and among the first n.
+  pub flows-kept : (n i j : ℕ) → j < i → i ≤ n
+      → numberAt (flows cap t k state n) j ≡ numberAt (flows cap t k state i) j
+  flows-kept zero i j h g = absurd (omega arith)
+  flows-kept (suc n) i j h g =
+      elim (ℕ-discrete i (suc n)) [
+        | yes q ↦ rw q
+        | no q ↦ flows-old n j (omega arith) ∙ flows-kept n i j h (omega arith)
+      ]
+
+  -- Flow i of n is the value of equation i after the flows before it.
+  pub flows-at : (n i : ℕ) → i < n
+      → numberAt (flows cap t k state n) i ≡ valueAt cap t k state (flows cap t k state i) i
+  flows-at n i h = flows-kept n (suc i) i (omega arith) h ∙ flows-new i
+
+  -- The loop that fills a buffer: flow i is stored after the first i.
+  pub flows-store : (i x : ℕ) (values : List ℕ) → i < length values
+      → x ≡ valueAt cap t k state (flows cap t k state i) i
+      → set (flows cap t k state i ++ drop i values) i x ≡ flows cap t k state (i + 1) ++ drop (i + 1) values
+  unfolding flows
+  flows-store i x values h e =
+      ap (λ (l : List ℕ). set (flows cap t k state i ++ l) i x) (drop-cons values i 0 h)
+      ∙ set-at (flows cap t k state i) (getD values i 0) (drop (suc i) values) x i (length-flows i)
+      ∙ rw (add-one i, ← e, append-assoc)
+
+-- What is written to the state.
+module _ (t : List ℕ) (f : ℕ → ℕ) where
+  store-length : (b : Bool) (i : ℕ) (state : List ℕ) → length (cond b (set state i (f i)) state) ≡ length state
+  store-length true i state = length-set state i (f i)
+  store-length false i state = refl
+
+  pub length-written : (n : ℕ) (state : List ℕ) → length (written t f n state) ≡ length state
+  unfolding written
+  length-written zero state = refl
+  length-written (suc i) state =
+      store-length (isMemory (kindAt t i)) i (written t f i state) ∙ length-written i state
+
+  pub written-none : (state : List ℕ) → written t f 0 state ≡ state
+  unfolding written
+  written-none state = refl
+
+  -- The loop that writes: the cell of a memory is set,
+  pub written-memory : (i x : ℕ) (state cells : List ℕ) → cells ≡ written t f i state
+      → isMemory (kindAt t i) ≡ true → x ≡ f i → set cells i x ≡ written t f (i + 1) state
+  unfolding written
+  written-memory i x state cells now m e = rw (add-one i, m, now, e)
+
+  -- and any other is kept.
+  pub written-other : (i : ℕ) (state cells : List ℕ) → cells ≡ written t f i state → isMemory (kindAt t i) ≡ false
+      → cells ≡ written t f (i + 1) state
+  unfolding written
+  written-other i state cells now m = rw (add-one i, m) now
+
+  store-other : (b : Bool) (i j : ℕ) (state : List ℕ) → j ≢ i
+      → numberAt (cond b (set state i (f i)) state) j ≡ numberAt state j
+  store-other true i j state q = getD-set-other state i j (f i) 0 q
+  store-other false i j state q = refl
+
+  -- The cell of a memory below n has what is written to it.
+  pub written-at : (n i : ℕ) (state : List ℕ) → i < n → n ≤ length state → isMemory (kindAt t i) ≡ true
+      → numberAt (written t f n state) i ≡ f i
+  unfolding written
+  written-at zero i state h room m = absurd (omega arith)
+  written-at (suc n) i state h room m =
+      elim (ℕ-discrete i n) [
+        | yes q ↦ rw (q, rw q at m)
+            (getD-set-same (written t f n state) n (f n) 0 (rw (length-written n state) room))
+        | no q ↦ store-other (isMemory (kindAt t n)) n i (written t f n state) q
+            ∙ written-at n i state (omega arith) (omega arith) m
+      ]

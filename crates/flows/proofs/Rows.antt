@@ -1,0 +1,88 @@
+-- A table with an equation of each kind, and what its check, its fresh state and its steps give, by computation.
+-- Assumes nothing.
+use mathlib.Core.Path.{_≡_, refl}
+use mathlib.Core.Bool.{true}
+use mathlib.Core.List.{List, [], _∷_, _++_, map}
+use Prim.Native.Nat.{ℕ}
+use lib.ListN.{replicate, drop}
+use Rattle.traces.specs.declared.Tick.{Tick}
+use Rattle.tables.specs.Table.{all, kindOf, shapeOf, sameSort, isFlow, operandFits, shapeFits, lengthFits}
+use Rattle.tables.specs.Table.{equationsFit, checked}
+use Rattle.limits.specs.Limits.{standardCap}
+use Rattle.flows.specs.Flow.{increased, valueOf, flows, written, initial, inRange}
+use Rattle.tables.specs.Table.{isMemory}
+use Rattle.flows.specs.Step.{Answer, gives, refused, checkedAnswer, freshAnswer, steppedAnswer, parameterFits}
+use Rattle.flows.specs.Step.{cellFits, freshChecked, stepChecked, freshened, after, afterTick}
+use Rattle.flows.specs.Step.{stepped}
+use Rattle.flows.specs.Run.{Call, answers}
+use Rattle.flows.specs.declared.Stepped.the-variants.{Verdict}
+
+-- f0=s5; f1=b; f2=true; f3=not f0; f4=f0 and f1; f5=f0 or f1; f6=true->pre(f0); f7=0->pre(f8); f8=cap(f7,f0);
+-- f9=if f6 then f8 else 0; f10=f8>1; f11=f8<=k0;
+abbrev table : List ℕ
+table =
+    0 ∷ 5 ∷ 0 ∷ 0 ∷ 1 ∷ 0 ∷ 0 ∷ 0 ∷ 2 ∷ 1 ∷ 0 ∷ 0 ∷ 3 ∷ 0 ∷ 0 ∷ 0 ∷ 4 ∷ 0 ∷ 1 ∷ 0 ∷ 5 ∷ 0 ∷ 1 ∷ 0
+    ∷ 6 ∷ 0 ∷ 0 ∷ 1 ∷ 7 ∷ 8 ∷ 0 ∷ 0 ∷ 8 ∷ 7 ∷ 0 ∷ 0 ∷ 9 ∷ 6 ∷ 8 ∷ 0 ∷ 10 ∷ 8 ∷ 3 ∷ 1 ∷ 11 ∷ 8 ∷ 0 ∷ 0 ∷ []
+
+-- A tick with that start and these signals, k0 = x and the other parameters 0.
+abbrev tick : ℕ → ℕ → ℕ → Tick
+tick s g x = record { start = s; signals = g; parameters = x ∷ replicate 7 0 }
+
+-- Fourteen cells before the fresh state, each 9, and after it.
+abbrev old : List ℕ
+old = replicate 14 9
+
+abbrev fresh : List ℕ
+fresh = replicate 6 9 ++ (1 ∷ 0 ∷ replicate 6 9)
+
+abbrev call : ℕ → ℕ → ℕ → ℕ → Call
+call s g x room = record { tick = tick s g x; values = replicate room 7 }
+
+-- What a list of calls answers, as document 01 has it.
+abbrev answered : List Call → List Answer
+answered xs = map steppedAnswer (answers standardCap table 12 fresh xs)
+
+check-rows : map checkedAnswer
+    (checked table 12 ∷ checked table 0 ∷ checked table 13 ∷ checked table 4097 ∷ checked table 10
+    ∷ checked (drop 4 table) 11 ∷ [])
+    ≡ gives 0 ∷ refused 10 ∷ refused 10 ∷ refused 10 ∷ refused 11 ∷ refused 11 ∷ []
+unfolding checked lengthFits equationsFit all shapeFits shapeOf kindOf operandFits isFlow sameSort
+check-rows = refl
+
+fresh-row : freshened table 12 old .state ≡ fresh
+unfolding freshened freshChecked lengthFits equationsFit all shapeFits shapeOf kindOf operandFits isFlow sameSort
+    written isMemory initial
+fresh-row = refl
+
+fresh-short : freshAnswer (freshened table 12 (replicate 11 9) .answer) ≡ refused 12
+unfolding freshened freshChecked lengthFits equationsFit all shapeFits shapeOf kindOf operandFits isFlow sameSort
+fresh-short = refl
+
+-- Three ticks, with refused calls among them: too few values, and a parameter above 999,999.
+step-rows : answered
+    (call 1 32 1 12 ∷ call 1 32 1 11 ∷ call 0 32 1 13 ∷ call 0 0 1000000 12 ∷ call 0 0 1 12 ∷ [])
+    ≡ gives 1 ∷ refused 12 ∷ gives 0 ∷ refused 13 ∷ gives 0 ∷ []
+unfolding answers stepped stepChecked lengthFits equationsFit all shapeFits shapeOf kindOf operandFits isFlow sameSort
+    written isMemory afterTick flows valueOf increased parameterFits cellFits inRange
+step-rows = refl
+
+-- The second of these ticks whole.
+step-row : stepped standardCap table 12 (replicate 6 9 ++ (1 ∷ 1 ∷ replicate 6 9)) (replicate 13 7) (tick 0 32 1)
+    ≡ after (Verdict 0) (replicate 6 9 ++ (1 ∷ 2 ∷ replicate 6 9))
+    (1 ∷ 0 ∷ 1 ∷ 0 ∷ 0 ∷ 1 ∷ 1 ∷ 1 ∷ 2 ∷ 2 ∷ 1 ∷ 0 ∷ 7 ∷ [])
+unfolding stepped stepChecked lengthFits equationsFit all shapeFits shapeOf kindOf operandFits isFlow sameSort
+    written isMemory afterTick flows valueOf increased parameterFits cellFits inRange
+step-row = refl
+
+-- A count at the cap stays there, and a cell above it is refused.
+cap-row : increased standardCap standardCap true ≡ standardCap
+unfolding increased
+cap-row = refl
+
+cell-row :
+    steppedAnswer
+    (stepped standardCap table 12 (replicate 7 1 ++ (1000001 ∷ replicate 4 0)) (replicate 12 7) (tick 0 0 1) .answer)
+    ≡ refused 14
+unfolding stepped stepChecked lengthFits equationsFit all shapeFits shapeOf kindOf operandFits isFlow sameSort
+    parameterFits cellFits inRange isMemory
+cell-row = refl

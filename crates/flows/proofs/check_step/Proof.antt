@@ -1,0 +1,107 @@
+-- `flows::check_step` meets its contract. Assumes nothing.
+use mathlib.Core.Path.{_≡_, sym, _∙_}
+use mathlib.Core.Bool.{Bool, true, false, cond}
+use native.Mathlib.Omega.{arith}
+use borrow.Author.Tests.{lt-leb, le-leb, not-true, not-false}
+use lib.ListN.{drop}
+use Rattle.flows.specs.Step.{stepTests, stepChecked}
+use Rattle.tables.specs.Table.{checked}
+use Rattle.tables.specs.declared.Checked.{Checked}
+use Rattle.tables.specs.declared.Checked.the-variants.{Passed, Refused}
+use Rattle.tables.proofs.Checks.{refused-table, passed-both, checked-fitting}
+use borrow.Author.Needs.{needs}
+use Rattle.flows.proofs.check_step.Statement.{statement}
+use Rattle.flows.proofs.check_step.Tie as tie
+
+-- The table passed its tests.
+passed : (c : tie.After-enum-told) → (let args = c .before .before .before .before .before .before .args in
+    checked (args .table .now) (args .n) ≡ Passed)
+passed c = sym (c .before .before .check-table .ensures) ∙ c .enum-told .given .1
+
+-- What the tests of the call say.
+abbrev checkedAt : tie.Else3 → Checked
+checkedAt c =
+    let args = c .before .before .before .before .before .before .before .before .before .before .args in
+    stepChecked (args .cap) (args .table .now) (args .n) (args .state .now) (args .values .now) (args .tick)
+
+returns : tie.Need-returns
+unfolding stepChecked
+returns c =
+    let args = c .before .before .before .before .before .before .args in
+    let told = c .enum-told2 .given .1 in
+    let t = args .table .now in
+    let tests = stepTests (args .cap) t (args .n) (args .state .now) (args .values .now) (args .tick) in
+    told ∙ sym (refused-table _ _ _ (drop 2 tests) (sym (c .before .before .check-table .ensures) ∙ told))
+
+returns-2 : tie.Need-returns-2
+unfolding stepChecked
+returns-2 c =
+    let p = passed-both _ _ (passed (c .before)) in
+    rw (p .0, p .1, lt-leb _ _ (c .if1 .taken))
+
+returns-3 : tie.Need-returns-3
+unfolding stepChecked
+returns-3 c =
+    let p = passed-both _ _ (passed (c .before .before)) in
+    rw (p .0, p .1, le-leb _ _ (c .before .if1 .left), lt-leb _ _ (c .if2 .taken))
+
+returns-4 : tie.Need-returns-4
+unfolding stepChecked
+returns-4 c =
+    let p = passed-both _ _ (passed (c .before .before .before .before)) in
+    let room = c .before .before in
+    let params = c .before .parameters-fit in
+    rw (
+      p .0,
+      p .1,
+      le-leb _ _ (room .before .if1 .left),
+      le-leb _ _ (room .if2 .left),
+      ← params .ensures,
+      not-true (params .result) (c .if3 .taken),
+    )
+
+cells-fit-requires : tie.Need-cells-fit-requires
+cells-fit-requires c κs =
+    let fit = checked-fitting _ _ (passed (c .before .before .before .before)) in
+    omega arith
+
+-- After the test of the cells, which says b.
+decided : (c : tie.After-cells-fit) (b : Bool) → c .cells-fit .result ≡ b
+    → cond b Passed (Refused 14) ≡ checkedAt (c .before)
+unfolding stepChecked
+decided c b e =
+    let p = passed-both _ _ (passed (c .before .before .before .before .before)) in
+    let room = c .before .before .before in
+    let params = c .before .before .parameters-fit in
+    rw (
+      p .0,
+      p .1,
+      le-leb _ _ (room .before .if1 .left),
+      le-leb _ _ (room .if2 .left),
+      ← params .ensures,
+      not-false (params .result) (c .before .if3 .left),
+      ← c .cells-fit .ensures,
+      e,
+    )
+
+returns-5 : tie.Need-returns-5
+returns-5 c = decided (c .before) false (not-true (c .before .cells-fit .result) (c .if4 .taken))
+
+returns-6 : tie.Need-returns-6
+returns-6 c = decided (c .before) true (not-false (c .before .cells-fit .result) (c .if4 .left))
+
+pub check-step-spec : {M : Type 1} → statement M
+check-step-spec =
+    tie.close
+    (tie.spec
+    (λ c κs. search needs)
+    (λ c. search needs)
+    (λ c. search needs)
+    returns
+    returns-2
+    returns-3
+    (λ c κs. search needs)
+    returns-4
+    cells-fit-requires
+    returns-5
+    returns-6)

@@ -1,0 +1,17 @@
+-- `flows::conjunction` meets its contract. Assumes nothing.
+use Rattle.traces.proofs.Laws.{nonzero-pos}
+use Rattle.flows.proofs.Numbers.{nonzero-none}
+use Rattle.flows.proofs.conjunction.Statement.{statement}
+use Rattle.flows.proofs.conjunction.Tie as tie
+
+returns : tie.Need-returns
+returns c = rw (nonzero-pos _ (c .before .if1 .taken), nonzero-pos _ (c .if2 .taken))
+
+returns-2 : tie.Need-returns-2
+returns-2 c = rw (nonzero-pos _ (c .before .if1 .taken), nonzero-none _ (c .if2 .left))
+
+returns-3 : tie.Need-returns-3
+returns-3 c = rw (nonzero-none _ (c .if1 .left))
+
+pub conjunction-spec : {M : Type 1} → statement M
+conjunction-spec = tie.close (tie.spec returns returns-2 returns-3)

@@ -1,0 +1,38 @@
+-- `flows::fresh_state` meets its contract. Assumes nothing.
+use mathlib.Core.Path.{sym, ap, _∙_}
+use Rattle.flows.specs.Step.{afterFresh, freshened}
+use Rattle.flows.specs.declared.Fresh.the-variants.{Made}
+use Rattle.flows.proofs.Checks.{fresh-passed}
+use borrow.Author.Needs.{needs}
+use Rattle.flows.proofs.fresh_state.Statement.{statement}
+use Rattle.flows.proofs.fresh_state.Tie as tie
+
+reset-requires : tie.Need-reset-requires
+reset-requires c κs =
+    let told = c .before .enum-told .given .1 in
+    let p = fresh-passed _ _ _ (sym (c .before .before .before .check-fresh .ensures) ∙ told) in
+    (p .0 .whole, p .1)
+
+returns : tie.Need-returns
+unfolding freshened
+returns c =
+    let told = c .before .before .before .before .enum-told .given .1 in
+    let check = c .before .before .before .before .before .before .check-fresh in
+    rw (← check .ensures, told) (ap (afterFresh Made) (c .before .before .reset .ensures))
+
+returns-2 : tie.Need-returns-2
+unfolding freshened
+returns-2 c = rw (← c .before .before .before .check-fresh .ensures, c .before .number .given .1)
+
+pub fresh-state-spec : {M : Type 1} → statement M
+fresh-state-spec =
+    tie.close
+    (tie.spec
+    (λ c κs. search needs)
+    (λ c. search needs)
+    (λ c. search needs)
+    reset-requires
+    (λ c. search needs)
+    returns
+    (λ c. search needs)
+    returns-2)

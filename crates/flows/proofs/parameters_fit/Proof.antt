@@ -1,0 +1,59 @@
+-- `flows::parameters_fit` meets its contract. The invariant: the first j parameters are below the cap.
+use Rattle.traces.specs.Trace.{parameterAt}
+-- Assumes nothing.
+use mathlib.Core.Path.{_≡_, sym}
+use mathlib.Core.Bool.{true}
+use Prim.Native.Nat.{_≤_, _-_}
+use native.Mathlib.Omega.{arith}
+use borrow.Author.Needs.{needs}
+use Rattle.tables.specs.Table.{all}
+use Rattle.flows.specs.Step.{parameterFits}
+use Rattle.tables.proofs.Tests.{all-none, all-more, all-stop}
+use borrow.Author.Tests.{lt-ltb, le-ltb}
+use Rattle.flows.proofs.parameters_fit.Statement.{statement}
+use Rattle.flows.proofs.parameters_fit.Tie as tie
+
+abbrev Inv-loop : tie.InvT-loop
+Inv-loop cap tick j₀ j = (j ≤ 8) × (all (parameterFits cap tick) j ≡ true)
+
+abbrev μ-loop : tie.MeasureT-loop
+μ-loop cap tick j₀ j = 8 - j
+
+loop-holds : tie.Need-loop-holds Inv-loop μ-loop
+loop-holds c = (omega arith, all-none _)
+
+returns : tie.Need-returns Inv-loop μ-loop
+unfolding parameterFits
+returns c =
+    let args = c .before .before .before .before .args in
+    let j = c .before .before .before .loop .j in
+    sym (all-stop (parameterFits (args .cap) (args .tick)) j 8 (omega arith)
+    (le-ltb (parameterAt (args .tick) j) (args .cap) (omega (arith, c .before .parameter .ensures))))
+
+loop-again : tie.Need-loop-again Inv-loop μ-loop
+unfolding parameterFits
+loop-again c =
+    let args = c .before .before .before .before .args in
+    let loop = c .before .before .before .loop in
+    let j = loop .j in (
+      omega arith,
+      all-more _ j (loop .inv .1)
+          (lt-ltb (parameterAt (args .tick) j) (args .cap) (omega (arith, c .before .parameter .ensures))),
+    )
+
+returns-2 : tie.Need-returns-2 Inv-loop μ-loop
+returns-2 c = let z : c .before .loop .j ≡ 8 = omega arith in rw z at (sym (c .before .loop .inv .1))
+
+pub parameters-fit-spec : {M : Type 1} → statement M
+parameters-fit-spec =
+    tie.close
+    (tie.spec
+    Inv-loop
+    μ-loop
+    loop-holds
+    (λ c κs. search needs)
+    returns
+    (λ c. omega arith)
+    (λ c. omega arith)
+    loop-again
+    returns-2)

@@ -1,0 +1,52 @@
+-- `flows::run` meets its contract: the flows, then the state, then the verdict. Assumes nothing.
+use lib.ListN.{length-take}
+use mathlib.Core.Path.{_≡_, sym, ap, _∙_}
+use mathlib.Core.List.{List, _++_}
+use Prim.Native.Nat.{ℕ, _-_}
+use native.Mathlib.Omega.{arith}
+use lib.ListN.{take, drop}
+use lib.Seq.{take-at, length-take-le}
+use Rattle.traces.specs.declared.Tick.{Tick}
+use Rattle.tables.specs.Table.{numberAt}
+use Rattle.flows.specs.Flow.{flows, nextState}
+use Rattle.flows.specs.Step.{after, afterTick}
+use Rattle.flows.specs.declared.Stepped.the-variants.{Verdict}
+use Rattle.flows.proofs.Buffers.{length-flows}
+use borrow.Author.Needs.{needs}
+use Rattle.flows.proofs.run.Statement.{statement}
+use Rattle.flows.proofs.run.Tie as tie
+
+whole : (cap : ℕ) (t : List ℕ) (n : ℕ) (k : Tick) (state₀ values₀ state values : List ℕ)
+    → values ≡ flows cap t k state₀ n ++ drop n values₀ → state ≡ nextState t (take n values) n state₀
+    → after (Verdict (numberAt (take n values) (n - 1))) state values ≡ afterTick cap t n state₀ values₀ k
+unfolding afterTick
+whole cap t n k state₀ values₀ state values ev es =
+    let fs = flows cap t k state₀ n in
+    let first : take n values ≡ fs = ap (take n) ev ∙ take-at fs (drop n values₀) n (length-flows cap t k state₀ n) in
+    rw (es, first, ev)
+
+slice-aggregate-flows : tie.Need-slice-aggregate-flows
+slice-aggregate-flows c = sym (length-take-le _ _ (omega arith))
+
+shared-slice-read-result : tie.Need-shared-slice-read-result
+shared-slice-read-result c = simp length-take (omega arith)
+
+returns : tie.Need-returns
+returns c =
+    let fill = c .before .before .before .before .before .before .before .before .fill in
+    whole _ _ _ _ _ _ _ _ (fill .ensures) (c .before .before .before .advance .ensures)
+
+pub run-spec : {M : Type 1} → statement M
+run-spec =
+    tie.close
+    (tie.spec
+    (λ c κs. search needs)
+    (λ c. search needs)
+    slice-aggregate-flows
+    (λ c κs. search needs)
+    (λ c. search needs)
+    (λ c. search needs)
+    shared-slice-read-result
+    (λ c. search needs)
+    (λ c. search needs)
+    returns)

@@ -1,0 +1,132 @@
+-- The fresh state and the step with their refusals: the whole effect of a call as one record. Definitions only.
+-- The sentences quoted are document 01's, from "Each operation and its refusals".
+use mathlib.Core.Bool.{Bool, not, _&&_, _||_}
+use mathlib.Core.List.{List, [], _∷_, _++_}
+use Prim.Native.Nat.{ℕ, _-_}
+use lib.Dec.{leb, ltb}
+use lib.ListN.{length, drop}
+use Rattle.traces.specs.declared.Tick.{Tick}
+use Rattle.traces.specs.Trace.{parameterAt}
+use Rattle.tables.specs.Table.{numberAt, all, Kind, kindAt, sortOf}
+use Rattle.limits.specs.Limits.{parameterCount}
+use Rattle.tables.specs.Table.{Test, test, firstFailed, tableTests}
+use Rattle.flows.specs.Flow.{flows, inRange, freshState, nextState}
+use Rattle.tables.specs.Table.{isMemory}
+use Rattle.tables.specs.declared.Checked.{Checked}
+use Rattle.tables.specs.declared.Checked.the-variants.{Passed, Refused as Failed}
+use Rattle.flows.specs.declared.Fresh.{Fresh}
+use Rattle.flows.specs.declared.Fresh.the-variants.{Made, Refused as NotMade}
+use Rattle.flows.specs.declared.Stepped.{Stepped}
+use Rattle.flows.specs.declared.Stepped.the-variants.{Verdict, Refused}
+
+-- "A refusal gives its number and no other result (0 elsewhere)": an answer as document 01 has it.
+pub record Answer : Type 0 where
+  pub refusal : ℕ
+  pub result : ℕ
+
+abbrev pub refused : ℕ → Answer
+refused r = record { refusal = r; result = 0 }
+
+abbrev pub gives : ℕ → Answer
+gives x = record { refusal = 0; result = x }
+
+-- The check of a table gives no number,
+abbrev pub checkedAnswer : Checked → Answer
+checkedAnswer Passed = gives 0
+checkedAnswer (Failed r) = refused r
+
+-- "a fresh state no number",
+abbrev pub freshAnswer : Fresh → Answer
+freshAnswer Made = gives 0
+freshAnswer (NotMade r) = refused r
+
+-- "a step the verdict".
+abbrev pub steppedAnswer : Stepped → Answer
+steppedAnswer (Verdict v) = gives v
+steppedAnswer (Refused r) = refused r
+
+-- "12: the state is shorter than n."
+abbrev pub freshTests : List ℕ → ℕ → List ℕ → List Test
+freshTests t n state = tableTests t n ++ (test 12 (leb n (length state)) ∷ [])
+
+-- "12: state or values shorter than n"
+abbrev pub roomTest : ℕ → List ℕ → List ℕ → Test
+roomTest n state values = test 12 (leb n (length state) && leb n (length values))
+
+-- Parameter j of a tick is below the cap.
+unfoldable pub parameterFits : ℕ → Tick → ℕ → Bool
+parameterFits cap k j = ltb (parameterAt k j) cap
+
+-- "13: a parameter above 999,999"
+abbrev pub parameterTest : ℕ → Tick → Test
+parameterTest cap k = test 13 (all (parameterFits cap k) parameterCount)
+
+-- The cell x of an equation of that kind is in its sort's range, if it is a memory's.
+unfoldable pub cellFits : ℕ → Kind → ℕ → Bool
+cellFits cap q x = not (isMemory q) || inRange cap (sortOf q) x
+
+abbrev pub cellFitsAt : ℕ → List ℕ → List ℕ → ℕ → Bool
+cellFitsAt cap t state i = cellFits cap (kindAt t i) (numberAt state i)
+
+abbrev pub cellsFit : ℕ → List ℕ → ℕ → List ℕ → Bool
+cellsFit cap t n state = all (cellFitsAt cap t state) n
+
+-- "14: a memory's cell outside its sort's range"
+abbrev pub cellTest : ℕ → List ℕ → ℕ → List ℕ → Test
+cellTest cap t n state = test 14 (cellsFit cap t n state)
+
+-- "Step. 10, 11; 12 [..]; 13 [..]; 14 [..]."
+abbrev pub stepTests : ℕ → List ℕ → ℕ → List ℕ → List ℕ → Tick → List Test
+stepTests cap t n state values k =
+    tableTests t n ++ (roomTest n state values ∷ parameterTest cap k ∷ cellTest cap t n state ∷ [])
+
+-- What the refusals of a fresh state say of a call: the first that applies, or none.
+unfoldable pub freshChecked : List ℕ → ℕ → List ℕ → Checked
+freshChecked t n state = firstFailed (freshTests t n state)
+
+-- The same of a step.
+unfoldable pub stepChecked : ℕ → List ℕ → ℕ → List ℕ → List ℕ → Tick → Checked
+stepChecked cap t n state values k = firstFailed (stepTests cap t n state values k)
+
+-- What making a fresh state answers, and the state that it leaves.
+pub record AfterFresh : Type 0 where
+  pub answer : Fresh
+  pub state : List ℕ
+
+abbrev pub afterFresh : Fresh → List ℕ → AfterFresh
+afterFresh r state = record { answer = r; state = state }
+
+-- A refusal "changes no lent memory".
+abbrev pub freshenedIf : Checked → List ℕ → ℕ → List ℕ → AfterFresh
+freshenedIf Passed t n state = afterFresh Made (freshState t n state)
+freshenedIf (Failed r) t n state = afterFresh (NotMade r) state
+
+-- The whole effect of making a fresh state.
+unfoldable pub freshened : List ℕ → ℕ → List ℕ → AfterFresh
+freshened t n state = freshenedIf (freshChecked t n state) t n state
+
+-- What a step answers, and the state and the values that it leaves.
+pub record After : Type 0 where
+  pub answer : Stepped
+  pub state : List ℕ
+  pub values : List ℕ
+
+abbrev pub after : Stepped → List ℕ → List ℕ → After
+after r state values = record { answer = r; state = state; values = values }
+
+-- After a tick with the flows fs: the last one is the verdict, and "Cells and values after equation n−1 are kept".
+abbrev pub afterFlows : List ℕ → ℕ → List ℕ → List ℕ → List ℕ → After
+afterFlows t n state values fs = after (Verdict (numberAt fs (n - 1))) (nextState t fs n state) (fs ++ drop n values)
+
+-- After a step that is not refused.
+unfoldable pub afterTick : ℕ → List ℕ → ℕ → List ℕ → List ℕ → Tick → After
+afterTick cap t n state values k = afterFlows t n state values (flows cap t k state n)
+
+-- A refusal "changes no lent memory".
+abbrev pub steppedIf : Checked → ℕ → List ℕ → ℕ → List ℕ → List ℕ → Tick → After
+steppedIf Passed cap t n state values k = afterTick cap t n state values k
+steppedIf (Failed r) cap t n state values k = after (Refused r) state values
+
+-- The whole effect of a step.
+unfoldable pub stepped : ℕ → List ℕ → ℕ → List ℕ → List ℕ → Tick → After
+stepped cap t n state values k = steppedIf (stepChecked cap t n state values k) cap t n state values k

@@ -1,0 +1,347 @@
+// The flows of an equation table: a fresh state, and the step that runs a table for one tick, refusals 10 to 14. What
+// they mean is in specs/.
+use tables::Checked;
+use traces::Tick;
+ghost use mathlib.Core.Path.{_≡_};
+ghost use mathlib.Core.Bool.{_&&_, _||_, cond};
+ghost use mathlib.Core.List.{_++_};
+ghost use Prim.Native.Nat.{_+_, _*_, _≤_, _<_};
+ghost use lib.ListN.{length, drop};
+ghost use Rattle.limits.specs.Limits.{parameterCount, standardCap};
+ghost use Rattle.traces.specs.Trace.{truth, nonzero, parameterAt, bit};
+ghost use Rattle.traces.specs.Compare.{opOf, compares};
+ghost use Rattle.tables.specs.Table.{numberAt, all, kindOf, sortOf, equationAt, kindAt};
+ghost use Rattle.flows.specs.Flow.{increased, valueOf, flows, initial, freshState, nextState};
+ghost use Rattle.flows.specs.Step.{parameterFits, cellFits, cellsFit, freshChecked, stepChecked};
+ghost use Rattle.flows.specs.Step.{afterFresh, freshened, after, afterTick, stepped};
+
+// What making a fresh state answers.
+pub enum Fresh {
+    Made,
+    Refused(u32),
+}
+
+// What a step answers.
+pub enum Stepped {
+    Verdict(u32),
+    Refused(u32),
+}
+
+// The numbers of the operators; 4 is `>=`.
+const LE: u32 = 0;
+
+const LT: u32 = 1;
+
+const EQ: u32 = 2;
+
+const GT: u32 = 3;
+
+// x op y, by the operator's number.
+pub fn compare(op: u32, x: u32, y: u32) -> bool
+    ensures { λ r. ⌜ r ≡ compares (opOf op) x y ⌝ }
+{
+    match op {
+        LE => x <= y,
+        LT => x < y,
+        EQ => x == y,
+        GT => x > y,
+        _ => x >= y,
+    }
+}
+
+// Number i of a buffer, or 0 past its end.
+fn number_at(numbers: &[u32], i: u32) -> u32
+    ensures { λ r. ⌜ r ≡ numberAt (now (numbers .entry)) i ⌝ }
+{
+    let j = i as usize;
+    if j < numbers.len() { numbers[j] } else { 0 }
+}
+
+// A truth value as a number.
+fn number(b: bool) -> u32
+    ensures { λ r. ⌜ r ≡ truth b ⌝ }
+{
+    if b { 1 } else { 0 }
+}
+
+// Bit j of the signals.
+fn signal_at(signals: u64, j: u32) -> u32
+    ensures { λ r. ⌜ r ≡ truth (nonzero (bit signals j)) ⌝ }
+{
+    if j < limits::SIGNALS {
+        ((signals >> j) % 2) as u32
+    } else {
+        0
+    }
+}
+
+// Parameter j of a tick.
+fn parameter(tick: Tick, j: u32) -> u32
+    ensures { λ r. ⌜ r ≡ parameterAt tick j ⌝ }
+{
+    number_at(&tick.parameters, j)
+}
+
+// x and y.
+fn conjunction(x: u32, y: u32) -> u32
+    ensures { λ r. ⌜ r ≡ truth (nonzero x && nonzero y) ⌝ }
+{
+    if 0 < x {
+        if 0 < y {
+            return 1;
+        }
+    }
+    0
+}
+
+// x or y.
+fn disjunction(x: u32, y: u32) -> u32
+    ensures { λ r. ⌜ r ≡ truth (nonzero x || nonzero y) ⌝ }
+{
+    if 0 < x {
+        return 1;
+    }
+    if 0 < y {
+        return 1;
+    }
+    0
+}
+
+// The count x, one more if y is yes, never above the cap.
+fn increase(cap: u32, x: u32, y: u32) -> u32
+    ensures { λ r. ⌜ r ≡ increased cap x (nonzero y) ⌝ }
+{
+    if y == 0 {
+        return x;
+    }
+    if x < cap { x + 1 } else { cap }
+}
+
+// If x is yes then y, else 0.
+fn gate(x: u32, y: u32) -> u32
+    ensures { λ r. ⌜ r ≡ cond (nonzero x) y 0 ⌝ }
+{
+    if 0 < x { y } else { 0 }
+}
+
+// The value of equation i, from its cell and the flows before it.
+fn value(cap: u32, table: &[u32], i: usize, tick: Tick, cell: u32, before: &[u32]) -> u32
+    requires { ⌜ 4 * i + 3 < length (now table) ⌝ }
+    ensures { λ r. ⌜ r ≡ valueOf cap tick (numberAt (now (before .entry))) cell
+        (kindAt (now (table .entry)) i) (equationAt (now (table .entry)) i) ⌝ }
+{
+    let k = table[4 * i];
+    let a = table[4 * i + 1];
+    let b = table[4 * i + 2];
+    let c = table[4 * i + 3];
+    match k {
+        tables::SIGNAL => signal_at(tick.signals, a),
+        tables::START => number(0 < tick.start),
+        tables::CONSTANT => a,
+        tables::NOT => number(number_at(before, a) == 0),
+        tables::AND => conjunction(number_at(before, a), number_at(before, b)),
+        tables::OR => disjunction(number_at(before, a), number_at(before, b)),
+        tables::BOOLEAN_PRE => cell,
+        tables::COUNT_PRE => cell,
+        tables::CAPPED => increase(cap, number_at(before, a), number_at(before, b)),
+        tables::IF => gate(number_at(before, a), number_at(before, b)),
+        tables::COMPARE_LITERAL => number(compare(b, number_at(before, a), c)),
+        tables::COMPARE_PARAMETER => number(compare(b, number_at(before, a), parameter(tick, c))),
+        _ => 0,
+    }
+}
+
+// The flows of the n equations, into values.
+fn fill(cap: u32, table: &[u32], n: usize, state: &[u32], values: &mut [u32], tick: Tick)
+    requires { ⌜ (4 * n ≤ length (now table)) × (n ≤ length (now state)) × (n ≤ length (now values)) ⌝ }
+    ensures { λ r. ⌜ now (values .exit)
+        ≡ flows cap (now (table .entry)) tick (now (state .entry)) n ++ drop n (now (values .entry)) ⌝ }
+{
+    let mut i = 0;
+    while i < n {
+        let v = value(cap, table, i, tick, state[i], &values[..i]);
+        values[i] = v;
+        i += 1;
+    }
+}
+
+// The memories' next values, into the state.
+fn advance(table: &[u32], n: usize, state: &mut [u32], flows: &[u32])
+    requires { ⌜ (4 * n ≤ length (now table)) × (n ≤ length (now state)) ⌝ }
+    ensures { λ r. ⌜ now (state .exit) ≡ nextState (now (table .entry)) (now (flows .entry)) n (now (state .entry)) ⌝ }
+{
+    let mut i = 0;
+    while i < n {
+        if tables::is_memory(table[4 * i]) {
+            let a = table[4 * i + 1];
+            state[i] = number_at(flows, a);
+        }
+        i += 1;
+    }
+}
+
+// A memory's initial value: C of a boolean, 0 of a count.
+fn initial_value(k: u32, c: u32) -> u32
+    ensures { λ r. ⌜ r ≡ initial (sortOf (kindOf k)) c ⌝ }
+{
+    if tables::is_count(k) { 0 } else { c }
+}
+
+// The memories' initial values, into the state.
+fn reset(table: &[u32], n: usize, state: &mut [u32])
+    requires { ⌜ (4 * n ≤ length (now table)) × (n ≤ length (now state)) ⌝ }
+    ensures { λ r. ⌜ now (state .exit) ≡ freshState (now (table .entry)) n (now (state .entry)) ⌝ }
+{
+    let mut i = 0;
+    while i < n {
+        let k = table[4 * i];
+        if tables::is_memory(k) {
+            let c = table[4 * i + 3];
+            state[i] = initial_value(k, c);
+        }
+        i += 1;
+    }
+}
+
+// Whether every parameter is below the cap.
+fn parameters_fit(cap: u32, tick: Tick) -> bool
+    ensures { λ r. ⌜ r ≡ all (parameterFits cap tick) parameterCount ⌝ }
+{
+    let mut j = 0;
+    while j < limits::PARAMETERS {
+        if cap <= parameter(tick, j) {
+            return false;
+        }
+        j += 1;
+    }
+    true
+}
+
+// Whether x, if it is the cell of a memory, is in its sort's range.
+fn cell_fits(cap: u32, k: u32, x: u32) -> bool
+    ensures { λ r. ⌜ r ≡ cellFits cap (kindOf k) x ⌝ }
+{
+    match k {
+        tables::BOOLEAN_PRE => x < limits::TRUTHS,
+        tables::COUNT_PRE => x <= cap,
+        _ => true,
+    }
+}
+
+// Whether the cell of each memory is in its sort's range.
+fn cells_fit(cap: u32, table: &[u32], n: usize, state: &[u32]) -> bool
+    requires { ⌜ (4 * n ≤ length (now table)) × (n ≤ length (now state)) ⌝ }
+    ensures { λ r. ⌜ r ≡ cellsFit cap (now (table .entry)) n (now (state .entry)) ⌝ }
+{
+    let mut i = 0;
+    while i < n {
+        if !cell_fits(cap, table[4 * i], state[i]) {
+            return false;
+        }
+        i += 1;
+    }
+    true
+}
+
+// The refusals of a fresh state: 10 to 12.
+fn check_fresh(table: &[u32], n: usize, state: &[u32]) -> Checked
+    ensures { λ r. ⌜ r ≡ freshChecked (now (table .entry)) n (now (state .entry)) ⌝ }
+{
+    let checked = tables::check_table(table, n);
+    let Checked::Passed = checked else {
+        return checked;
+    };
+    if state.len() < n {
+        return Checked::Refused(12);
+    }
+    Checked::Passed
+}
+
+// The refusals of a step: 10 to 14.
+fn check_step(
+    cap: u32,
+    table: &[u32],
+    n: usize,
+    state: &[u32],
+    values: &[u32],
+    tick: Tick,
+) -> Checked
+    ensures { λ r. ⌜ r
+        ≡ stepChecked cap (now (table .entry)) n (now (state .entry)) (now (values .entry)) tick ⌝ }
+{
+    let checked = tables::check_table(table, n);
+    let Checked::Passed = checked else {
+        return checked;
+    };
+    if state.len() < n {
+        return Checked::Refused(12);
+    }
+    if values.len() < n {
+        return Checked::Refused(12);
+    }
+    if !parameters_fit(cap, tick) {
+        return Checked::Refused(13);
+    }
+    if !cells_fit(cap, table, n, state) {
+        return Checked::Refused(14);
+    }
+    Checked::Passed
+}
+
+// A step that is not refused: its verdict.
+fn run(cap: u32, table: &[u32], n: usize, state: &mut [u32], values: &mut [u32], tick: Tick) -> u32
+    requires { ⌜ (0 < n) × (4 * n ≤ length (now table)) × (n ≤ length (now state)) × (n ≤ length (now values)) ⌝ }
+    ensures { λ r. ⌜ after (Stepped.Verdict r) (now (state .exit)) (now (values .exit))
+        ≡ afterTick cap (now (table .entry)) n (now (state .entry)) (now (values .entry)) tick ⌝ }
+{
+    fill(cap, table, n, state, values, tick);
+    let flows = &values[..n];
+    advance(table, n, state, flows);
+    flows[n - 1]
+}
+
+// Makes a fresh state.
+pub fn fresh_state(table: &[u32], n: usize, state: &mut [u32]) -> Fresh
+    ensures { λ r. ⌜ afterFresh r (now (state .exit)) ≡ freshened (now (table .entry)) n (now (state .entry)) ⌝ }
+{
+    let Checked::Refused(number) = check_fresh(table, n, state) else {
+        reset(table, n, state);
+        return Fresh::Made;
+    };
+    Fresh::Refused(number)
+}
+
+// One step: a tick of the table.
+pub fn step(table: &[u32], n: usize, state: &mut [u32], values: &mut [u32], tick: Tick) -> Stepped
+    ensures { λ r. ⌜ after r (now (state .exit)) (now (values .exit))
+        ≡ stepped standardCap (now (table .entry)) n (now (state .entry)) (now (values .entry)) tick ⌝ }
+{
+    let Checked::Refused(number) = check_step(limits::CAP, table, n, state, values, tick) else {
+        return Stepped::Verdict(run(limits::CAP, table, n, state, values, tick));
+    };
+    Stepped::Refused(number)
+}
+
+// What a step answers to these arguments: its refusal, or that it has none. No step is run.
+pub fn step_checked(table: &[u32], n: usize, state: &[u32], values: &[u32], tick: Tick) -> Checked
+    ensures { λ r. ⌜ r
+        ≡ stepChecked standardCap (now (table .entry)) n (now (state .entry)) (now (values .entry)) tick ⌝ }
+{
+    check_step(limits::CAP, table, n, state, values, tick)
+}
+
+// A step that is known to have no refusal: its verdict. After `step_checked` has passed, every further step with the
+// same parameters is such a step.
+pub fn step_passed(
+    table: &[u32],
+    n: usize,
+    state: &mut [u32],
+    values: &mut [u32],
+    tick: Tick,
+) -> u32
+    requires { ⌜ stepChecked standardCap (now table) n (now state) (now values) tick ≡ Checked.Passed ⌝ }
+    ensures { λ r. ⌜ after (Stepped.Verdict r) (now (state .exit)) (now (values .exit))
+        ≡ stepped standardCap (now (table .entry)) n (now (state .entry)) (now (values .entry)) tick ⌝ }
+{
+    run(limits::CAP, table, n, state, values, tick)
+}
