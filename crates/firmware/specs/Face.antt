@@ -3,8 +3,8 @@ use mathlib.Core.List.{List}
 use mathlib.Core.Path.{_≡_}
 use Prim.Native.Nat.{ℕ, _≤_}
 use Rattle.traces.specs.declared.Tick.{Tick}
-use Rattle.flows.specs.Step as step
-use Rattle.flows.specs.Step.{After, AfterFresh, freshened, stepped, freshAnswer, steppedAnswer}
+use Rattle.tables.specs.Reply.{Reply}
+use Rattle.flows.specs.Step.{After, AfterFresh, freshened, stepped, freshReply, stepReply}
 use Rattle.rules.specs.declared.Answer as rules
 use Rattle.rules.specs.declared.Same.{Same}
 use Rattle.rules.specs.Answer as read
@@ -24,7 +24,7 @@ use Rattle.lustre.specs.declared.Loaded.the-variants.{Equations as Loads, Refus
 use Rattle.firmware.specs.declared.Answer.{Answer}
 
 -- "A refusal gives its number and no other result (0 elsewhere)."
-abbrev pub answer : step.Answer → Answer
+abbrev pub answer : Reply → Answer
 answer x = record { refusal = x .refusal; result = x .result }
 
 -- A tick from its numbers.
@@ -40,7 +40,7 @@ abbrev pub left : Answer → List ℕ → Left
 left r buffer = record { answer = r; buffer = buffer }
 
 abbrev pub fresh : AfterFresh → Left
-fresh x = left (answer (freshAnswer (x .answer))) (x .state)
+fresh x = left (answer (freshReply (x .answer))) (x .state)
 
 pub record LeftValues : Type 0 where
   pub answer : Answer
@@ -51,7 +51,7 @@ abbrev pub leftValues : Answer → List ℕ → List ℕ → LeftValues
 leftValues r state values = record { answer = r; state = state; values = values }
 
 abbrev pub tick : After → LeftValues
-tick x = leftValues (answer (steppedAnswer (x .answer))) (x .state) (x .values)
+tick x = leftValues (answer (stepReply (x .answer))) (x .state) (x .values)
 
 -- The answers of reading, compiling and comparing rules, by the definitions that give document 01's numbers.
 abbrev pub readAnswer : rules.Answer → Answer

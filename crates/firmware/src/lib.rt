@@ -8,7 +8,7 @@ use rules::Same;
 use traces::Tick;
 ghost use mathlib.Core.Path.{_≡_};
 ghost use Rattle.limits.specs.Limits.{standardCap};
-ghost use Rattle.flows.specs.Step.{freshened, stepped, freshAnswer, steppedAnswer};
+ghost use Rattle.flows.specs.Step.{freshened, stepped, freshReply, stepReply};
 ghost use Rattle.rules.specs.Reading.{ruleOf};
 ghost use Rattle.rules.specs.Answer.{answerOf};
 ghost use Rattle.observers.specs.Compile.{compiled};
@@ -28,7 +28,7 @@ pub struct Answer {
 
 // The answer of a fresh state.
 fn fresh_answer(f: Fresh) -> Answer
-    ensures { λ r. ⌜ r ≡ answer (freshAnswer f) ⌝ }
+    ensures { λ r. ⌜ r ≡ answer (freshReply f) ⌝ }
 {
     match f {
         Fresh::Made => Answer {
@@ -44,7 +44,7 @@ fn fresh_answer(f: Fresh) -> Answer
 
 // The answer of a step.
 fn step_answer(s: Stepped) -> Answer
-    ensures { λ r. ⌜ r ≡ answer (steppedAnswer s) ⌝ }
+    ensures { λ r. ⌜ r ≡ answer (stepReply s) ⌝ }
 {
     match s {
         Stepped::Verdict(verdict) => Answer {

@@ -9,9 +9,10 @@ use Rattle.traces.specs.declared.Tick.{Tick}
 use Rattle.tables.specs.Table.{all, kindOf, shapeOf, sameSort, isFlow, operandFits, shapeFits, lengthFits}
 use Rattle.tables.specs.Table.{equationsFit, checked}
 use Rattle.limits.specs.Limits.{standardCap}
+use Rattle.tables.specs.Reply.{Reply, gives, refused, checkedReply}
 use Rattle.flows.specs.Flow.{increased, valueOf, flows, written, initial, inRange}
 use Rattle.tables.specs.Table.{isMemory}
-use Rattle.flows.specs.Step.{Answer, gives, refused, checkedAnswer, freshAnswer, steppedAnswer, parameterFits}
+use Rattle.flows.specs.Step.{freshReply, stepReply, parameterFits}
 use Rattle.flows.specs.Step.{cellFits, freshChecked, stepChecked, freshened, after, afterTick}
 use Rattle.flows.specs.Step.{stepped}
 use Rattle.flows.specs.Run.{Call, answers}
@@ -39,10 +40,10 @@ abbrev call : ℕ → ℕ → ℕ → ℕ → Call
 call s g x room = record { tick = tick s g x; values = replicate room 7 }
 
 -- What a list of calls answers, as document 01 has it.
-abbrev answered : List Call → List Answer
-answered xs = map steppedAnswer (answers standardCap table 12 fresh xs)
+abbrev answered : List Call → List Reply
+answered xs = map stepReply (answers standardCap table 12 fresh xs)
 
-check-rows : map checkedAnswer
+check-rows : map checkedReply
     (checked table 12 ∷ checked table 0 ∷ checked table 13 ∷ checked table 4097 ∷ checked table 10
     ∷ checked (drop 4 table) 11 ∷ [])
     ≡ gives 0 ∷ refused 10 ∷ refused 10 ∷ refused 10 ∷ refused 11 ∷ refused 11 ∷ []
@@ -54,7 +55,7 @@ unfolding freshened freshChecked lengthFits equationsFit all shapeFits shapeOf k
     written isMemory initial
 fresh-row = refl
 
-fresh-short : freshAnswer (freshened table 12 (replicate 11 9) .answer) ≡ refused 12
+fresh-short : freshReply (freshened table 12 (replicate 11 9) .answer) ≡ refused 12
 unfolding freshened freshChecked lengthFits equationsFit all shapeFits shapeOf kindOf operandFits isFlow sameSort
 fresh-short = refl
 
@@ -80,7 +81,7 @@ unfolding increased
 cap-row = refl
 
 cell-row :
-    steppedAnswer
+    stepReply
     (stepped standardCap table 12 (replicate 7 1 ++ (1000001 ∷ replicate 4 0)) (replicate 12 7) (tick 0 0 1) .answer)
     ≡ refused 14
 unfolding stepped stepChecked lengthFits equationsFit all shapeFits shapeOf kindOf operandFits isFlow sameSort

@@ -12,6 +12,7 @@ use Rattle.limits.specs.Limits.{parameterCount}
 use Rattle.tables.specs.Table.{Test, test, firstFailed, tableTests}
 use Rattle.flows.specs.Flow.{flows, inRange, freshState, nextState}
 use Rattle.tables.specs.Table.{isMemory}
+use Rattle.tables.specs.Reply.{Reply, gives, refused}
 use Rattle.tables.specs.declared.Checked.{Checked}
 use Rattle.tables.specs.declared.Checked.the-variants.{Passed, Refused as Failed}
 use Rattle.flows.specs.declared.Fresh.{Fresh}
@@ -19,31 +20,15 @@ use Rattle.flows.specs.declared.Fresh.the-variants.{Made, Refused as Not
 use Rattle.flows.specs.declared.Stepped.{Stepped}
 use Rattle.flows.specs.declared.Stepped.the-variants.{Verdict, Refused}
 
--- "A refusal gives its number and no other result (0 elsewhere)": an answer as document 01 has it.
-pub record Answer : Type 0 where
-  pub refusal : ℕ
-  pub result : ℕ
-
-abbrev pub refused : ℕ → Answer
-refused r = record { refusal = r; result = 0 }
-
-abbrev pub gives : ℕ → Answer
-gives x = record { refusal = 0; result = x }
-
--- The check of a table gives no number,
-abbrev pub checkedAnswer : Checked → Answer
-checkedAnswer Passed = gives 0
-checkedAnswer (Failed r) = refused r
-
--- "a fresh state no number",
-abbrev pub freshAnswer : Fresh → Answer
-freshAnswer Made = gives 0
-freshAnswer (NotMade r) = refused r
+-- "a fresh state [gives] no number",
+abbrev pub freshReply : Fresh → Reply
+freshReply Made = gives 0
+freshReply (NotMade r) = refused r
 
 -- "a step the verdict".
-abbrev pub steppedAnswer : Stepped → Answer
-steppedAnswer (Verdict v) = gives v
-steppedAnswer (Refused r) = refused r
+abbrev pub stepReply : Stepped → Reply
+stepReply (Verdict v) = gives v
+stepReply (Refused r) = refused r
 
 -- "12: the state is shorter than n."
 abbrev pub freshTests : List ℕ → ℕ → List ℕ → List Test

@@ -1,6 +1,6 @@
 -- `firmware::fresh_answer` meets its contract, case by case. Assumes nothing.
 use mathlib.Core.Path.{_≡_, sym, ap}
-use Rattle.flows.specs.Step.{freshAnswer}
+use Rattle.flows.specs.Step.{freshReply}
 use Rattle.flows.specs.declared.Fresh.{Fresh}
 use Rattle.firmware.specs.Face.{answer}
 use borrow.Author.Needs.{needs}
@@ -14,10 +14,10 @@ enum-known-f : tie.Need-enum-known-f
 enum-known-f c = search needs
 
 returns : tie.Need-returns
-returns c = ap (λ (x : Fresh). answer (freshAnswer x)) (sym (c .enum-told .given .1))
+returns c = ap (λ (x : Fresh). answer (freshReply x)) (sym (c .enum-told .given .1))
 
 returns-2 : tie.Need-returns-2
-returns-2 c = ap (λ (x : Fresh). answer (freshAnswer x)) (sym (c .before .f .given .1))
+returns-2 c = ap (λ (x : Fresh). answer (freshReply x)) (sym (c .before .f .given .1))
 
 pub fresh-answer-spec : {M : Type 1} → statement M
 fresh-answer-spec = tie.close (tie.spec enum-told enum-known-f returns returns-2)
