@@ -14,8 +14,10 @@ write-lustre-requires c κs = search needs
 
 written-answer-requires : tie.Need-written-answer-requires
 written-answer-requires c κs =
-    let small = c .before .before .before .before .before .shared-slice-known .given in
-    short-text (c .before .before .before .before .before .before .args .table .now) (λ i. omega (arith, small i)) _ _ _ _ (c .before .before .write-lustre .ensures)
+    let call = c .before .before in
+    let known = call .before .before .before in
+    short-text (known .before .args .table .now) (λ i. omega (arith, known .shared-slice-known .given i)) _ _ _ _
+    (call .write-lustre .ensures)
 
 same-length : tie.Need-same-length
 same-length c = search needs

@@ -13,21 +13,26 @@ use borrow.Author.Needs.{needs}
 use Rattle.flows.proofs.check_step.Statement.{statement}
 use Rattle.flows.proofs.check_step.Tie as tie
 
+-- The start of the function, from the call of `check_table`.
+abbrev start : tie.After-check-table → tie.Start
+start c = c .before .before .before .before
+
 -- The table passed its tests.
-passed : (c : tie.After-enum-told) → (let args = c .before .before .before .before .before .before .args in
+passed : (c : tie.After-enum-told) → (let args = start (c .before .before) .args in
     checked (args .table .now) (args .n) ≡ Passed)
 passed c = sym (c .before .before .check-table .ensures) ∙ c .enum-told .given .1
 
 -- What the tests of the call say.
 abbrev checkedAt : tie.Else3 → Checked
 checkedAt c =
-    let args = c .before .before .before .before .before .before .before .before .before .before .args in
+    let told = c .before .before .before .before in
+    let args = start (told .before .before) .args in
     stepChecked (args .cap) (args .table .now) (args .n) (args .state .now) (args .values .now) (args .tick)
 
 returns : tie.Need-returns
 unfolding stepChecked
 returns c =
-    let args = c .before .before .before .before .before .before .args in
+    let args = start (c .before .before) .args in
     let told = c .enum-told2 .given .1 in
     let t = args .table .now in
     let tests = stepTests (args .cap) t (args .n) (args .state .now) (args .values .now) (args .tick) in

@@ -16,9 +16,8 @@ reset-requires c κs =
 returns : tie.Need-returns
 unfolding freshened
 returns c =
-    let told = c .before .before .before .before .enum-told .given .1 in
-    let check = c .before .before .before .before .before .before .check-fresh in
-    rw (← check .ensures, told) (ap (afterFresh Made) (c .before .before .reset .ensures))
+    let passed = c .before .before .before .before in
+    rw (← passed .before .before .check-fresh .ensures, passed .enum-told .given .1) (ap (afterFresh Made) (c .before .before .reset .ensures))
 
 returns-2 : tie.Need-returns-2
 unfolding freshened

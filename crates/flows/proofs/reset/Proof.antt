@@ -25,10 +25,11 @@ loop-holds c =
 
 loop-again : tie.Need-loop-again Inv-loop μ-loop
 loop-again c =
-    let args = c .before .before .before .before .before .before .before .args in
+    let turn = c .before .before .before .before in
+    let args = turn .before .before .before .args in
     let t = args .table .now in
     let f = initialAt t in
-    let inv = c .before .before .before .before .loop .inv in
+    let inv = turn .loop .inv in
     let memory = sym (c .before .is-memory .ensures) in
     ⊎-elim
     (λ w. (

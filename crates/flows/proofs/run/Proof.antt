@@ -33,8 +33,9 @@ shared-slice-read-result c = simp length-take (omega arith)
 
 returns : tie.Need-returns
 returns c =
-    let fill = c .before .before .before .before .before .before .before .before .fill in
-    whole _ _ _ _ _ _ _ _ (fill .ensures) (c .before .before .before .advance .ensures)
+    let moved = c .before .before .before in
+    let filled = moved .before .before .before .before .before in
+    whole _ _ _ _ _ _ _ _ (filled .fill .ensures) (moved .advance .ensures)
 
 pub run-spec : {M : Type 1} → statement M
 run-spec =

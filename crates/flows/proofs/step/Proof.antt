@@ -15,10 +15,9 @@ run-requires c κs =
 returns : tie.Need-returns
 unfolding stepped
 returns c =
-    let run = c .before .before .before .before .run in
-    let told = c .before .before .before .before .before .before .before .enum-told .given .1 in
-    let check = c .before .before .before .before .before .before .before .before .before .check-step in
-    rw (← check .ensures, told) (run .ensures)
+    let ran = c .before .before .before .before in
+    let passed = ran .before .before .before in
+    rw (← passed .before .before .check-step .ensures, passed .enum-told .given .1) (ran .run .ensures)
 
 returns-2 : tie.Need-returns-2
 unfolding stepped

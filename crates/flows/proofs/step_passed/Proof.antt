@@ -14,7 +14,8 @@ run-requires c κs =
 returns : tie.Need-returns
 returns c =
     let ran = c .before .before .before .before in
-    ran .run .ensures ∙ sym (step-ticks _ _ _ _ _ _ (ran .before .before .before .before .before .before .pre))
+    let lent = ran .before .before in
+    ran .run .ensures ∙ sym (step-ticks _ _ _ _ _ _ (lent .before .before .before .before .pre))
 
 pub step-passed-spec : {M : Type 1} → statement M
 step-passed-spec = tie.close (tie.spec run-requires (λ c. search needs) (λ c. search needs) returns)

@@ -16,7 +16,8 @@ returns c = rw (c .before .match .keys1) (c .signal-at .ensures)
 returns-2 : tie.Need-returns-2
 unfolding valueOf kindOf
 returns-2 c =
-    let args = c .before .before .before .before .before .before .before .before .before .args in
+    let table-read = c .before .before .before .before .before in
+    let args = table-read .before .before .before .before .args in
     rw (c .before .before .match .keys2) (c .number .ensures ∙ ap truth (positive (args .tick .start)))
 
 returns-3 : tie.Need-returns-3

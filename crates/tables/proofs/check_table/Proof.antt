@@ -1,13 +1,28 @@
 -- `tables::check_table` meets its contract. Assumes nothing.
-use mathlib.Core.Path.{refl, sym, ap, _∙_}
-use mathlib.Core.Bool.{true, false, not}
+use mathlib.Core.Path.{_≡_, refl, sym, ap, _∙_}
+use mathlib.Core.Bool.{Bool, true, false, not, _&&_, cond}
+use Prim.Native.Nat.{_-_}
 use native.Mathlib.Omega.{arith}
 use borrow.Author.Tests.{not-true, not-false}
+use Rattle.tables.specs.Table.{all, equationFits, kindAt, sortOf, sameSort, checked}
+use Rattle.tables.specs.declared.Sort.the-variants.{Boolean}
+use Rattle.tables.specs.declared.Checked.the-variants.{Passed, Refused}
 use Rattle.tables.proofs.Numbers.{boolean-or-count}
 use Rattle.tables.proofs.Checks.{too-few, too-many, too-short, long-enough}
 use borrow.Author.Needs.{needs}
 use Rattle.tables.proofs.check_table.Statement.{statement}
 use Rattle.tables.proofs.check_table.Tie as tie
+
+-- The places after the test of the equations: the start of the function, and what the tests of the length say.
+abbrev start : tie.After-equations-fit → tie.Start
+start c = c .before .before .before .before .before
+
+decide : (c : tie.After-equations-fit) → (
+    let t = start c .args .table .now in
+    let n = start c .args .n in
+    (b l : Bool) → all (equationFits t n) n ≡ b → sameSort (sortOf (kindAt t (n - 1))) Boolean ≡ l
+    → checked t n ≡ cond (b && l) Passed (Refused 11))
+decide c = long-enough _ _ (omega arith) (omega arith) (omega arith)
 
 returns : tie.Need-returns
 returns c = too-few _ _ (c .if1 .taken)
@@ -22,26 +37,22 @@ returns-3 c =
 
 returns-4 : tie.Need-returns-4
 returns-4 c =
-    let args = c .before .before .before .before .before .before .args in
-    let decide = long-enough (args .table .now) (args .n) (omega arith) (omega arith) (omega arith) in
     let fit = c .before .equations-fit in
-    sym (decide false _ (sym (fit .ensures) ∙ not-true (fit .result) (c .if4 .taken)) refl)
+    sym (decide (c .before) false _ (sym (fit .ensures) ∙ not-true (fit .result) (c .if4 .taken)) refl)
 
 returns-5 : tie.Need-returns-5
 returns-5 c =
-    let args = c .before .before .before .before .before .before .before .before .before .args in
-    let decide = long-enough (args .table .now) (args .n) (omega arith) (omega arith) (omega arith) in
-    let fit = c .before .before .before .before .equations-fit in
+    let tested = c .before .before .before .before in
+    let fit = tested .equations-fit in
     let fits = sym (fit .ensures) ∙ not-false (fit .result) (c .before .before .before .if4 .left) in
-    sym (decide true false fits (boolean-or-count _ ∙ ap not (sym (c .before .is-count .ensures) ∙ c .if5 .taken)))
+    sym (decide tested true false fits (boolean-or-count _ ∙ ap not (sym (c .before .is-count .ensures) ∙ c .if5 .taken)))
 
 returns-6 : tie.Need-returns-6
 returns-6 c =
-    let args = c .before .before .before .before .before .before .before .before .before .args in
-    let decide = long-enough (args .table .now) (args .n) (omega arith) (omega arith) (omega arith) in
-    let fit = c .before .before .before .before .equations-fit in
+    let tested = c .before .before .before .before in
+    let fit = tested .equations-fit in
     let fits = sym (fit .ensures) ∙ not-false (fit .result) (c .before .before .before .if4 .left) in
-    sym (decide true true fits (boolean-or-count _ ∙ ap not (sym (c .before .is-count .ensures) ∙ c .if5 .left)))
+    sym (decide tested true true fits (boolean-or-count _ ∙ ap not (sym (c .before .is-count .ensures) ∙ c .if5 .left)))
 
 pub check-table-spec : {M : Type 1} → statement M
 check-table-spec =

@@ -7,9 +7,10 @@ use Rattle.tables.proofs.equation_fits.Tie as tie
 returns : tie.Need-returns
 returns c =
     let third = c .before .operand-fits3 in
-    let second = c .before .before .before .operand-fits2 in
-    let first = c .before .before .before .before .before .operand-fits in
-    let shape = c .before .before .before .before .before .before .before .shape-of in
+    let at-second = c .before .before .before in
+    let second = at-second .operand-fits2 in
+    let first = at-second .before .before .operand-fits in
+    let shape = at-second .before .before .before .before .shape-of in
     let both = c .all-three in
     rw (← shape .ensures)
     (three-fit _ _ _ (shape .result) _ _ _ _ _ (first .ensures) (second .ensures) (third .ensures) (both .ensures))
