@@ -10,6 +10,7 @@ use native.Mathlib.Decide.{decLt}
 use lib.Dec.{leb, ltb, eqb}
 use lib.ListN.{length, getD, List·getD-map, List·getD-eq-default}
 use borrow.Author.Tests.{lt-leb, le-leb, lt-ltb, ne-eqb}
+use Rattle.tables.specs.Kind.{BOOLEAN-PRE, COUNT-PRE, IF, kindCount}
 use Rattle.tables.specs.Table.{kinds, kindOf, shapeOf, sortOf, sameSort, all}
 use Rattle.tables.specs.Table.Kind.{unknown}
 use Rattle.tables.specs.Table.{isMemory}
@@ -27,8 +28,8 @@ pub none-below : (k m : ℕ) → NoneOf k m → m ≤ k
 none-below k zero h = omega arith
 none-below k (suc m) h = let l = none-below k m (h .0) in let d = h .1 in omega arith
 
--- The numbers from 12 on are no kinds.
-pub kind-beyond : (k : ℕ) → 12 ≤ k → kindOf k ≡ unknown
+-- The numbers after the last kind are no kinds.
+pub kind-beyond : (k : ℕ) → kindCount ≤ k → kindOf k ≡ unknown
 unfolding kindOf
 kind-beyond k h = List·getD-eq-default kinds unknown h
 
@@ -38,7 +39,7 @@ within (x ∷ l) zero d e h = refl
 within (x ∷ l) (suc k) d e h = within l k d e (le-of-suc-le-suc h)
 
 -- The rows of the kinds in the order of their numbers.
-pub rows : (k : ℕ) (d : Shape) → k < 12 → getD (map shapeOf kinds) k d ≡ shapeOf (kindOf k)
+pub rows : (k : ℕ) (d : Shape) → k < kindCount → getD (map shapeOf kinds) k d ≡ shapeOf (kindOf k)
 unfolding kindOf
 rows k d h = within (map shapeOf kinds) k d (shapeOf unknown) h ∙ List·getD-map shapeOf kinds k unknown
 
@@ -49,27 +50,27 @@ boolean-or-count Boolean = refl
 boolean-or-count Count = refl
 
 -- Kinds 7 to 9 give counts.
-pub counts : (k : ℕ) → sameSort (sortOf (kindOf k)) Count ≡ (leb 7 k && leb k 9)
+pub counts : (k : ℕ) → sameSort (sortOf (kindOf k)) Count ≡ (leb COUNT-PRE k && leb k IF)
 unfolding kindOf shapeOf sameSort all
-counts k = elim (decLt k 12) [
-  | yes h ↦ agrees (λ j. sameSort (sortOf (kindOf j)) Count) (λ j. leb 7 j && leb j 9) 12 refl k h
-  | no h ↦ rw (kind-beyond k (omega arith), le-leb 7 k (omega arith), lt-leb k 9 (omega arith))
+counts k = elim (decLt k kindCount) [
+  | yes h ↦ agrees (λ j. sameSort (sortOf (kindOf j)) Count) (λ j. leb COUNT-PRE j && leb j IF) kindCount refl k h
+  | no h ↦ rw (kind-beyond k (omega arith), le-leb COUNT-PRE k (omega arith), lt-leb k IF (omega arith))
 ]
 
 -- Kinds 6 and 7 are the memories.
-pub memories : (k : ℕ) → isMemory (kindOf k) ≡ (leb 6 k && leb k 7)
+pub memories : (k : ℕ) → isMemory (kindOf k) ≡ (leb BOOLEAN-PRE k && leb k COUNT-PRE)
 unfolding kindOf isMemory all
-memories k = elim (decLt k 12) [
-  | yes h ↦ agrees (λ j. isMemory (kindOf j)) (λ j. leb 6 j && leb j 7) 12 refl k h
-  | no h ↦ rw (kind-beyond k (omega arith), le-leb 6 k (omega arith), lt-leb k 7 (omega arith))
+memories k = elim (decLt k kindCount) [
+  | yes h ↦ agrees (λ j. isMemory (kindOf j)) (λ j. leb BOOLEAN-PRE j && leb j COUNT-PRE) kindCount refl k h
+  | no h ↦ rw (kind-beyond k (omega arith), le-leb BOOLEAN-PRE k (omega arith), lt-leb k COUNT-PRE (omega arith))
 ]
 
 -- No other number is a memory's.
-pub no-memory : (k : ℕ) → (k ≡ 6 → ⊥) → (k ≡ 7 → ⊥) → isMemory (kindOf k) ≡ false
+pub no-memory : (k : ℕ) → (k ≡ BOOLEAN-PRE → ⊥) → (k ≡ COUNT-PRE → ⊥) → isMemory (kindOf k) ≡ false
 no-memory k p q = memories k ∙ outside
   where
-    outside : (leb 6 k && leb k 7) ≡ false
-    outside = elim (decLt k 6) [
-      | yes h ↦ rw (lt-leb 6 k h)
-      | no h ↦ rw (le-leb 6 k (omega arith), lt-leb k 7 (omega arith))
+    outside : (leb BOOLEAN-PRE k && leb k COUNT-PRE) ≡ false
+    outside = elim (decLt k BOOLEAN-PRE) [
+      | yes h ↦ rw (lt-leb BOOLEAN-PRE k h)
+      | no h ↦ rw (le-leb BOOLEAN-PRE k (omega arith), lt-leb k COUNT-PRE (omega arith))
     ]

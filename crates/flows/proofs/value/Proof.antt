@@ -3,6 +3,7 @@ use mathlib.Core.Path.{ap, _∙_}
 use Rattle.traces.specs.Trace.{truth}
 use Rattle.flows.proofs.Numbers.{positive, is-zero}
 use Rattle.tables.proofs.Numbers.{kind-beyond, none-below}
+use Rattle.tables.specs.Kind.{kindCount}
 use Rattle.tables.specs.Table.{kindOf}
 use Rattle.flows.specs.Flow.{valueOf}
 use borrow.Author.Needs.{needs}
@@ -83,7 +84,7 @@ returns-12 c =
 
 returns-13 : tie.Need-returns-13
 unfolding valueOf
-returns-13 c = rw (kind-beyond _ (none-below _ 12 (c .match .rest)))
+returns-13 c = rw (kind-beyond _ (none-below _ kindCount (c .match .rest)))
 
 pub value-spec : {M : Type 1} → statement M
 value-spec =

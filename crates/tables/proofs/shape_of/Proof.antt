@@ -1,5 +1,6 @@
 -- `tables::shape_of` meets its contract: each arm gives the row of its own number. Assumes nothing.
 use Rattle.tables.proofs.Numbers.{kind-beyond, none-below}
+use Rattle.tables.specs.Kind.{kindCount}
 use Rattle.tables.specs.Table.{shapeOf}
 use borrow.Author.Needs.{needs}
 use Rattle.tables.proofs.shape_of.Statement.{statement}
@@ -43,7 +44,7 @@ returns-12 c = rw (c .before .match .keys12) (c .shape-at12 .ensures)
 
 returns-13 : tie.Need-returns-13
 unfolding shapeOf
-returns-13 c = rw (kind-beyond _ (none-below _ 12 (c .match .rest)))
+returns-13 c = rw (kind-beyond _ (none-below _ kindCount (c .match .rest)))
 
 pub shape-of-spec : {M : Type 1} → statement M
 shape-of-spec =
