@@ -1,3 +1,6 @@
 -- Definitions on lists that several crates cite.
 pub mod Text
+pub mod Number
 pub mod Same
+pub mod Line
+pub mod Decimal

@@ -1,0 +1,39 @@
+-- A line, one byte at a time. Assumes nothing.
+use mathlib.Core.Path.{_≡_, ap}
+use mathlib.Core.List.{List, [], _∷_}
+use Prim.Native.Nat.{ℕ, _+_, _≤_, _<_}
+use native.Mathlib.Numerals.{add-one}
+use native.Mathlib.Omega.{arith}
+use lib.ListN.{length, getD, drop, drop-of-length-le, length-drop}
+use lib.Seq.{drop-cons}
+use borrow.Author.Tests.{ne-eqb}
+use Rattle.lists.specs.Line.{lineEnd, line, lineFrom}
+
+-- At a line end, past the end of the text, and at another byte.
+module _ (s : List ℕ) (i : ℕ) where
+  pub line-stop : i < length s → getD s i 0 ≡ lineEnd → lineFrom s i ≡ []
+  unfolding line
+  line-stop h e = rw (drop-cons s i 0, e)
+
+  pub line-past : length s ≤ i → lineFrom s i ≡ []
+  unfolding line
+  line-past h = rw (drop-of-length-le s h)
+
+  pub line-more : i < length s → (getD s i 0 ≡ lineEnd → ⊥) → lineFrom s i ≡ getD s i 0 ∷ lineFrom s (i + 1)
+  unfolding line
+  line-more h n = rw (drop-cons s i 0, ne-eqb _ _ n, add-one i)
+
+-- The loop over a line: the line has the bytes passed since `at`, and the line from place i on.
+pub record Lining (s : List ℕ) (at i : ℕ) : Type 0 where
+  pub passed : at + length (lineFrom s at) ≡ i + length (lineFrom s i)
+  pub after : at ≤ i
+
+module _ {s : List ℕ} {at i : ℕ} (h : Lining s at i) where
+  pub lining-stop : i < length s → getD s i 0 ≡ lineEnd → i ≡ at + length (lineFrom s at)
+  lining-stop p e = omega (arith, h .passed, ap length (line-stop s i p e))
+
+  pub lining-past : length s ≤ i → i ≡ at + length (lineFrom s at)
+  lining-past p = omega (arith, h .passed, ap length (line-past s i p))
+
+  pub lining-more : i < length s → (getD s i 0 ≡ lineEnd → ⊥) → Lining s at (i + 1)
+  lining-more p n = record { passed = omega (arith, h .passed, ap length (line-more s i p n)); after = omega arith }

@@ -1,0 +1,56 @@
+-- Decimal numbers in a text, and what the reader's answer says of them. Definitions only.
+use mathlib.Core.Bool.{Bool, _&&_, cond}
+use mathlib.Core.List.{List, [], _∷_}
+use mathlib.Core.Path.{_≡_}
+use Prim.Native.Nat.{ℕ, _+_, _-_, _*_, _≤_}
+use lib.Dec.{eqb, leb}
+use lib.ListN.{length, drop}
+use Rattle.lists.specs.declared.Decimal.{Decimal}
+use Rattle.lists.specs.declared.Decimal.the-variants.{Is, Above, Missing}
+
+-- What stands at the front of some bytes: a number and the bytes after it; a number above the highest that is asked
+-- for, and the bytes after it; or no number.
+pub data Numeral : Type 0 where
+  is : ℕ → List ℕ → Numeral
+  above : List ℕ → Numeral
+  missing : Numeral
+
+-- `0` to `9`
+unfoldable pub isDigit : ℕ → Bool
+isDigit b = leb 48 b && leb b 57
+
+-- The number v, before the bytes l.
+abbrev pub settled : ℕ → ℕ → List ℕ → Numeral
+settled max v l = cond (leb v max) (is v l) (above l)
+
+-- The digits that are left, after those of v.
+unfoldable pub digitsAfter : ℕ → ℕ → List ℕ → Numeral
+digitsAfter max v [] = settled max v []
+digitsAfter max v (b ∷ l) =
+    let more = digitsAfter max (v * 10 + (b - 48)) l in
+    cond (isDigit b) more (settled max v (b ∷ l))
+
+-- The number at the front, up to max. After a first digit 0 no digit is read.
+unfoldable pub numeral : ℕ → List ℕ → Numeral
+numeral max [] = missing
+numeral max (b ∷ l) = cond (eqb b 48) (is 0 l) (cond (isDigit b) (digitsAfter max (b - 48) l) missing)
+
+-- What an answer says of the bytes s, and the place that it names.
+abbrev pub numeralOf : List ℕ → Decimal → Numeral
+numeralOf s (Is v next) = is v (drop next s)
+numeralOf s (Above next) = above (drop next s)
+numeralOf s Missing = missing
+
+abbrev pub nextOf : Decimal → ℕ
+nextOf (Is v next) = next
+nextOf (Above next) = next
+nextOf Missing = 0
+
+-- The answer for the number v before the place `next`.
+abbrev pub settledAt : ℕ → ℕ → ℕ → Decimal
+settledAt max v next = cond (leb v max) (Is v next) (Above next)
+
+-- The answer r is the number, up to max, that stands in s at a place.
+pub record DecimalAt (s : List ℕ) (at max : ℕ) (r : Decimal) : Type 0 where
+  pub means : numeralOf s r ≡ numeral max (drop at s)
+  pub within : nextOf r ≤ length s
