@@ -10,7 +10,8 @@ use native.Mathlib.Decide.{ℕ-discrete}
 use lib.ListN.{length, getD, set, drop, length-append, length-set, List·getD-append}
 use lib.Seq.{drop-cons, set-at, getD-at, getD-set-same, getD-set-other}
 use Rattle.traces.specs.declared.Tick.{Tick}
-use Rattle.tables.specs.Table.{numberAt, kindAt}
+use Rattle.lists.specs.Number.{numberAt}
+use Rattle.tables.specs.Table.{kindAt}
 use Rattle.flows.specs.Flow.{valueAt, flows, written}
 use Rattle.tables.specs.Table.{isMemory}
 

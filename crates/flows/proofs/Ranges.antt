@@ -12,7 +12,8 @@ use borrow.Author.Tests.{le-leb, ltb-true}
 use Rattle.traces.specs.declared.Tick.{Tick}
 use Rattle.traces.specs.Trace.{truth, nonzero, signalAt, parameterAt, starts}
 use Rattle.traces.specs.Compare.{opOf, compares}
-use Rattle.tables.specs.Table.{numberAt, all, Equation, equationAt, Kind, kindAt, shapeOf, sortOf}
+use Rattle.lists.specs.Number.{numberAt}
+use Rattle.tables.specs.Table.{all, Equation, equationAt, Kind, kindAt, shapeOf, sortOf}
 use Rattle.tables.specs.Table.{sameSort, isFlow, operandFits, shapeFits, equationFits}
 use Rattle.limits.specs.Limits.{truthCount}
 use Rattle.tables.specs.Table.Kind.{signal, start, constant, negation, conjunction, disjunction, booleanPre}

@@ -11,7 +11,8 @@ use lib.ListN.{length, getD, drop, length-append}
 use borrow.Author.Tests.{le-leb}
 use Rattle.traces.specs.declared.Tick.{Tick}
 use Rattle.traces.specs.Trace.{Trace, traceOf}
-use Rattle.tables.specs.Table.{numberAt, all, Equation, equationAt, Kind, kindAt, shapeOf}
+use Rattle.lists.specs.Number.{numberAt}
+use Rattle.tables.specs.Table.{all, Equation, equationAt, Kind, kindAt, shapeOf}
 use Rattle.tables.specs.Table.{isFlow, operandFits, shapeFits, equationFits, checked}
 use Rattle.limits.specs.Limits.{parameterCount}
 use Rattle.tables.specs.Table.Kind.{signal, start, constant, negation, conjunction, disjunction, booleanPre}

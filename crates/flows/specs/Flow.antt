@@ -8,7 +8,8 @@ use lib.ListN.{set}
 use Rattle.traces.specs.declared.Tick.{Tick}
 use Rattle.traces.specs.Trace.{truth, nonzero, signalAt, parameterAt, starts}
 use Rattle.traces.specs.Compare.{opOf, compares}
-use Rattle.tables.specs.Table.{numberAt, isMemory, Equation, equationAt, Kind, kindAt, sortOf}
+use Rattle.lists.specs.Number.{numberAt}
+use Rattle.tables.specs.Table.{isMemory, Equation, equationAt, Kind, kindAt, sortOf}
 use Rattle.limits.specs.Limits.{truthCount}
 use Rattle.tables.specs.Table.Kind.{signal, start, constant, negation, conjunction, disjunction, booleanPre}
 use Rattle.tables.specs.Table.Kind.{countPre, capped, ifElse, compareLiteral, compareParameter, unknown}

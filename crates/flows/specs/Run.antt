@@ -5,7 +5,8 @@ use lib.Dec.{leb}
 use lib.ListN.{length}
 use Rattle.traces.specs.declared.Tick.{Tick}
 use Rattle.traces.specs.Trace.{Trace}
-use Rattle.tables.specs.Table.{numberAt, test, firstFailed}
+use Rattle.lists.specs.Number.{numberAt}
+use Rattle.tables.specs.Table.{test, firstFailed}
 use Rattle.flows.specs.Flow.{flows, freshState, nextState}
 use Rattle.flows.specs.Step.{After, parameterTest, stepped}
 use Rattle.tables.specs.declared.Checked.{Checked}

@@ -7,7 +7,8 @@ use lib.Dec.{leb, ltb}
 use lib.ListN.{length, drop}
 use Rattle.traces.specs.declared.Tick.{Tick}
 use Rattle.traces.specs.Trace.{parameterAt}
-use Rattle.tables.specs.Table.{numberAt, all, Kind, kindAt, sortOf}
+use Rattle.lists.specs.Number.{numberAt}
+use Rattle.tables.specs.Table.{all, Kind, kindAt, sortOf}
 use Rattle.limits.specs.Limits.{parameterCount}
 use Rattle.tables.specs.Table.{Test, test, firstFailed, tableTests}
 use Rattle.flows.specs.Flow.{flows, inRange, freshState, nextState}

@@ -10,7 +10,8 @@ ghost use lib.ListN.{length, drop};
 ghost use Rattle.limits.specs.Limits.{parameterCount, standardCap};
 ghost use Rattle.traces.specs.Trace.{truth, nonzero, parameterAt, bit};
 ghost use Rattle.traces.specs.Compare.{opOf, compares};
-ghost use Rattle.tables.specs.Table.{numberAt, all, kindOf, sortOf, equationAt, kindAt};
+ghost use Rattle.lists.specs.Number.{numberAt};
+ghost use Rattle.tables.specs.Table.{all, kindOf, sortOf, equationAt, kindAt};
 ghost use Rattle.flows.specs.Flow.{increased, valueOf, flows, initial, freshState, nextState};
 ghost use Rattle.flows.specs.Step.{parameterFits, cellFits, cellsFit, freshChecked, stepChecked};
 ghost use Rattle.flows.specs.Step.{afterFresh, freshened, after, afterTick, stepped};
@@ -53,8 +54,7 @@ pub fn compare(op: u32, x: u32, y: u32) -> bool
 fn number_at(numbers: &[u32], i: u32) -> u32
     ensures { λ r. ⌜ r ≡ numberAt (now (numbers .entry)) i ⌝ }
 {
-    let j = i as usize;
-    if j < numbers.len() { numbers[j] } else { 0 }
+    lists::number_at(numbers, i as usize)
 }
 
 // A truth value as a number.

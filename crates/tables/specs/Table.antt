@@ -5,6 +5,7 @@ use mathlib.Core.List.{List, [], _∷_}
 use Prim.Native.Nat.{ℕ, zero, suc, _+_, _*_, _-_}
 use lib.Dec.{leb, ltb, eqb}
 use lib.ListN.{length, getD}
+use Rattle.lists.specs.Number.{numberAt}
 use Rattle.limits.specs.Limits.{signalCount, truthCount, opCount, literalCount, parameterCount, equationLimit}
 use Rattle.tables.specs.declared.Sort.{Sort}
 use Rattle.tables.specs.declared.Sort.the-variants.{Boolean, Count}
@@ -13,10 +14,6 @@ use Rattle.tables.specs.declared.Operand.the-variants.{Unused, Earlier, 
 use Rattle.tables.specs.declared.Shape.{Shape}
 use Rattle.tables.specs.declared.Checked.{Checked}
 use Rattle.tables.specs.declared.Checked.the-variants.{Passed, Refused}
-
--- Number i of a table, of the flows or of the state; 0 past the end.
-abbrev pub numberAt : List ℕ → ℕ → ℕ
-numberAt l i = getD l i 0
 
 -- The test holds of each number below k.
 unfoldable pub all : (ℕ → Bool) → ℕ → Bool

@@ -7,7 +7,7 @@ use native.Mathlib.Omega.{arith}
 use lib.ListN.{take, drop}
 use lib.Seq.{take-at, length-take-le}
 use Rattle.traces.specs.declared.Tick.{Tick}
-use Rattle.tables.specs.Table.{numberAt}
+use Rattle.lists.specs.Number.{numberAt}
 use Rattle.flows.specs.Flow.{flows, nextState}
 use Rattle.flows.specs.Step.{after, afterTick}
 use Rattle.flows.specs.declared.Stepped.the-variants.{Verdict}
