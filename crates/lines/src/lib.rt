@@ -1,22 +1,15 @@
 // Lines of a text, for the test programs.
 ghost use mathlib.Core.Path.{_≡_};
 ghost use Prim.Native.Nat.{_+_, _≤_, min};
-ghost use lib.ListN.{length, drop};
-ghost use Rattle.lines.specs.Lines.{line};
+ghost use lib.ListN.{length};
+ghost use Rattle.lists.specs.Line.{lineFrom};
 
 // The end of the line that starts at `from`: its byte 10, or the end of the text.
 pub fn line_end(s: &[u8], from: usize) -> usize
     requires { ⌜ from ≤ length (now s) ⌝ }
-    ensures { λ r. ⌜ (r ≡ from + length (line (drop from (now (s .entry))))) × (r ≤ length (now (s .entry))) ⌝ }
+    ensures { λ r. ⌜ (r ≡ from + length (lineFrom (now (s .entry)) from)) × (r ≤ length (now (s .entry))) ⌝ }
 {
-    let mut e = from;
-    while e < s.len() {
-        if s[e] == 10 {
-            return e;
-        }
-        e += 1;
-    }
-    e
+    from + lists::line_length(s, from)
 }
 
 // The start of the line after the one that ends at `end`, or the end of the text.

@@ -1,9 +1,11 @@
 -- A line, one byte at a time. Assumes nothing.
+use mathlib.Core.Bool.{Bool, true, false, cond}
 use mathlib.Core.Path.{_≡_, ap}
 use mathlib.Core.List.{List, [], _∷_}
-use Prim.Native.Nat.{ℕ, _+_, _≤_, _<_}
+use Prim.Native.Nat.{ℕ, suc, _+_, _≤_, _<_}
 use native.Mathlib.Numerals.{add-one}
 use native.Mathlib.Omega.{arith}
+use lib.Dec.{eqb}
 use lib.ListN.{length, getD, drop, drop-of-length-le, length-drop}
 use lib.Seq.{drop-cons}
 use borrow.Author.Tests.{ne-eqb}
@@ -22,6 +24,19 @@ module _ (s : List ℕ) (i : ℕ) where
   pub line-more : i < length s → (getD s i 0 ≡ lineEnd → ⊥) → lineFrom s i ≡ getD s i 0 ∷ lineFrom s (i + 1)
   unfolding line
   line-more h n = rw (drop-cons s i 0, ne-eqb _ _ n, add-one i)
+
+-- A line is no longer than its text.
+line-short : (s : List ℕ) → length (line s) ≤ length s
+unfolding line
+line-short [] = omega arith
+line-short (b ∷ s) = at-byte (eqb b lineEnd) (line-short s)
+  where
+    at-byte : (t : Bool) → length (line s) ≤ length s → length (cond t [] (b ∷ line s)) ≤ suc (length s)
+    at-byte true h = omega arith
+    at-byte false h = omega arith
+
+pub line-fits : (s : List ℕ) (i : ℕ) → i ≤ length s → i + length (lineFrom s i) ≤ length s
+line-fits s i h = omega (arith, line-short (drop i s), length-drop i s)
 
 -- The loop over a line: the line has the bytes passed since `at`, and the line from place i on.
 pub record Lining (s : List ℕ) (at i : ℕ) : Type 0 where
