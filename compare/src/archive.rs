@@ -19,7 +19,13 @@ impl Answer {
 extern "C" {
     fn towerwatch_read_rule(text: *const u8, text_len: usize) -> Answer;
     fn towerwatch_compile(text: *const u8, text_len: usize, table: *mut u32, table_len: usize) -> Answer;
-    fn towerwatch_fresh_state(table: *const u32, table_len: usize, n: usize, state: *mut u32, state_len: usize) -> Answer;
+    fn towerwatch_fresh_state(
+        table: *const u32,
+        table_len: usize,
+        n: usize,
+        state: *mut u32,
+        state_len: usize,
+    ) -> Answer;
     fn towerwatch_step(
         table: *const u32,
         table_len: usize,

@@ -1,0 +1,138 @@
+//! What a card prints, written from document 01 ("towerwatch"): a reader of cards of its own, and verdicts by the
+//! interval meaning.
+
+pub mod make;
+
+use crate::rule::meaning::{verdict, Moment};
+use crate::rule::{read, Rule};
+
+/// The lines of a card in their order, and what comes after the last.
+#[derive(Clone, Copy, PartialEq, Eq, PartialOrd, Ord, Debug)]
+pub enum Place {
+    Edition,
+    Parameters,
+    Rule,
+    Count,
+    Tick,
+    After,
+}
+
+/// What is wrong there.
+#[derive(Clone, Copy, PartialEq, Eq, PartialOrd, Ord, Debug)]
+pub enum Why {
+    /// No byte of the line is there.
+    Missing,
+    /// The input ends within the line.
+    Unfinished,
+    /// The line has more than 4,096 bytes.
+    OverLong,
+    /// The line is not what stands at its place.
+    Broken,
+    /// The rule's own refusal.
+    Refused(u32),
+    /// There are bytes after the last tick.
+    More,
+}
+
+#[derive(Clone, Copy, PartialEq, Eq, PartialOrd, Ord, Debug)]
+pub struct End(pub Place, pub Why);
+
+impl End {
+    /// "17 in the four first lines, 18 later".
+    fn number(self) -> u32 {
+        match self {
+            End(_, Why::Refused(number)) => number,
+            End(Place::Tick | Place::After, _) => 18,
+            _ => 17,
+        }
+    }
+}
+
+/// The verdicts that a card prints, and the refusal that it ends with.
+pub struct Printed {
+    pub verdicts: Vec<u32>,
+    pub end: Option<End>,
+}
+
+impl Printed {
+    pub fn bytes(&self) -> Vec<u8> {
+        let mut text: String = self.verdicts.iter().map(|v| format!("verdict={v}\n")).collect();
+        if let Some(end) = self.end {
+            text.push_str(&format!("refused={}\n", end.number()));
+        }
+        text.into_bytes()
+    }
+}
+
+/// "Lines end in byte 10 and have at most 4,096 bytes with it": takes the next line, and answers it without its end.
+fn line<'a>(card: &mut &'a [u8]) -> Result<&'a [u8], Why> {
+    let end = card.iter().take(4096).position(|b| *b == 10);
+    match end {
+        Some(end) => {
+            let line = &card[..end];
+            *card = &card[end + 1..];
+            Ok(line)
+        }
+        None if card.is_empty() => Err(Why::Missing),
+        None if card.len() > 4096 => Err(Why::OverLong),
+        None => Err(Why::Unfinished),
+    }
+}
+
+/// A decimal number 0 to 999,999 with no needless 0.
+fn decimal(digits: &[u8]) -> Option<u32> {
+    let fine = matches!(digits.len(), 1..=6) && digits.iter().all(u8::is_ascii_digit);
+    if !fine || digits.len() > 1 && digits[0] == b'0' {
+        return None;
+    }
+    Some(digits.iter().fold(0, |x, b| 10 * x + u32::from(b - b'0')))
+}
+
+fn parameters(line: &[u8]) -> Option<[u32; 8]> {
+    let numbers: Option<Vec<u32>> = line.strip_prefix(b"k=")?.split(|b| *b == b',').map(decimal).collect();
+    numbers?.try_into().ok()
+}
+
+fn tick(line: &[u8]) -> Option<Moment> {
+    let [b't', b'=', start @ (b'0' | b'1'), b',', digits @ ..] = line else { return None };
+    let is_digit = |b: &u8| matches!(b, b'0'..=b'9' | b'a'..=b'f');
+    if digits.len() != 16 || !digits.iter().all(is_digit) {
+        return None;
+    }
+    let digits = std::str::from_utf8(digits).unwrap();
+    Some(Moment { start: *start == b'1', signals: u64::from_str_radix(digits, 16).unwrap() })
+}
+
+/// The four first lines: parameters, rule and number of ticks.
+fn head(card: &mut &[u8]) -> Result<([u32; 8], Rule, u32), End> {
+    let broken = |place| End(place, Why::Broken);
+    if line(card).map_err(|w| End(Place::Edition, w))? != b"edition=1" {
+        return Err(broken(Place::Edition));
+    }
+    let k = line(card).map_err(|w| End(Place::Parameters, w))?;
+    let k = parameters(k).ok_or(broken(Place::Parameters))?;
+    let text = line(card).map_err(|w| End(Place::Rule, w))?;
+    let text = text.strip_prefix(b"watch=").ok_or(broken(Place::Rule))?;
+    let rule = read(text).map_err(|number| End(Place::Rule, Why::Refused(number)))?;
+    let count = line(card).map_err(|w| End(Place::Count, w))?;
+    let count = count.strip_prefix(b"ticks=").and_then(decimal).ok_or(broken(Place::Count))?;
+    Ok((k, rule, count))
+}
+
+/// The ticks of a card, each with its verdict.
+fn play(mut card: &[u8], verdicts: &mut Vec<u32>) -> Result<(), End> {
+    let (k, rule, count) = head(&mut card)?;
+    let mut trace = Vec::new();
+    for e in 0..count as usize {
+        let line = line(&mut card).map_err(|w| End(Place::Tick, w))?;
+        trace.push(tick(line).ok_or(End(Place::Tick, Why::Broken))?);
+        verdicts.push(verdict(&rule, &trace, &k, e));
+    }
+    if card.is_empty() { Ok(()) } else { Err(End(Place::After, Why::More)) }
+}
+
+pub fn printed(card: &[u8]) -> Printed {
+    let mut verdicts = Vec::new();
+    let end = play(card, &mut verdicts).err();
+    Printed { verdicts, end }
+}

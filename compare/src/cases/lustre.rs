@@ -1,0 +1,92 @@
+//! Tables written as Lustre text, and texts, damaged or not, read back.
+
+use super::{same, show, Run};
+use crate::archive::{self, Answer};
+use crate::random::Random;
+use crate::table::lustre::{lustre, read_lustre};
+use crate::table::{flaw, make};
+use crate::tally::{Operation, Outcome, Tally};
+
+pub fn lustre_case(run: &mut Run, number: u64) {
+    let most = if run.random.once_in(100) { 1500 } else { 16 };
+    let n = 1 + run.random.below(most);
+    let mut table = make::random_table(&mut run.random, n);
+    read_case(run, lustre(&table, n), number);
+    let more = run.random.below(4);
+    table.extend(run.random.numbers(more));
+    if run.random.once_in(8) {
+        make::damage(&mut run.random, &mut table);
+    }
+    write_case(run, &table, n, number);
+}
+
+/// Writing, now and then with a number of equations that the table has no room for, or that no table has.
+fn write_case(run: &mut Run, table: &[u32], n: usize, number: u64) {
+    let random = &mut run.random;
+    let said = if random.once_in(16) { random.pick(&[0, 4097, table.len() / 4 + 1]) } else { n };
+    let flaw = flaw(table, said);
+    let text = if flaw.is_none() { lustre(table, said) } else { Vec::new() };
+    let short = random.once_in(4);
+    let room = if short { text.len().saturating_sub(1 + random.below(3)) } else { text.len() + random.below(5) };
+    let mut buffer: Vec<u8> = (0..room).map(|_| random.next() as u8).collect();
+    let mut wanted = buffer.clone();
+    let wanted_answer = match flaw {
+        Some(flaw) => Answer::refused(flaw.refusal()),
+        None if room < text.len() => Answer::refused(15),
+        None => {
+            wanted[..text.len()].copy_from_slice(&text);
+            Answer::given(text.len() as u32)
+        }
+    };
+    let answer = archive::write_lustre(table, said, &mut buffer);
+    let case = || format!("Lustre text {number}: writing {table:?}, n {said}, into {room} bytes");
+    same(answer, wanted_answer, case);
+    same(buffer == wanted, true, || format!("the buffer of {}", case()));
+    run.tally.add(Outcome::WriteLustre(answer.refusal));
+}
+
+fn damage(random: &mut Random, text: &mut Vec<u8>) {
+    let at = random.below(text.len());
+    match random.below(5) {
+        0 => text[at] = random.pick(b"0123456789fskab(),;=<> \ntruel"),
+        1 => {
+            text.remove(at);
+        }
+        2 => text.insert(at, random.pick(b"0123456789f \n")),
+        3 => text.truncate(at),
+        _ => text.push(b'\n'),
+    }
+}
+
+fn read_case(run: &mut Run, mut text: Vec<u8>, number: u64) {
+    if run.random.once_in(2) {
+        damage(&mut run.random, &mut text);
+    }
+    let length = run.random.pick(&[0, 16383, 16384, 16384, 16390]);
+    let mut loaded = run.junk[..length].to_vec();
+    let mut wanted = loaded.clone();
+    let wanted_answer = match read_lustre(&text) {
+        None => {
+            run.tally.order(Operation::ReadLustre, if length < 16384 { &[16, 9] } else { &[16] });
+            Answer::refused(16)
+        }
+        Some(_) if length < 16384 => Answer::refused(9),
+        Some(read) => {
+            wanted[..read.len()].copy_from_slice(&read);
+            count_lines(&mut run.tally, &read);
+            Answer::given(read.len() as u32 / 4)
+        }
+    };
+    let answer = archive::read_lustre(&text, &mut loaded);
+    let case = || format!("Lustre text {number}: reading {} into {length} numbers", show(&text));
+    same(answer, wanted_answer, case);
+    same(loaded == wanted, true, || format!("the table of {}", case()));
+    run.tally.add(Outcome::ReadLustre(answer.refusal));
+}
+
+fn count_lines(tally: &mut Tally, table: &[u32]) {
+    for equation in table.chunks(4) {
+        let op = if equation[0] >= 10 { equation[2] } else { 0 };
+        tally.add(Outcome::Line(equation[0], op));
+    }
+}

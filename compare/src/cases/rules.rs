@@ -1,0 +1,166 @@
+//! Random rules: read, compiled, and run over random ticks with refused calls among them.
+
+use super::{same, show, Run};
+use crate::archive::{self, Answer, Tick};
+use crate::random::Random;
+use crate::rule::make::{random_parameters, random_rule, random_ticks};
+use crate::rule::meaning::{started, verdict, Moment};
+use crate::rule::{self, Rule};
+use crate::table;
+use crate::tally::{Outcome, Share};
+
+/// What the rules' ticks were: before any start or not; and how many rules never changed their verdict after it.
+#[derive(Default)]
+struct Ticks {
+    before: u64,
+    after: u64,
+    ones: u64,
+    steady: u64,
+}
+
+/// A rule with its ticks and the verdicts that document 01 has for them.
+struct Plan {
+    rule: Rule,
+    parameters: [u32; 8],
+    trace: Vec<Moment>,
+    verdicts: Vec<u32>,
+}
+
+impl Plan {
+    fn any(random: &mut Random) -> Plan {
+        let size = 1 + random.below(10);
+        let rule = random_rule(random, size, false);
+        let parameters = random_parameters(random);
+        let count = if random.once_in(12) { random.below(6) } else { 6 + random.below(30) };
+        let trace = random_ticks(random, count);
+        let verdicts = (0..count).map(|e| verdict(&rule, &trace, &parameters, e)).collect();
+        Plan { rule, parameters, trace, verdicts }
+    }
+    /// Whether the verdict changes after the first start.
+    fn changes(&self) -> bool {
+        let first = self.trace.iter().position(|m| m.start).unwrap_or(self.trace.len());
+        self.verdicts[first..].windows(2).any(|v| v[0] != v[1])
+    }
+    /// One of up to three random ones, the first with a verdict that changes if there is one.
+    fn random(random: &mut Random) -> Plan {
+        for _ in 0..2 {
+            let plan = Plan::any(random);
+            if plan.changes() {
+                return plan;
+            }
+        }
+        Plan::any(random)
+    }
+}
+
+/// A compiled rule with its state and values as the calls left them.
+struct Bench {
+    name: String,
+    table: Vec<u32>,
+    n: usize,
+    state: Vec<u32>,
+    values: Vec<u32>,
+}
+
+impl Bench {
+    /// Reads and compiles the rule, and makes the fresh state over numbers that stood there.
+    fn new(run: &mut Run, text: &[u8], nodes: u32, name: String) -> Bench {
+        let mut table = run.junk.clone();
+        let answer = archive::compile(text, &mut table);
+        same(answer.refusal, 0, || format!("compiling {name}"));
+        let n = answer.result as usize;
+        same(table::flaw(&table, n), None, || format!("the table of {name}"));
+        same(table[4 * n..] == run.junk[4 * n..], true, || format!("what stands after the table of {name}"));
+        let memories = (0..n).filter(|i| matches!(table[4 * i], 6 | 7)).count();
+        same(memories <= 2 * nodes as usize + 1, true, || format!("the memories of {name}"));
+        let mut state = run.random.numbers(n + 3);
+        let mut wanted = state.clone();
+        let answer = archive::fresh_state(&table, n, &mut state);
+        same(answer, table::fresh_state(&table, n, &mut wanted), || format!("fresh state of {name}"));
+        same(state == wanted, true, || format!("the cells of the fresh state of {name}"));
+        let values = run.random.numbers(n + 3);
+        Bench { name, table, n, state, values }
+    }
+    /// A call that is refused: for a parameter, or for a short state or values.
+    fn refused_call(&mut self, run: &mut Run, parameters: &[u32; 8]) {
+        let random = &mut run.random;
+        let mut tick = Tick { start: random.pick(&[0, 1]), signals: random.next(), parameters: *parameters };
+        let (mut cells, mut room) = (self.state.len(), self.values.len());
+        let refusal = random.pick(&[12, 13]);
+        if refusal == 13 || random.once_in(4) {
+            tick.parameters[random.below(8)] = random.pick(&[1_000_000, u32::MAX]);
+        }
+        if refusal == 12 {
+            let short = if random.once_in(2) { &mut cells } else { &mut room };
+            *short = random.below(self.n);
+        }
+        let before = (self.state.clone(), self.values.clone());
+        let (state, values) = (&mut self.state[..cells], &mut self.values[..room]);
+        let answer = archive::step(&self.table, self.n, state, values, &tick);
+        same(answer, Answer::refused(refusal), || format!("a refused step of {}", self.name));
+        let kept = self.state == before.0 && self.values == before.1;
+        same(kept, true, || format!("what a refused step of {} keeps", self.name));
+        run.tally.add(Outcome::RuleStep(refusal));
+        if tick.start != 0 {
+            run.tally.add(Outcome::RefusedStart);
+        }
+    }
+    /// A tick, whose verdict is the interval meaning's and whose flows and cells are the table's.
+    fn tick(&mut self, run: &mut Run, plan: &Plan, e: usize) {
+        let start = if plan.trace[e].start { run.random.pick(&[1, 1, 7, u32::MAX]) } else { 0 };
+        let tick = Tick { start, signals: plan.trace[e].signals, parameters: plan.parameters };
+        let room = self.n + run.random.below(4);
+        let (mut cells, mut flows) = (self.state.clone(), self.values.clone());
+        let answer = archive::step(&self.table, self.n, &mut self.state, &mut self.values[..room], &tick);
+        same(answer, Answer::given(plan.verdicts[e]), || {
+            format!("{} at tick {e} with parameters {:?}", self.name, plan.parameters)
+        });
+        table::step(&self.table, self.n, &mut cells, &mut flows[..room], &tick);
+        same(&self.state, &cells, || format!("the state of {} after tick {e}", self.name));
+        same(&self.values, &flows, || format!("the flows of {} at tick {e}", self.name));
+        run.tally.add(Outcome::RuleStep(0));
+    }
+}
+
+fn rule_case(run: &mut Run, ticks: &mut Ticks, number: u64) {
+    let plan = Plan::random(&mut run.random);
+    let text = rule::text_of(&mut run.random, &plan.rule);
+    let name = format!("rule {number}: {}", show(&text));
+    let read = rule::read(&text);
+    if let Err(refusal) = read {
+        // too long or too deep: the refusals must be the same
+        same(archive::read_rule(&text), Answer::refused(refusal), || name);
+        return;
+    }
+    same(read, Ok(plan.rule.clone()), || format!("the evaluator's own reader and writer on {name}"));
+    let nodes = rule::nodes(&plan.rule);
+    same(archive::read_rule(&text), Answer::given(nodes), || format!("reading {name}"));
+    let mut bench = Bench::new(run, &text, nodes, name);
+    let root = rule::root(&plan.rule);
+    for e in 0..plan.trace.len() {
+        if run.random.once_in(12) {
+            bench.refused_call(run, &plan.parameters);
+        }
+        bench.tick(run, &plan, e);
+        if started(&plan.trace, e).is_none() {
+            ticks.before += 1;
+            continue;
+        }
+        ticks.after += 1;
+        ticks.ones += u64::from(plan.verdicts[e]);
+        run.tally.add(Outcome::Verdict(root, plan.verdicts[e]));
+    }
+    ticks.steady += u64::from(!plan.changes());
+}
+
+pub fn run(run: &mut Run, rules: u64) {
+    let mut ticks = Ticks::default();
+    for number in 0..rules {
+        rule_case(run, &mut ticks, number);
+    }
+    let Ticks { before, after, ones, steady } = ticks;
+    let share = |name, part, whole, least, most| Share { name, part, whole, least, most };
+    run.tally.share(share("ticks before any start", before, before + after, 1.0, 5.0));
+    run.tally.share(share("verdicts 1 after a start", ones, after, 25.0, 75.0));
+    run.tally.share(share("rules that never change their verdict", steady, rules, 5.0, 25.0));
+}

@@ -1,0 +1,79 @@
+//! Reading and compiling random and damaged texts, and comparing two.
+
+use super::{same, show, Run};
+use crate::archive::{self, Answer};
+use crate::random::Random;
+use crate::rule::make::random_rule;
+use crate::rule::{self, scramble::random_text};
+use crate::tally::{Operation, Outcome};
+
+/// Reading and compiling a random or damaged text.
+pub fn text_case(run: &mut Run, number: u64) {
+    let text = random_text(&mut run.random);
+    let all = rule::read_or_all(&text);
+    let wanted = match &all {
+        Ok(rule) => Answer::given(rule::nodes(rule)),
+        Err(refusals) => Answer::refused(refusals[0]),
+    };
+    same(archive::read_rule(&text), wanted, || format!("text {number}: reading {}", show(&text)));
+    run.tally.add(Outcome::Read(wanted.refusal));
+    match &all {
+        Ok(_) => rule::limits(&text).into_iter().for_each(|l| run.tally.add(Outcome::AtLimit(l))),
+        Err(refusals) => run.tally.order(Operation::Read, refusals),
+    }
+    compile_case(run, &text, wanted.refusal, number);
+}
+
+/// Compiling it into a table of some length: what reading refuses, then 9.
+fn compile_case(run: &mut Run, text: &[u8], read_refusal: u32, number: u64) {
+    let length = run.random.pick(&[0, 1, 16383, 16384, 16390]);
+    let before = &run.junk[..length];
+    let mut table = before.to_vec();
+    let answer = archive::compile(text, &mut table);
+    let case = || format!("text {number}: compiling {} into {length} numbers", show(text));
+    let short = if length < 16384 { 9 } else { 0 };
+    let refusals: Vec<u32> = [read_refusal, short].into_iter().filter(|r| *r != 0).collect();
+    let refusal = refusals.first().copied().unwrap_or(0);
+    same(answer.refusal, refusal, case);
+    let kept = if refusal == 0 { 4 * answer.result as usize } else { 0 };
+    same(answer.result != 0, refusal == 0, case);
+    same(table[kept..] == before[kept..], true, || format!("what is kept in {}", case()));
+    run.tally.add(Outcome::Compile(refusal));
+    run.tally.order(Operation::Compile, &refusals);
+}
+
+/// Two texts: of one rule, of two near ones, or any.
+fn two_texts(random: &mut Random) -> (Vec<u8>, Vec<u8>) {
+    let size = 1 + random.below(8);
+    let rule = random_rule(random, size, false);
+    let first = if random.once_in(8) { random_text(random) } else { rule::text_of(random, &rule) };
+    let second = match random.below(4) {
+        0 => random_text(random),
+        1 => {
+            let mut text = first.clone();
+            if !text.is_empty() {
+                let at = random.below(text.len());
+                text[at] = random.pick(b" ()!&|<=>sk0123456789");
+            }
+            text
+        }
+        _ => rule::text_of(random, &rule),
+    };
+    (first, second)
+}
+
+pub fn same_case(run: &mut Run, number: u64) {
+    let (first, second) = two_texts(&mut run.random);
+    let (wanted, outcome) = match (rule::read(&first), rule::read(&second)) {
+        (Err(first), Err(second)) if first != second => {
+            run.tally.order(Operation::Same, &[first, second]);
+            (Answer::refused(first), Outcome::SameFirst(first))
+        }
+        (Err(refusal), _) => (Answer::refused(refusal), Outcome::SameFirst(refusal)),
+        (Ok(_), Err(refusal)) => (Answer::refused(refusal), Outcome::SameSecond(refusal)),
+        (Ok(a), Ok(b)) => (Answer::given(u32::from(a == b)), Outcome::Same(a == b)),
+    };
+    let case = || format!("pair {number}: {} and {}", show(&first), show(&second));
+    same(archive::same_rule(&first, &second), wanted, case);
+    run.tally.add(outcome);
+}

@@ -1,0 +1,65 @@
+//! The interval meaning (document 01), straight from its sentences: slow and plain.
+
+use super::{compare, Num, Prop, Rule, Test};
+
+pub struct Moment {
+    pub start: bool,
+    pub signals: u64,
+}
+
+pub fn holds(p: &Prop, signals: u64) -> bool {
+    match p {
+        Prop::Constant(c) => *c,
+        Prop::Signal(j) => signals >> j & 1 == 1,
+        Prop::Not(p) => !holds(p, signals),
+        Prop::And(p, q) => holds(p, signals) && holds(q, signals),
+        Prop::Or(p, q) => holds(p, signals) || holds(q, signals),
+    }
+}
+
+fn value(n: Num, parameters: &[u32; 8]) -> u64 {
+    match n {
+        Num::Literal(n) => u64::from(n),
+        Num::Parameter(j) => u64::from(parameters[j as usize]),
+    }
+}
+
+/// The rule on ticks b to e.
+pub fn meaning(r: &Rule, trace: &[Moment], parameters: &[u32; 8], b: usize, e: usize) -> bool {
+    let at = |p: &Prop, i: usize| holds(p, trace[i].signals);
+    match r {
+        Rule::Test(Test::Begin, p) => at(p, b),
+        Rule::Test(Test::End, p) => at(p, e),
+        Rule::Test(Test::Point, p) => b == e && at(p, b),
+        Rule::Test(Test::Kept, p) => (b..e).all(|i| at(p, i)),
+        Rule::Test(Test::Held, p) => b < e && (b..e).all(|i| at(p, i)),
+        Rule::Len(op, n) => compare(*op, (e - b) as u64, value(*n, parameters)),
+        Rule::Sum(p, op, n) => compare(*op, (b..e).filter(|i| at(p, *i)).count() as u64, value(*n, parameters)),
+        Rule::Age(p, op, n) => {
+            let row = (b..=e).rev().take_while(|i| at(p, *i)).count();
+            compare(*op, row as u64, value(*n, parameters))
+        }
+        Rule::Not(f) => !meaning(f, trace, parameters, b, e),
+        Rule::And(f, g) => meaning(f, trace, parameters, b, e) && meaning(g, trace, parameters, b, e),
+        Rule::Or(f, g) => meaning(f, trace, parameters, b, e) || meaning(g, trace, parameters, b, e),
+        Rule::Then(l, f) => (b..e).any(|m| {
+            meaning(l, trace, parameters, b, m)
+                && !meaning(l, trace, parameters, b, m + 1)
+                && meaning(f, trace, parameters, m + 1, e)
+        }),
+        Rule::Chop(..) | Rule::Exists(..) => panic!("no meaning here"),
+    }
+}
+
+/// The latest tick with start set, up to e.
+pub fn started(trace: &[Moment], e: usize) -> Option<usize> {
+    (0..=e).rev().find(|i| trace[*i].start)
+}
+
+/// The verdict at tick e.
+pub fn verdict(r: &Rule, trace: &[Moment], parameters: &[u32; 8], e: usize) -> u32 {
+    match started(trace, e) {
+        None => 1,
+        Some(b) => u32::from(meaning(r, trace, parameters, b, e)),
+    }
+}

@@ -1,0 +1,99 @@
+//! Texts that mostly are no rules: random words, rules outside the fragment, damaged bytes, and texts at the limits.
+
+use super::make::random_rule;
+use super::{text_of, Rule};
+use crate::random::Random;
+
+const WORDS: [&str; 34] = [
+    "(", ")", "[", "]", "!", "&", "|", "<=", "<", "=", ">", ">=", "begin", "end", "point", "held", "kept", "len", "sum",
+    "age", "then", "chop", "exists", "0", "1", "7", "s0", "s63", "s64", "k7", "k8", "01", "999999", "1000000",
+];
+
+fn random_words(random: &mut Random) -> Vec<u8> {
+    let mut text = Vec::new();
+    let most = if random.once_in(20) { 260 } else { 12 };
+    for _ in 0..random.below(most) {
+        text.extend_from_slice(random.pick(&WORDS).as_bytes());
+        if random.once_in(2) {
+            text.push(b' ');
+        }
+    }
+    text
+}
+
+/// The text of a rule, now and then one with `chop` or `exists`, or with a left of `then` that is no lead.
+fn rule_text(random: &mut Random) -> Vec<u8> {
+    let most = if random.once_in(30) { 90 } else { 12 };
+    let size = 1 + random.below(most);
+    let mut rule = random_rule(random, size, false);
+    while random.once_in(5) {
+        let other = Box::new(random_rule(random, 2, false));
+        rule = match random.below(3) {
+            0 => Rule::Chop(Box::new(rule), other),
+            1 => Rule::Exists(random.below(64) as u32, Box::new(rule)),
+            _ => Rule::Then(Box::new(rule), other),
+        };
+    }
+    text_of(random, &rule)
+}
+
+fn damage(random: &mut Random, text: &mut Vec<u8>) {
+    for _ in 0..1 + random.below(2) {
+        if text.is_empty() {
+            return;
+        }
+        let at = random.below(text.len());
+        match random.below(4) {
+            0 => text[at] = random.pick(b" ()[]!&|<=>sk0123456789abcdefghijklmnopqrstuvwxyz#\tA"),
+            1 => {
+                text.remove(at);
+            }
+            2 => text.insert(at, random.pick(b" ()[]!&|<=>sk019aeh\n\xff")),
+            _ => text.truncate(at),
+        }
+    }
+}
+
+/// A text of about 240 words: 60 atoms of three words with `&` or `|` between, some `!`, and now and then a bracket.
+fn many_words(random: &mut Random) -> Vec<u8> {
+    let joint = random.pick(&["&", "|"]);
+    let mut text = "!".repeat(random.below(4));
+    for i in 0..60 {
+        text.push_str(if i == 0 { "" } else { joint });
+        text.push_str(random.pick(&["len<=1", "len>2", "len = 7", "len<k0"]));
+    }
+    if random.once_in(4) {
+        text = format!("({text})");
+    }
+    text.into_bytes()
+}
+
+/// Takes a text to one of the limits, or just past it.
+fn stretch(random: &mut Random, text: Vec<u8>) -> Vec<u8> {
+    match random.below(5) {
+        0 => {
+            let deep = 14 + random.below(4);
+            [vec![b'('; deep], text, vec![b')'; deep]].concat()
+        }
+        1 if random.once_in(2) => [vec![b'!'; 27 + random.below(7)], text].concat(),
+        1 => [vec![b'!'; 31 + random.below(3)], b"end[s0]".to_vec()].concat(),
+        2 => {
+            let mut text = text;
+            text.resize(2046 + random.below(5), b' ');
+            text
+        }
+        3 => many_words(random),
+        _ => Vec::new(),
+    }
+}
+
+pub fn random_text(random: &mut Random) -> Vec<u8> {
+    let mut text = if random.once_in(4) { random_words(random) } else { rule_text(random) };
+    if random.once_in(2) {
+        damage(random, &mut text);
+    }
+    if random.once_in(12) {
+        text = stretch(random, text);
+    }
+    text
+}

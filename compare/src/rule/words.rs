@@ -1,0 +1,108 @@
+//! The words of a rule text (document 01, "Rule text"): refusals 1 to 4.
+
+use super::{Op, Test, TESTS};
+
+#[derive(Clone, Copy, PartialEq, Debug)]
+pub enum Word {
+    Open,
+    Close,
+    SquareOpen,
+    SquareClose,
+    Not,
+    And,
+    Or,
+    Op(Op),
+    Test(Test),
+    Len,
+    Sum,
+    Age,
+    Then,
+    Chop,
+    Exists,
+    Literal(u32),
+    Signal(u32),
+    Parameter(u32),
+}
+
+/// A number with no needless 0, up to max: else 2 or 3.
+fn number(digits: &[u8], max: u64) -> Result<u32, u32> {
+    if digits.is_empty() || digits.iter().any(|b| !b.is_ascii_digit()) {
+        return Err(2);
+    }
+    if digits.len() > 1 && digits[0] == b'0' {
+        return Err(2);
+    }
+    let value = digits.iter().fold(0u64, |v, b| (v * 10 + u64::from(b - b'0')).min(1 << 40));
+    if value > max {
+        return Err(3);
+    }
+    Ok(value as u32)
+}
+
+fn run_word(run: &[u8]) -> Result<Word, u32> {
+    for (test, name) in TESTS {
+        if run == name.as_bytes() {
+            return Ok(Word::Test(test));
+        }
+    }
+    match run {
+        b"len" => Ok(Word::Len),
+        b"sum" => Ok(Word::Sum),
+        b"age" => Ok(Word::Age),
+        b"then" => Ok(Word::Then),
+        b"chop" => Ok(Word::Chop),
+        b"exists" => Ok(Word::Exists),
+        _ => match run[0] {
+            b's' => number(&run[1..], 63).map(Word::Signal),
+            b'k' => number(&run[1..], 7).map(Word::Parameter),
+            _ => number(run, 999_999).map(Word::Literal),
+        },
+    }
+}
+
+/// The word at the front of a text that has no space there, and its length.
+fn first_word(text: &[u8]) -> Result<(Word, usize), u32> {
+    let is_run = |b: u8| b.is_ascii_lowercase() || b.is_ascii_digit();
+    let followed = text.get(1) == Some(&b'=');
+    Ok(match text[0] {
+        b'(' => (Word::Open, 1),
+        b')' => (Word::Close, 1),
+        b'[' => (Word::SquareOpen, 1),
+        b']' => (Word::SquareClose, 1),
+        b'!' => (Word::Not, 1),
+        b'&' => (Word::And, 1),
+        b'|' => (Word::Or, 1),
+        b'<' if followed => (Word::Op(Op::Le), 2),
+        b'<' => (Word::Op(Op::Lt), 1),
+        b'>' if followed => (Word::Op(Op::Ge), 2),
+        b'>' => (Word::Op(Op::Gt), 1),
+        b'=' => (Word::Op(Op::Eq), 1),
+        b if is_run(b) => {
+            let length = text.iter().take_while(|b| is_run(**b)).count();
+            (run_word(&text[..length])?, length)
+        }
+        _ => return Err(2),
+    })
+}
+
+/// The words of a text, or the first of the refusals 1 to 4.
+pub fn words(text: &[u8]) -> Result<Vec<Word>, u32> {
+    if text.is_empty() || text.len() > 2048 {
+        return Err(1);
+    }
+    let mut found = Vec::new();
+    let mut i = 0;
+    while i < text.len() {
+        if text[i] == b' ' {
+            i += 1;
+            continue;
+        }
+        if found.len() == 240 {
+            return Err(4);
+        }
+        let (word, length) = first_word(&text[i..])?;
+        found.push(word);
+        i += length;
+    }
+    Ok(found)
+}

@@ -1,0 +1,204 @@
+//! How often each outcome came up, and how often it has to.
+
+use crate::card::{End, Place, Why};
+use crate::rule::{Limit, Root, OPS, TESTS};
+use crate::table::Flaw;
+use std::collections::BTreeMap;
+
+/// Something that a run of the comparison has to have seen. A number that is not said to be another is a refusal's, 0
+/// for none.
+#[derive(Clone, Copy, PartialEq, Eq, PartialOrd, Ord, Debug)]
+pub enum Outcome {
+    Read(u32),
+    Compile(u32),
+    /// The operation is refused by the first number, although the second applies too.
+    Order(Operation, u32, u32),
+    /// A text that is read and stands exactly at a limit.
+    AtLimit(Limit),
+    /// The refusal is the first text's, or the second's after a first that is read.
+    SameFirst(u32),
+    SameSecond(u32),
+    /// Whether two texts are the same rule.
+    Same(bool),
+    FreshState(u32),
+    /// A step of a random table, and of a rule's table.
+    Step(u32),
+    RuleStep(u32),
+    /// A refused step with start set, which does not count.
+    RefusedStart,
+    /// The verdict of a rule with this root at a tick after a start.
+    Verdict(Root, u32),
+    /// The verdict of a random table.
+    TableVerdict(u32),
+    /// The value of an equation of this kind in a step: 0, 1, or 2 for any count above 1.
+    Flow(u32, u32),
+    /// A count of kind 8 that stays at a million.
+    AtCap,
+    /// Why a table is refused by 10 or 11.
+    Flawed(Flaw),
+    WriteLustre(u32),
+    ReadLustre(u32),
+    /// An equation of this kind in a Lustre text that is read, with its operator where it compares.
+    Line(u32, u32),
+    /// How a card ends, with None for one that is fine.
+    Card(Option<End>),
+    CardVerdict(u32),
+    /// A card longer than the program's buffer that prints at least 500 verdicts, and whether it is refused then.
+    LongCard(bool),
+}
+
+/// Those of the operations that a call can break in two ways.
+#[derive(Clone, Copy, PartialEq, Eq, PartialOrd, Ord, Debug)]
+pub enum Operation {
+    Read,
+    Compile,
+    Same,
+    FreshState,
+    Step,
+    ReadLustre,
+}
+
+/// A share of a whole, in percent.
+pub struct Share {
+    pub name: &'static str,
+    pub part: u64,
+    pub whole: u64,
+    pub least: f64,
+    pub most: f64,
+}
+
+#[derive(Default)]
+pub struct Tally {
+    counts: BTreeMap<Outcome, u64>,
+    shares: Vec<Share>,
+}
+
+impl Tally {
+    pub fn add(&mut self, outcome: Outcome) {
+        *self.counts.entry(outcome).or_default() += 1;
+    }
+    /// Counts the order of the refusals that apply to a call.
+    pub fn order(&mut self, operation: Operation, refusals: &[u32]) {
+        for other in refusals.iter().skip(1) {
+            self.add(Outcome::Order(operation, refusals[0], *other));
+        }
+    }
+    pub fn share(&mut self, share: Share) {
+        self.shares.push(share);
+    }
+    fn of(&self, outcome: Outcome) -> u64 {
+        self.counts.get(&outcome).copied().unwrap_or(0)
+    }
+    /// Prints the rarest outcome of each sort, and the shares. Answers whether each outcome came up as often as it has
+    /// to in a run of that many rules, and each share is within its bounds.
+    pub fn is_enough(&self, rules: u64) -> bool {
+        let mut rarest: BTreeMap<String, (usize, u64, String)> = BTreeMap::new();
+        let mut enough = true;
+        for (outcome, least) in wanted() {
+            let count = self.of(outcome);
+            let text = format!("{outcome:?}");
+            let sort = text.split('(').next().unwrap().to_string();
+            let entry = rarest.entry(sort).or_insert((0, u64::MAX, String::new()));
+            entry.0 += 1;
+            if count < entry.1 {
+                (entry.1, entry.2) = (count, text);
+            }
+            if count < least * rules / GATE {
+                println!("TOO RARE: {outcome:?} came up {count} times");
+                enough = false;
+            }
+        }
+        for (sort, (outcomes, count, text)) in rarest {
+            println!("  {sort}: {outcomes} outcomes, the rarest {text} with {count}");
+        }
+        for share in &self.shares {
+            enough &= is_within(share);
+        }
+        enough
+    }
+}
+
+fn is_within(share: &Share) -> bool {
+    let Share { name, part, whole, least, most } = share;
+    let percent = 100.0 * *part as f64 / *whole as f64;
+    println!("  {name}: {percent:.1} % of {whole}");
+    let within = (*least..=*most).contains(&percent);
+    if !within {
+        println!("OUT OF BOUNDS: {name} should be {least} to {most} %");
+    }
+    within
+}
+
+/// The rules of a run of the gate, for which the least counts below are.
+const GATE: u64 = 200_000;
+
+/// Each outcome that has to come up, and how often at the least.
+fn wanted() -> Vec<(Outcome, u64)> {
+    let mut all = Vec::new();
+    let mut want = |least: u64, outcomes: &mut dyn Iterator<Item = Outcome>| all.extend(outcomes.map(|o| (o, least)));
+    want(500, &mut (0..=8).map(Outcome::Read));
+    want(500, &mut (0..=9).map(Outcome::Compile));
+    want(100, &mut [Limit::Bytes, Limit::Words, Limit::Brackets, Limit::Operators].into_iter().map(Outcome::AtLimit));
+    want(100, &mut (1..=8).flat_map(|r| [Outcome::SameFirst(r), Outcome::SameSecond(r)]));
+    want(5000, &mut [true, false].into_iter().map(Outcome::Same));
+    want(2000, &mut [0, 10, 11, 12].into_iter().map(Outcome::FreshState));
+    want(2000, &mut [0, 10, 11, 12, 13, 14].into_iter().map(Outcome::Step));
+    want(20_000, &mut [0, 12, 13].into_iter().map(Outcome::RuleStep));
+    want(10_000, &mut std::iter::once(Outcome::RefusedStart));
+    want(300, &mut roots().into_iter().flat_map(|r| [Outcome::Verdict(r, 0), Outcome::Verdict(r, 1)]));
+    want(50_000, &mut [0, 1].into_iter().map(Outcome::TableVerdict));
+    want(2000, &mut flows());
+    want(500, &mut std::iter::once(Outcome::AtCap));
+    want(500, &mut (0..=12).map(|k| Outcome::Flawed(Flaw::Equation(k))));
+    want(500, &mut [Flaw::Size, Flaw::LastIsCount].into_iter().map(Outcome::Flawed));
+    want(500, &mut [0, 10, 11, 15].into_iter().map(Outcome::WriteLustre));
+    want(500, &mut [0, 9, 16].into_iter().map(Outcome::ReadLustre));
+    want(200, &mut (0..10).map(|k| Outcome::Line(k, 0)));
+    want(200, &mut (0..5).flat_map(|op| [Outcome::Line(10, op), Outcome::Line(11, op)]));
+    want(50, &mut orders());
+    want(5, &mut card_ends());
+    want(5000, &mut [0, 1].into_iter().map(Outcome::CardVerdict));
+    want(5, &mut [true, false].into_iter().map(Outcome::LongCard));
+    all
+}
+
+fn roots() -> Vec<Root> {
+    let mut roots: Vec<Root> = TESTS.iter().map(|t| Root::Test(t.0)).collect();
+    for (op, _) in OPS {
+        for named in [true, false] {
+            roots.extend([Root::Len(op, named), Root::Sum(op, named), Root::Age(op, named)]);
+        }
+    }
+    roots.extend([Root::Not, Root::And, Root::Or, Root::Then]);
+    roots
+}
+
+/// Both values of each boolean kind; 0, 1 and more of each kind of count.
+fn flows() -> impl Iterator<Item = Outcome> {
+    (0..12).flat_map(|k| (0..if crate::table::is_count(k) { 3 } else { 2 }).map(move |v| Outcome::Flow(k, v)))
+}
+
+fn orders() -> impl Iterator<Item = Outcome> {
+    let of = |operation, pairs: &[(u32, u32)]| -> Vec<Outcome> {
+        pairs.iter().map(|(first, other)| Outcome::Order(operation, *first, *other)).collect()
+    };
+    let all = [
+        of(Operation::Read, &[(5, 6), (5, 7), (5, 8), (6, 7), (7, 8)]),
+        (1..=8).map(|refusal| Outcome::Order(Operation::Compile, refusal, 9)).collect(),
+        of(Operation::Same, &[(2, 6), (6, 2), (2, 3), (3, 2), (7, 2)]),
+        of(Operation::FreshState, &[(10, 12), (11, 12)]),
+        of(Operation::Step, &[(10, 12), (10, 13), (11, 12), (11, 13), (11, 14), (12, 13), (12, 14), (13, 14)]),
+        of(Operation::ReadLustre, &[(16, 9)]),
+    ];
+    all.into_iter().flatten()
+}
+
+fn card_ends() -> impl Iterator<Item = Outcome> {
+    let lines = [Place::Edition, Place::Parameters, Place::Rule, Place::Count, Place::Tick];
+    let ways = [Why::Missing, Why::Unfinished, Why::OverLong, Why::Broken];
+    let ends = lines.into_iter().flat_map(move |place| ways.into_iter().map(move |why| End(place, why)));
+    let refused = (1..=8).map(|number| End(Place::Rule, Why::Refused(number)));
+    let more = std::iter::once(End(Place::After, Why::More));
+    let ends = ends.chain(refused).chain(more).map(Some);
+    ends.chain(std::iter::once(None)).map(Outcome::Card)
+}
