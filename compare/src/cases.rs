@@ -1,33 +1,52 @@
 //! The comparisons, one file for each sort of case.
 
-pub mod cards;
-pub mod long_runs;
-pub mod lustre;
-pub mod rules;
-pub mod tables;
-pub mod texts;
+mod cards;
+mod long_runs;
+mod lustre;
+mod rules;
+mod tables;
+mod texts;
 
 use crate::random::Random;
 use crate::tally::Tally;
 use std::fmt::Debug;
 
-/// What all cases share: the generator, the count of outcomes, and numbers for lent tables to hold.
-pub struct Run {
+/// What the cases of one sort share: the generator, the count of outcomes, numbers for lent tables to hold, and the
+/// path of the program.
+pub struct Run<'a> {
     pub random: Random,
     pub tally: Tally,
     pub junk: Vec<u32>,
+    pub program: &'a str,
 }
 
-impl Run {
-    pub fn new(seed: u64) -> Run {
+impl Run<'_> {
+    pub fn new(seed: u64, program: &str) -> Run<'_> {
         let mut random = Random::new(seed);
         let junk = random.numbers(16390);
-        Run { random, tally: Tally::default(), junk }
+        Run { random, tally: Tally::default(), junk, program }
     }
 }
 
+/// A sort of cases: its name, how many there are in a run of the gate, and what runs so many.
+pub struct Sort {
+    pub name: &'static str,
+    pub gate: u64,
+    pub run: fn(&mut Run, u64),
+}
+
+pub const SORTS: [Sort; 7] = [
+    Sort { name: "rules with their ticks", gate: 200_000, run: rules::run },
+    Sort { name: "texts", gate: 200_000, run: |run, n| (0..n).for_each(|i| texts::text_case(run, i)) },
+    Sort { name: "pairs of texts", gate: 200_000, run: |run, n| (0..n).for_each(|i| texts::same_case(run, i)) },
+    Sort { name: "tables", gate: 200_000, run: |run, n| (0..n).for_each(|i| tables::table_case(run, i)) },
+    Sort { name: "Lustre texts", gate: 50_000, run: |run, n| (0..n).for_each(|i| lustre::lustre_case(run, i)) },
+    Sort { name: "whole cards", gate: 5000, run: |run, n| (0..n).for_each(|i| cards::card_case(run, i)) },
+    Sort { name: "runs past the cap of counts", gate: 18, run: long_runs::run },
+];
+
 /// Stops at a difference and prints the case.
-pub fn same<T: PartialEq + Debug>(ours: T, wanted: T, case: impl FnOnce() -> String) {
+fn same<T: PartialEq + Debug>(ours: T, wanted: T, case: impl FnOnce() -> String) {
     if ours != wanted {
         println!("DIFFERENT: {}", case());
         println!("  given:  {ours:?}");
@@ -36,6 +55,6 @@ pub fn same<T: PartialEq + Debug>(ours: T, wanted: T, case: impl FnOnce() -> Str
     }
 }
 
-pub fn show(text: &[u8]) -> String {
+fn show(text: &[u8]) -> String {
     format!("{:?}", String::from_utf8_lossy(text))
 }

@@ -77,6 +77,13 @@ impl Tally {
     pub fn add(&mut self, outcome: Outcome) {
         *self.counts.entry(outcome).or_default() += 1;
     }
+    /// Takes over the counts of another.
+    pub fn join(&mut self, other: Tally) {
+        for (outcome, count) in other.counts {
+            *self.counts.entry(outcome).or_default() += count;
+        }
+        self.shares.extend(other.shares);
+    }
     /// Counts the order of the refusals that apply to a call.
     pub fn order(&mut self, operation: Operation, refusals: &[u32]) {
         for other in refusals.iter().skip(1) {
@@ -90,8 +97,8 @@ impl Tally {
         self.counts.get(&outcome).copied().unwrap_or(0)
     }
     /// Prints the rarest outcome of each sort, and the shares. Answers whether each outcome came up as often as it has
-    /// to in a run of that many rules, and each share is within its bounds.
-    pub fn is_enough(&self, rules: u64) -> bool {
+    /// to in a run of so many percent of the gate's, and each share is within its bounds.
+    pub fn is_enough(&self, percent: u64) -> bool {
         let mut rarest: BTreeMap<String, (usize, u64, String)> = BTreeMap::new();
         let mut enough = true;
         for (outcome, least) in wanted() {
@@ -103,7 +110,7 @@ impl Tally {
             if count < entry.1 {
                 (entry.1, entry.2) = (count, text);
             }
-            if count < least * rules / GATE {
+            if count < least * percent / 100 {
                 println!("TOO RARE: {outcome:?} came up {count} times");
                 enough = false;
             }
@@ -129,10 +136,7 @@ fn is_within(share: &Share) -> bool {
     within
 }
 
-/// The rules of a run of the gate, for which the least counts below are.
-const GATE: u64 = 200_000;
-
-/// Each outcome that has to come up, and how often at the least.
+/// Each outcome that has to come up, and how often at the least in a run of the gate.
 fn wanted() -> Vec<(Outcome, u64)> {
     let mut all = Vec::new();
     let mut want = |least: u64, outcomes: &mut dyn Iterator<Item = Outcome>| all.extend(outcomes.map(|o| (o, least)));

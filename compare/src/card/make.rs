@@ -100,9 +100,9 @@ fn damaged(random: &mut Random, mut lines: Vec<Vec<u8>>) -> Vec<u8> {
     joined(&lines)
 }
 
-/// A random card; one in a hundred is longer than the program's buffer.
+/// A random card; one in sixty is longer than the program's buffer.
 pub fn random_card(random: &mut Random) -> Vec<u8> {
-    let count = if random.once_in(100) { 1600 + random.below(3000) } else { random.below(30) };
+    let count = if random.once_in(60) { 1600 + random.below(3000) } else { random.below(30) };
     let lines = lines(random, count);
     match random.below(8) {
         0..=2 => joined(&lines),

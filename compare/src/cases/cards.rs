@@ -24,12 +24,12 @@ fn play(program: &str, card: &[u8], piece: usize) -> (Vec<u8>, bool) {
     (output, child.wait().expect("the program's end").success())
 }
 
-pub fn card_case(run: &mut Run, program: &str, number: u64) {
+pub fn card_case(run: &mut Run, number: u64) {
     let card = random_card(&mut run.random);
     let wanted = printed(&card);
     let small = 1 + run.random.below(40);
     let piece = run.random.pick(&[card.len().max(1), small, 21, 4096]);
-    let (output, ended_well) = play(program, &card, piece);
+    let (output, ended_well) = play(run.program, &card, piece);
     let case = || format!("card {number} in pieces of {piece}: {}", show(&card));
     same(show(&output), show(&wanted.bytes()), case);
     same(ended_well, true, || format!("the exit status of {}", case()));

@@ -1,6 +1,6 @@
 //! Runs past the cap of counts: the verdicts of counts far above it, against numbers next to it.
 
-use super::{same, show};
+use super::{same, show, Run};
 use crate::archive::{self, Answer, Tick};
 use crate::random::Random;
 use crate::rule::{compare, text_of, Num, Op, Prop, Rule};
@@ -24,14 +24,18 @@ fn long_run(rule: &Rule, op: Op, more: u64, n: u32) {
     }
 }
 
-pub fn run() {
-    let signal = || Prop::Signal(0);
-    for n in [999_999, 999_998, 1] {
-        long_run(&Rule::Len(Op::Ge, Num::Literal(n)), Op::Ge, 0, n);
-        long_run(&Rule::Len(Op::Eq, Num::Literal(n)), Op::Eq, 0, n);
-        long_run(&Rule::Sum(signal(), Op::Gt, Num::Literal(n)), Op::Gt, 0, n);
-        long_run(&Rule::Sum(signal(), Op::Le, Num::Parameter(3)), Op::Le, 0, n);
-        long_run(&Rule::Age(signal(), Op::Lt, Num::Literal(n)), Op::Lt, 1, n);
-        long_run(&Rule::Age(signal(), Op::Eq, Num::Parameter(3)), Op::Eq, 1, n);
+/// The first so many of 18 runs: six rules, three numbers for each.
+pub fn run(_: &mut Run, runs: u64) {
+    for (i, n) in (0..runs as usize).zip([999_999, 999_998, 1].repeat(6)) {
+        let signal = Prop::Signal(0);
+        let (rule, op, more) = match i / 3 {
+            0 => (Rule::Len(Op::Ge, Num::Literal(n)), Op::Ge, 0),
+            1 => (Rule::Len(Op::Eq, Num::Literal(n)), Op::Eq, 0),
+            2 => (Rule::Sum(signal, Op::Gt, Num::Literal(n)), Op::Gt, 0),
+            3 => (Rule::Sum(signal, Op::Le, Num::Parameter(3)), Op::Le, 0),
+            4 => (Rule::Age(signal, Op::Lt, Num::Literal(n)), Op::Lt, 1),
+            _ => (Rule::Age(signal, Op::Eq, Num::Parameter(3)), Op::Eq, 1),
+        };
+        long_run(&rule, op, more, n);
     }
 }
