@@ -5,7 +5,7 @@ use mathlib.Core.Path.{_≡_, sym, ap}
 use Prim.Native.Nat.{ℕ, _≤_, _<_}
 use lib.ListN.{getD}
 use Rattle.tables.proofs.Checks.{checked-fitting}
-use Rattle.lustre.specs.Write.{AfterWrite, afterWrite, written}
+use Rattle.lustre.specs.Write.{AfterWrite, afterWrite, writeEffect}
 use Rattle.lustre.specs.Read.{AfterRead}
 use Rattle.lustre.specs.Read.AfterRead.{unread, no-room as no-table, read}
 use Rattle.lustre.specs.declared.Written.{Written}
@@ -28,6 +28,6 @@ few-loaded (no-table w h) = tt
 few-loaded (read {t} {n} w h) = checked-fitting t n (w .well-formed) .few
 
 pub short-text : (t : List ℕ) → ((i : ℕ) → getD t i 0 < 4294967296) → (n : ℕ) (buffer : List ℕ) (r : Written) (after : List ℕ)
-    → afterWrite r after ≡ written t n buffer → short r
+    → afterWrite r after ≡ writeEffect t n buffer → short r
 short-text t bits n buffer (Length l) after e = written-few t bits n l buffer (sym (ap (λ (x : AfterWrite). x .answer) e))
 short-text t bits n buffer (Refused k) after e = tt

@@ -13,7 +13,7 @@ ghost use Rattle.rules.specs.Reading.{ruleOf};
 ghost use Rattle.rules.specs.Answer.{answerOf};
 ghost use Rattle.observers.specs.Compile.{compiled};
 ghost use Rattle.firmware.specs.Face.{answer, tickOf, left, fresh, leftValues, tick};
-ghost use Rattle.lustre.specs.Write.{written};
+ghost use Rattle.lustre.specs.Write.{writeEffect};
 ghost use Rattle.firmware.specs.Face.{writeAnswer, write, loadAnswer, LoadTold, short, few};
 ghost use Rattle.firmware.specs.Face.{readAnswer, sameAnswer, compiledAnswer, compile, SameTold};
 ghost use Prim.Native.Nat.{_≤_};
@@ -204,9 +204,9 @@ fn loaded_answer(l: Loaded) -> Answer
 // Write the table's n equations as Lustre text: the length in bytes.
 #[no_mangle]
 pub extern "C" fn towerwatch_write_lustre(table: &[u32], n: usize, text: &mut [u8]) -> Answer
-    ensures { λ r. ⌜ left r (now (text .exit)) ≡ write (written (now (table .entry)) n (now (text .entry))) ⌝ }
+    ensures { λ r. ⌜ left r (now (text .exit)) ≡ write (writeEffect (now (table .entry)) n (now (text .entry))) ⌝ }
 {
-    written_answer(lustre::write_lustre(table, n, text))
+    written_answer(lustre_write::write_lustre(table, n, text))
 }
 
 // Read Lustre text into a table: how many equations.
@@ -214,5 +214,5 @@ pub extern "C" fn towerwatch_write_lustre(table: &[u32], n: usize, text: &mut [u
 pub extern "C" fn towerwatch_read_lustre(text: &[u8], table: &mut [u32]) -> Answer
     ensures { λ r. ⌜ LoadTold (now (text .entry)) (now (table .entry)) r (now (table .exit)) ⌝ }
 {
-    loaded_answer(lustre::read_lustre(text, table))
+    loaded_answer(lustre_read::read_lustre(text, table))
 }

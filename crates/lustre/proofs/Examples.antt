@@ -5,30 +5,30 @@ use mathlib.Core.Path.{_≡_, refl}
 use Prim.Native.Nat.{ℕ}
 use Rattle.lists.specs.Text.{bytes}
 use Rattle.tables.specs.Table.{kindOf}
-use Rattle.lustre.specs.Decimal.{digits, decimal}
+use Rattle.lustre.specs.Decimal.{digits, numeral}
 use Rattle.lustre.specs.Text.{valueText, lineEnd, lineText, lines, foot, textOf}
 
 -- What follows `fN=` for an equation of these four numbers.
-abbrev after : ℕ → ℕ → ℕ → ℕ → List ℕ
-after k a b c = valueText (kindOf k) (record { kind = k; a = a; b = b; c = c })
+abbrev endOf : ℕ → ℕ → ℕ → ℕ → List ℕ
+endOf k a b c = valueText (kindOf k) (record { kind = k; a = a; b = b; c = c })
 
 -- Each row of the table.
 record Column : Type 0 where
-  kind0 : after 0 5 0 0 ≡ bytes "s5"
-  kind1 : after 1 0 0 0 ≡ bytes "b"
-  kind2 : after 2 1 0 0 ≡ bytes "true"
-  kind3 : after 3 1 0 0 ≡ bytes "not f1"
-  kind4 : after 4 1 2 0 ≡ bytes "f1 and f2"
-  kind5 : after 5 1 2 0 ≡ bytes "f1 or f2"
-  kind6 : after 6 5 0 0 ≡ bytes "false->pre(f5)"
-  kind7 : after 7 6 0 0 ≡ bytes "0->pre(f6)"
-  kind8 : after 8 7 6 0 ≡ bytes "cap(f7,f6)"
-  kind9 : after 9 3 7 0 ≡ bytes "if f3 then f7 else 0"
-  kind10 : after 10 9 0 12 ≡ bytes "f9<=12"
-  kind11 : after 11 9 0 3 ≡ bytes "f9<=k3"
+  kind0 : endOf 0 5 0 0 ≡ bytes "s5"
+  kind1 : endOf 1 0 0 0 ≡ bytes "b"
+  kind2 : endOf 2 1 0 0 ≡ bytes "true"
+  kind3 : endOf 3 1 0 0 ≡ bytes "not f1"
+  kind4 : endOf 4 1 2 0 ≡ bytes "f1 and f2"
+  kind5 : endOf 5 1 2 0 ≡ bytes "f1 or f2"
+  kind6 : endOf 6 5 0 0 ≡ bytes "false->pre(f5)"
+  kind7 : endOf 7 6 0 0 ≡ bytes "0->pre(f6)"
+  kind8 : endOf 8 7 6 0 ≡ bytes "cap(f7,f6)"
+  kind9 : endOf 9 3 7 0 ≡ bytes "if f3 then f7 else 0"
+  kind10 : endOf 10 9 0 12 ≡ bytes "f9<=12"
+  kind11 : endOf 11 9 0 3 ≡ bytes "f9<=k3"
 
 column : Column
-unfolding valueText kindOf digits decimal
+unfolding valueText kindOf digits numeral
 column =
     record {
       kind0 = refl;
@@ -47,5 +47,5 @@ column =
 
 -- "the line `let`, a line per equation as `f0=b;`, then `a=fN;` with the last N, then `tel`"
 whole : textOf (1 ∷ 0 ∷ 0 ∷ 0 ∷ 3 ∷ 0 ∷ 0 ∷ 0 ∷ []) 2 ≡ bytes "let\nf0=b;\nf1=not f0;\na=f1;\ntel\n"
-unfolding textOf lines lineText lineEnd foot valueText kindOf digits decimal
+unfolding textOf lines lineText lineEnd foot valueText kindOf digits numeral
 whole = refl

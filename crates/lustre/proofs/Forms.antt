@@ -22,7 +22,7 @@ use Rattle.lustre.specs.Text.{valueText, lineEnd}
 use Rattle.lustre.specs.Form.{equation, equationOf, Letter, isA, isB, isC, slot, render, absent}
 use Rattle.lustre.specs.Form.{Agree, digitLimit, Small, padded, formWidth, forms, formCount, formAt}
 use Rattle.lustre.specs.Form.{formText, Fits, formNumber, formOf, Plain}
-use Rattle.lustre.specs.Inner.{scanned, scan}
+use Rattle.lustre.specs.Scan.{scanned, scan}
 use Rattle.lustre.specs.declared.Form.{Form}
 use Rattle.lustre.specs.declared.Numbers.{Numbers}
 use Rattle.lustre.proofs.Scans.{closed, once, small, scans, apart, never}

@@ -1,13 +1,9 @@
--- Laws of texts, forms and tables.
+-- Laws of texts, forms and tables, and what holds of writing and reading together.
 pub mod Decimals
 pub mod Scans
-pub mod Placing
 pub mod Forms
+pub mod Parts
 pub mod Tables
-pub mod Reading
-pub mod Lined
-pub mod Whole
-pub mod Answers
 pub mod Theorems
 pub mod Sizes
 pub mod Examples

@@ -9,12 +9,13 @@ use lib.Dec.{ltb, eqb}
 use borrow.Author.Tests.{ltb-true, eq-eqb, eqb-true, eqb-false, not-true}
 use Rattle.tables.specs.Table.{Equation}
 use Rattle.tables.proofs.Tests.{and-true}
-use Rattle.lustre.specs.Decimal.{decimal}
+use Rattle.lustre.specs.Decimal.{numeral}
 use Rattle.lustre.specs.Form.{equation, letter?, Letter, isA, isB, isC, slot, put, render, absent, Agree}
 use Rattle.lustre.specs.Form.{digitLimit, Small}
-use Rattle.lustre.specs.Inner.{digit?, Number, missing, number, numberIn}
-use Rattle.lustre.specs.Inner.{Scanned, unlike, scanned, afterNumber, afterByte, scan}
-use Rattle.lustre.proofs.Decimals.{stops, reads-written, Read, nothing, read, reads, same-number, no-clash}
+use Rattle.lustre.specs.Scan.{digit?, Taken, missing, taken, numberIn}
+use Rattle.lustre.specs.Scan.{Scanned, unlike, scanned, afterNumber, afterByte, scan}
+use Rattle.lustre.proofs.Decimals.{stops, takes-written, Stood, nothing, stood, taken-stood}
+use Rattle.lustre.proofs.Decimals.{same-number, no-clash}
 
 -- The letters.
 pub letter : (x : ℕ) → letter? x ≡ true → Letter x
@@ -149,7 +150,7 @@ scans e s (x ∷ f) l e₀ h a =
         → (letter? x ≡ false → scan f (render e f ++ l) e₀ ≡ scanned e l)
         → scan (x ∷ f) (render e (x ∷ f) ++ l) e₀ ≡ scanned e l
     go true p q k m =
-        rw (p, append-assoc, reads-written (slot e x) (render e f ++ l) (s x) (opens-stops e f l q)) (k (letter x p))
+        rw (p, append-assoc, takes-written (slot e x) (render e f ++ l) (s x) (opens-stops e f l q)) (k (letter x p))
     go false p q k m = rw (p, eq-eqb x x refl) (m p)
 
 -- What is scanned was written, and agrees with what the scan began with.
@@ -163,14 +164,14 @@ agree-refl e f = record { kinds = refl; others = λ x i h. refl }
 
 -- A number, and then a text that was scanned.
 seen-number : (x v : ℕ) (f l r : List ℕ) (e₀ : Equation) (c : Scanned) → letter? x ≡ true → absent x f ≡ true
-    → v < digitLimit → l ≡ decimal v ++ r → Seen f r (put e₀ x v) c → Seen (x ∷ f) l e₀ c
+    → v < digitLimit → l ≡ numeral v ++ r → Seen f r (put e₀ x v) c → Seen (x ∷ f) l e₀ c
 unfolding render absent
 seen-number x v f l r e₀ unlike h s b w unseen = unseen
 seen-number x v f l r e₀ (scanned e z) h s b w (seen m o g) =
     let i = letter x h in
     let same : slot e x ≡ v = o .others x i s ∙ put-same e₀ v i in
     seen {e = e} {r = z}
-    (w ∙ rw (h, same, append-assoc) (ap (λ (k : List ℕ). decimal v ++ k) m))
+    (w ∙ rw (h, same, append-assoc) (ap (λ (k : List ℕ). numeral v ++ k) m))
     (record {
       kinds = o .kinds ∙ put-kind e₀ v i;
       others = λ y j a.
@@ -190,11 +191,11 @@ seen-byte x f r e₀ (scanned e z) h (seen m o g) =
     (record { kinds = o .kinds; others = λ y j a. o .others y j (and-true (not (eqb y x)) _ a .1) })
     g
 
-after-number : (x : ℕ) (f l : List ℕ) (e₀ : Equation) (n : Number) → letter? x ≡ true → absent x f ≡ true → Read l n
+after-number : (x : ℕ) (f l : List ℕ) (e₀ : Equation) (n : Taken) → letter? x ≡ true → absent x f ≡ true → Stood l n
     → ((r : List ℕ) (v : ℕ) → Seen f r (put e₀ x v) (scan f r (put e₀ x v)))
     → Seen (x ∷ f) l e₀ (afterNumber n (λ v r. scan f r (put e₀ x v)))
 after-number x f l e₀ missing p s nothing k = unseen
-after-number x f l e₀ (number v r) p s (read w t b) k =
+after-number x f l e₀ (taken v r) p s (stood w t b) k =
     seen-number x v f l r e₀ (scan f r (put e₀ x v)) p s b w (k r v)
 
 after-byte : (x : ℕ) (f l : List ℕ) (e₀ : Equation) → letter? x ≡ false → ((r : List ℕ) → Seen f r e₀ (scan f r e₀))
@@ -218,7 +219,7 @@ sees (x ∷ f) l e₀ h =
         → ((r : List ℕ) → Seen f r e₀ (scan f r e₀))
         → Seen (x ∷ f) l e₀
         (cond b (afterNumber (numberIn l) (λ v r. scan f r (put e₀ x v))) (afterByte x l (λ r. scan f r e₀)))
-    go true p q k m = after-number x f l e₀ (numberIn l) p q (reads l) k
+    go true p q k m = after-number x f l e₀ (numberIn l) p q (taken-stood l) k
     go false p q k m = after-byte x f l e₀ p m
 
 -- Two forms that share no text: the first place where they differ shows it.
@@ -241,8 +242,8 @@ never e e′ s s′ (x ∷ f) (y ∷ g) l r p q a m =
   where
     go : (b c d : Bool) → eqb x y ≡ d → cond b (opens f) true ≡ true → cond c (opens g) true ≡ true
         → cond b (cond c (apart f g) (not (digit? y))) (cond c (not (digit? x)) (cond d (apart f g) true)) ≡ true
-        → (cond b (decimal (slot e x)) (x ∷ []) ++ render e f) ++ l
-        ≡ (cond c (decimal (slot e′ y)) (y ∷ []) ++ render e′ g) ++ r
+        → (cond b (numeral (slot e x)) (x ∷ []) ++ render e f) ++ l
+        ≡ (cond c (numeral (slot e′ y)) (y ∷ []) ++ render e′ g) ++ r
         → (apart f g ≡ true → render e f ++ l ≡ render e′ g ++ r → ⊥) → ⊥
     go true true d j o o′ k m′ n =
         n k

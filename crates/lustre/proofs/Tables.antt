@@ -21,10 +21,9 @@ use Rattle.tables.specs.declared.Operand.the-variants.{Unused, Earlier, Anywher
 use Rattle.tables.specs.declared.Checked.the-variants.{Passed}
 use Rattle.tables.proofs.Tests.{and-true, all-at, all-of}
 use Rattle.tables.proofs.Checks.{checked-fitting, passed-both, long-enough}
-use Rattle.lustre.specs.Decimal.{decimal}
+use Rattle.lustre.specs.Decimal.{numeral}
 use Rattle.lustre.specs.Text.{lineEnd, lineText, lines, foot, textOf}
-use Rattle.lustre.specs.Form.{digitLimit, Plain}
-use Rattle.lustre.specs.Inner.{PlainTable, NoLine}
+use Rattle.lustre.specs.Form.{digitLimit, Plain, PlainTable, NoLine}
 use Rattle.lustre.proofs.Decimals.{same-number}
 use Rattle.lustre.proofs.Forms.{fitting-plain, one-end}
 
@@ -42,7 +41,7 @@ well-plain t n e =
 
 -- A line begins with `f`, its number and `=`.
 line-shape : (i : ℕ) (e : Equation) (l : List ℕ)
-    → lineText i e ++ l ≡ bytes "f" ++ (decimal i ++ (bytes "=" ++ (lineEnd e ++ l)))
+    → lineText i e ++ l ≡ bytes "f" ++ (numeral i ++ (bytes "=" ++ (lineEnd e ++ l)))
 unfolding lineText
 line-shape i e l = rw (append-assoc, append-assoc)
 
@@ -51,7 +50,7 @@ one-line : (i : ℕ) (e e′ : Equation) (l r : List ℕ) → i < digitLimit →
     → lineText i e ++ l ≡ lineText i e′ ++ r → (e ≡ e′) × (l ≡ r)
 one-line i e e′ l r h w w′ q =
     let a = sym (line-shape i e l) ∙ q ∙ line-shape i e′ r in
-    let b : decimal i ++ (bytes "=" ++ (lineEnd e ++ l)) ≡ decimal i ++ (bytes "=" ++ (lineEnd e′ ++ r)) = cc in
+    let b : numeral i ++ (bytes "=" ++ (lineEnd e ++ l)) ≡ numeral i ++ (bytes "=" ++ (lineEnd e′ ++ r)) = cc in
     let c = same-number i i _ _ h h refl refl b .1 in
     one-end e e′ l r w w′ (cc)
 

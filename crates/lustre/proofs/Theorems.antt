@@ -7,18 +7,19 @@ use native.Mathlib.Omega.{arith}
 use lib.Dec.{leb}
 use lib.ListN.{length, take, drop, length-append, List·getD-append}
 use lib.Seq.{take-at, getD-take, length-take-le}
+use Rattle.limits.specs.Limits.{tableRoom}
+use borrow.Author.Tests.{le-leb}
 use Rattle.tables.specs.Table.{numberAt, equationAt, Test, test, checked}
 use Rattle.tables.specs.declared.Checked.{Checked}
 use Rattle.tables.specs.declared.Checked.the-variants.{Passed, Refused as Failed}
-use Rattle.tables.proofs.Checks.{checked-fitting, refused-table}
+use Rattle.tables.proofs.Checks.{checked-fitting, passed-both, refused-table}
 use Rattle.lustre.specs.Text.{textOf}
-use Rattle.lustre.specs.Write.{writeChecked, afterWrite, afterText, writtenIf, written}
-use Rattle.lustre.specs.Read.{tableRoom, AfterRead, unread, no-room, read}
+use Rattle.lustre.specs.Write.{writeChecked, afterWrite, afterText, effectIf, writeEffect}
+use Rattle.lustre.specs.Read.{AfterRead, unread, no-room, read}
 use Rattle.lustre.specs.declared.Written.the-variants.{Length}
 use Rattle.lustre.specs.declared.Loaded.{Loaded}
 use Rattle.lustre.specs.declared.Loaded.the-variants.{Equations}
 use Rattle.lustre.proofs.Tables.{well-plain, same-equations, same-numbers, same-text, same-check}
-use Rattle.lustre.proofs.Whole.{write-passed}
 
 -- Two well-formed tables with the same text are the same table.
 pub same-table : (t u : List ℕ) (n m : ℕ) → checked t n ≡ Passed → checked u m ≡ Passed → textOf t n ≡ textOf u m
@@ -52,10 +53,18 @@ text-read t n table r after e h w =
     one-answer (textOf t n) table r (Equations n) after (take (4 * n) t ++ drop (4 * n) table) w
     (read (record { well-formed = e; exactly = refl }) h)
 
+-- A well-formed table whose text has room is written.
+pub write-passed : (t b : List ℕ) (n : ℕ) → checked t n ≡ Passed → length (textOf t n) ≤ length b
+    → writeEffect t n b ≡ afterText (textOf t n) b
+unfolding writeEffect writeChecked
+write-passed t b n e h =
+    let p = passed-both t n e in
+    rw (p .0, p .1, le-leb (length (textOf t n)) (length b) h)
+
 -- What was written is the text of a well-formed table.
-pub text-written : (t : List ℕ) (n l : ℕ) (buffer : List ℕ) → written t n buffer .answer ≡ Length l
-    → (checked t n ≡ Passed) × (take l (written t n buffer .buffer) ≡ textOf t n)
-unfolding written writeChecked afterText
+pub text-written : (t : List ℕ) (n l : ℕ) (buffer : List ℕ) → writeEffect t n buffer .answer ≡ Length l
+    → (checked t n ≡ Passed) × (take l (writeEffect t n buffer .buffer) ≡ textOf t n)
+unfolding writeEffect writeChecked afterText
 text-written t n l buffer e = go (writeChecked t n buffer) refl e
   where
     roomTest : Test
@@ -65,8 +74,8 @@ text-written t n l buffer e = go (writeChecked t n buffer) refl e
     well Passed p q = p
     well (Failed r) p q = p ∙ sym (refused-table t n r (roomTest ∷ []) p) ∙ q
 
-    go : (c : Checked) → writeChecked t n buffer ≡ c → writtenIf c t n buffer .answer ≡ Length l
-        → (checked t n ≡ Passed) × (take l (writtenIf c t n buffer .buffer) ≡ textOf t n)
+    go : (c : Checked) → writeChecked t n buffer ≡ c → effectIf c t n buffer .answer ≡ Length l
+        → (checked t n ≡ Passed) × (take l (effectIf c t n buffer .buffer) ≡ textOf t n)
     go Passed p q =
         let k : length (textOf t n) ≡ l = cc in
         (well (checked t n) refl p, take-at (textOf t n) _ l k)
@@ -74,8 +83,8 @@ text-written t n l buffer e = go (writeChecked t n buffer) refl e
 
 -- Read of written is the table: what a call wrote, read into a table with room, is n and the table that was written.
 pub read-of-written : (t : List ℕ) (n l : ℕ) (buffer table : List ℕ) (r : Loaded) (after : List ℕ)
-    → written t n buffer .answer ≡ Length l → tableRoom ≤ length table
-    → AfterRead (take l (written t n buffer .buffer)) table r after
+    → writeEffect t n buffer .answer ≡ Length l → tableRoom ≤ length table
+    → AfterRead (take l (writeEffect t n buffer .buffer)) table r after
     → (r ≡ Equations n) × (after ≡ take (4 * n) t ++ drop (4 * n) table)
 read-of-written t n l buffer table r after e h w =
     let p = text-written t n l buffer e in
@@ -98,12 +107,12 @@ front-same u r n j h g = rw (
 -- Written of read is the text, byte for byte: the table that a call read, written to a buffer with room, is the text.
 pub written-of-read : (text table buffer : List ℕ) (n : ℕ) (after : List ℕ) → AfterRead text table (Equations n) after
     → length text ≤ length buffer
-    → written after n buffer ≡ afterWrite (Length (length text)) (text ++ drop (length text) buffer)
+    → writeEffect after n buffer ≡ afterWrite (Length (length text)) (text ++ drop (length text) buffer)
 unfolding afterText
 written-of-read text table buffer n after w h = go (Equations n) after w refl
   where
     go : (r : Loaded) (a : List ℕ) → AfterRead text table r a → r ≡ Equations n
-        → written a n buffer ≡ afterWrite (Length (length text)) (text ++ drop (length text) buffer)
+        → writeEffect a n buffer ≡ afterWrite (Length (length text)) (text ++ drop (length text) buffer)
     go r a (unread k) e = absurd (let z : _≡_ {A = ℕ} 0 1 = cc in omega arith)
     go r a (no-room v l) e = absurd (let z : _≡_ {A = ℕ} 0 1 = cc in omega arith)
     go r a (read {t = u} {n = m} v l) e =

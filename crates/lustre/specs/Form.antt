@@ -3,15 +3,19 @@
 use mathlib.Core.Bool.{Bool, true, false, not, _&&_, cond}
 use mathlib.Core.List.{List, [], _∷_, _++_}
 use mathlib.Core.Path.{_≡_}
-use Prim.Native.Nat.{ℕ, zero, suc, _+_, _<_}
+use Prim.Native.Nat.{ℕ, zero, suc, _+_, _≤_, _<_}
 use lib.Dec.{ltb, eqb}
 use lib.ListN.{length, getD, take}
 use Prim.Native.String.{String}
 use Rattle.lists.specs.Text.{bytes}
-use Rattle.tables.specs.Table.{Equation, Kind, kindOf}
+use Rattle.limits.specs.Limits.{equationLimit}
+use Rattle.tables.specs.Kind.{SIGNAL, START, CONSTANT, NOT, AND, OR, BOOLEAN-PRE, COUNT-PRE, CAPPED, IF}
+use Rattle.tables.specs.Kind.{COMPARE-LITERAL, COMPARE-PARAMETER}
+use Rattle.tables.specs.Table.{Equation, equationAt, Kind, kindOf}
 use Rattle.tables.specs.Table.Kind.{signal, start, constant, negation, conjunction, disjunction, booleanPre}
 use Rattle.tables.specs.Table.Kind.{countPre, capped, ifElse, compareLiteral, compareParameter, unknown}
-use Rattle.lustre.specs.Decimal.{decimal}
+use Rattle.lustre.specs.Decimal.{numeral}
+use Rattle.lustre.specs.Text.{lineText}
 use Rattle.lustre.specs.declared.Numbers.{Numbers}
 use Rattle.lustre.specs.declared.Form.{Form}
 
@@ -21,6 +25,10 @@ equation k a b c = record { kind = k; a = a; b = b; c = c }
 -- The equation of four numbers.
 abbrev pub equationOf : Numbers → Equation
 equationOf e = equation (e .kind) (e .a) (e .b) (e .c)
+
+-- The number i where A stands, as in `fN=` and in `a=fN;`.
+abbrev pub own : ℕ → Equation
+own i = equation 0 i 0 0
 
 -- A, B or C.
 abbrev pub letter? : ℕ → Bool
@@ -43,7 +51,7 @@ put e x v =
 
 -- The text of one byte of a form.
 abbrev pub piece : Equation → ℕ → List ℕ
-piece e x = cond (letter? x) (decimal (slot e x)) (x ∷ [])
+piece e x = cond (letter? x) (numeral (slot e x)) (x ∷ [])
 
 -- The text of a form.
 unfoldable pub render : Equation → List ℕ → List ℕ
@@ -86,28 +94,28 @@ form e f = record { settled = e; len = length (bytes f); text = padded formWidth
 -- Every form; those of one kind stand together, by the number that tells them apart.
 unfoldable pub forms : List Form
 forms =
-    form (numbers 0 0 0 0) "sA;\n"
-    ∷ form (numbers 1 0 0 0) "b;\n"
-    ∷ form (numbers 2 0 0 0) "false;\n"
-    ∷ form (numbers 2 1 0 0) "true;\n"
-    ∷ form (numbers 3 0 0 0) "not fA;\n"
-    ∷ form (numbers 4 0 0 0) "fA and fB;\n"
-    ∷ form (numbers 5 0 0 0) "fA or fB;\n"
-    ∷ form (numbers 6 0 0 0) "false->pre(fA);\n"
-    ∷ form (numbers 6 0 0 1) "true->pre(fA);\n"
-    ∷ form (numbers 7 0 0 0) "0->pre(fA);\n"
-    ∷ form (numbers 8 0 0 0) "cap(fA,fB);\n"
-    ∷ form (numbers 9 0 0 0) "if fA then fB else 0;\n"
-    ∷ form (numbers 10 0 0 0) "fA<=C;\n"
-    ∷ form (numbers 10 0 1 0) "fA<C;\n"
-    ∷ form (numbers 10 0 2 0) "fA=C;\n"
-    ∷ form (numbers 10 0 3 0) "fA>C;\n"
-    ∷ form (numbers 10 0 4 0) "fA>=C;\n"
-    ∷ form (numbers 11 0 0 0) "fA<=kC;\n"
-    ∷ form (numbers 11 0 1 0) "fA<kC;\n"
-    ∷ form (numbers 11 0 2 0) "fA=kC;\n"
-    ∷ form (numbers 11 0 3 0) "fA>kC;\n"
-    ∷ form (numbers 11 0 4 0) "fA>=kC;\n"
+    form (numbers SIGNAL 0 0 0) "sA;\n"
+    ∷ form (numbers START 0 0 0) "b;\n"
+    ∷ form (numbers CONSTANT 0 0 0) "false;\n"
+    ∷ form (numbers CONSTANT 1 0 0) "true;\n"
+    ∷ form (numbers NOT 0 0 0) "not fA;\n"
+    ∷ form (numbers AND 0 0 0) "fA and fB;\n"
+    ∷ form (numbers OR 0 0 0) "fA or fB;\n"
+    ∷ form (numbers BOOLEAN-PRE 0 0 0) "false->pre(fA);\n"
+    ∷ form (numbers BOOLEAN-PRE 0 0 1) "true->pre(fA);\n"
+    ∷ form (numbers COUNT-PRE 0 0 0) "0->pre(fA);\n"
+    ∷ form (numbers CAPPED 0 0 0) "cap(fA,fB);\n"
+    ∷ form (numbers IF 0 0 0) "if fA then fB else 0;\n"
+    ∷ form (numbers COMPARE-LITERAL 0 0 0) "fA<=C;\n"
+    ∷ form (numbers COMPARE-LITERAL 0 1 0) "fA<C;\n"
+    ∷ form (numbers COMPARE-LITERAL 0 2 0) "fA=C;\n"
+    ∷ form (numbers COMPARE-LITERAL 0 3 0) "fA>C;\n"
+    ∷ form (numbers COMPARE-LITERAL 0 4 0) "fA>=C;\n"
+    ∷ form (numbers COMPARE-PARAMETER 0 0 0) "fA<=kC;\n"
+    ∷ form (numbers COMPARE-PARAMETER 0 1 0) "fA<kC;\n"
+    ∷ form (numbers COMPARE-PARAMETER 0 2 0) "fA=kC;\n"
+    ∷ form (numbers COMPARE-PARAMETER 0 3 0) "fA>kC;\n"
+    ∷ form (numbers COMPARE-PARAMETER 0 4 0) "fA>=kC;\n"
     ∷ []
 
 abbrev pub formCount : ℕ
@@ -151,3 +159,13 @@ formOf e = formNumber (kindOf (e .kind)) e
 pub record Plain (e : Equation) : Type 0 where
   pub known : formOf e < formCount
   pub fits : Fits (formAt (formOf e)) e
+
+-- A table of 1 to 4,096 equations that have forms.
+pub record PlainTable (t : List ℕ) (n : ℕ) : Type 0 where
+  pub some : 0 < n
+  pub few : n ≤ equationLimit
+  pub plain : (j : ℕ) → j < n → Plain (equationAt t j)
+
+-- No equation's line with the number i stands at the front.
+abbrev pub NoLine : ℕ → List ℕ → Type 0
+NoLine i l = (e : Equation) (r : List ℕ) → Plain e → l ≡ lineText i e ++ r → ⊥

@@ -1,8 +1,8 @@
--- Equation tables as Lustre text. Text, Write and Read are what the public contracts say; Form and Inner are what the
--- functions inside agree on.
+-- Equation tables as Lustre text. Text, Write and Read, over Decimal, are what the public contracts say. Form and Scan are
+-- what the writer and the reader agree on.
 pub mod Decimal
 pub mod Text
 pub mod Write
 pub mod Read
 pub mod Form
-pub mod Inner
+pub mod Scan

@@ -4,6 +4,7 @@ use mathlib.Core.List.{List, _++_}
 use mathlib.Core.Path.{_≡_}
 use Prim.Native.Nat.{ℕ, _*_, _≤_, _<_}
 use lib.ListN.{length, take, drop}
+use Rattle.limits.specs.Limits.{tableRoom}
 use Rattle.tables.specs.Table.{checked}
 use Rattle.flows.specs.Step.{Answer, refused, gives}
 use Rattle.tables.specs.declared.Checked.the-variants.{Passed}
@@ -16,10 +17,6 @@ abbrev pub loadedAnswer : Loaded → Answer
 loadedAnswer (Equations n) = gives n
 loadedAnswer (Refused r) = refused r
 
--- "9: the lent table has under 16,384 numbers."
-abbrev pub tableRoom : ℕ
-tableRoom = 16384
-
 -- The table t of n equations is well formed, and writes exactly these bytes.
 pub record Writes (t : List ℕ) (n : ℕ) (text : List ℕ) : Type 0 where
   pub well-formed : checked t n ≡ Passed
@@ -29,7 +26,7 @@ pub record Writes (t : List ℕ) (n : ℕ) (text : List ℕ) : Type 0 where
 pub data AfterRead (text table : List ℕ) : Loaded → List ℕ → Type 0 where
   -- "16: no well-formed table writes exactly these bytes." A refusal "changes no lent memory".
   unread : ((t : List ℕ) (n : ℕ) → Writes t n text → ⊥) → AfterRead text table (Refused 16) table
-  -- "9: as in compile."
+  -- "9: as in compile", where it says: "9: the lent table has under 16,384 numbers."
   no-room : {t : List ℕ} {n : ℕ} → Writes t n text → length table < tableRoom → AfterRead text table (Refused 9) table
   -- The first 4 n numbers are those of such a table. "Lent memory past a result is kept."
   read : {t : List ℕ} {n : ℕ} → Writes t n text → tableRoom ≤ length table

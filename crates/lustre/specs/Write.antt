@@ -38,10 +38,10 @@ unfoldable pub afterText : List ℕ → List ℕ → AfterWrite
 afterText text buffer = afterWrite (Length (length text)) (text ++ drop (length text) buffer)
 
 -- A refusal "changes no lent memory".
-abbrev pub writtenIf : Checked → List ℕ → ℕ → List ℕ → AfterWrite
-writtenIf Passed t n buffer = afterText (textOf t n) buffer
-writtenIf (Failed r) t n buffer = afterWrite (Refused r) buffer
+abbrev pub effectIf : Checked → List ℕ → ℕ → List ℕ → AfterWrite
+effectIf Passed t n buffer = afterText (textOf t n) buffer
+effectIf (Failed r) t n buffer = afterWrite (Refused r) buffer
 
 -- The whole effect of writing.
-unfoldable pub written : List ℕ → ℕ → List ℕ → AfterWrite
-written t n buffer = writtenIf (writeChecked t n buffer) t n buffer
+unfoldable pub writeEffect : List ℕ → ℕ → List ℕ → AfterWrite
+writeEffect t n buffer = effectIf (writeChecked t n buffer) t n buffer

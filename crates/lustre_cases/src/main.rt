@@ -2,8 +2,8 @@
 use libc::STDOUT_FILENO;
 use lustre::Loaded;
 use lustre::Written;
-use lustre::read_lustre;
-use lustre::write_lustre;
+use lustre_read::read_lustre;
+use lustre_write::write_lustre;
 
 fn say(text: &[u8]) {
     io::write_all(STDOUT_FILENO, text);

@@ -1,4 +1,4 @@
--- `firmware::towerwatch_read_lustre` meets its contract: it is `lustre::read_lustre`, its answer as C gets it.
+-- `firmware::towerwatch_read_lustre` meets its contract: it is `lustre_read::read_lustre`, its answer as C gets it.
 -- Assumes nothing.
 use Rattle.firmware.proofs.Sizes.{few-loaded}
 use borrow.Author.Needs.{needs}

@@ -1,4 +1,4 @@
--- `firmware::towerwatch_write_lustre` meets its contract: it is `lustre::write_lustre`, its answer as C gets it.
+-- `firmware::towerwatch_write_lustre` meets its contract: it is `lustre_write::write_lustre`, its answer as C gets it.
 -- Assumes nothing.
 use mathlib.Core.Path.{_≡_, ap, _∙_}
 use native.Mathlib.Omega.{arith}

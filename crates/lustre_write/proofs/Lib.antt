@@ -1,0 +1,3 @@
+-- Laws of placing texts, and what writing leaves.
+pub mod Placing
+pub mod Writing

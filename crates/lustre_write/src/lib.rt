@@ -1,0 +1,205 @@
+// Write a table as Lustre text (document 01, "Write as Lustre text"; refusal 15). What the text of a table is, and what
+// writing does, stand in crate `lustre`, specs/Text.antt and specs/Write.antt.
+use lustre::Numbers;
+use lustre::Written;
+use lustre::form_at;
+use lustre::is_letter;
+use lustre::only;
+use tables::Checked;
+use tables::check_table;
+ghost use mathlib.Core.Path.{_≡_};
+ghost use mathlib.Core.Bool.{cond};
+ghost use Prim.Native.Nat.{_+_, _*_, _≤_, _<_};
+ghost use lib.Dec.{leb};
+ghost use lib.ListN.{length, getD, set};
+ghost use Rattle.limits.specs.Limits.{equationLimit};
+ghost use Rattle.tables.specs.Table.{equationAt, checked};
+ghost use Rattle.lustre.specs.Decimal.{numeral};
+ghost use Rattle.lustre.specs.Text.{lineEnd, lineText, lines, textOf};
+ghost use Rattle.lustre.specs.Write.{afterWrite, writeEffect};
+ghost use Rattle.lustre.specs.Form.{equationOf, slot, piece, render, formWidth, formOf, Plain, PlainTable};
+ghost use Rattle.lustre_write.specs.Placed.{Placed};
+
+// A byte at i; past the end nothing is stored.
+fn store(out: &mut [u8], i: usize, x: u8)
+    ensures { λ r. ⌜ now (out .exit) ≡ set (now (out .entry)) i x ⌝ }
+{
+    if i < out.len() {
+        out[i] = x;
+    }
+}
+
+// The smaller of two numbers.
+fn least(x: usize, y: usize) -> usize
+    ensures { λ r. ⌜ r ≡ cond (leb x y) x y ⌝ }
+{
+    if x <= y { x } else { y }
+}
+
+// The number that a letter stands for.
+fn number_of(e: Numbers, x: u8) -> u32
+    ensures { λ r. ⌜ r ≡ slot (equationOf e) x ⌝ }
+{
+    match x {
+        b'A' => e.a,
+        b'B' => e.b,
+        _ => e.c,
+    }
+}
+
+// The decimal digits of x. This and every writer below stores what has room and returns the length of the whole text.
+fn write_number(x: u32, out: &mut [u8]) -> usize
+    ensures { λ r. ⌜ Placed 10 (numeral x) (now (out .entry)) (now (out .exit)) r ⌝ }
+{
+    if x < 10 {
+        store(out, 0, b'0' + x as u8);
+        return 1;
+    }
+    let at = write_number(x / 10, out);
+    store(out, at, b'0' + (x % 10) as u8);
+    at + 1
+}
+
+// A byte of a form, or the number that it stands for.
+fn write_piece(e: Numbers, x: u8, out: &mut [u8]) -> usize
+    ensures { λ r. ⌜ Placed 10 (piece (equationOf e) x) (now (out .entry)) (now (out .exit)) r ⌝ }
+{
+    if is_letter(x) {
+        return write_number(number_of(e, x), out);
+    }
+    store(out, 0, x);
+    1
+}
+
+// The text of a form.
+fn write_form(form: &[u8], e: Numbers, out: &mut [u8]) -> usize
+    requires { ⌜ length (now form) ≤ formWidth ⌝ }
+    ensures { λ r. ⌜ Placed 220 (render (equationOf e) (now (form .entry))) (now (out .entry)) (now (out .exit)) r ⌝ }
+{
+    let mut at = 0;
+    let mut j = 0;
+    while j < form.len() {
+        let q = least(at, out.len());
+        at += write_piece(e, form[j], &mut out[q..]);
+        j += 1;
+    }
+    at
+}
+
+// Number i of the table, or 0 past its end.
+fn number_at(table: &[u32], i: usize) -> u32
+    ensures { λ r. ⌜ r ≡ getD (now (table .entry)) i 0 ⌝ }
+{
+    if i < table.len() { table[i] } else { 0 }
+}
+
+// Equation i of the table.
+fn equation_at(table: &[u32], i: usize) -> Numbers
+    requires { ⌜ i < equationLimit ⌝ }
+    ensures { λ r. ⌜ equationOf r ≡ equationAt (now (table .entry)) i ⌝ }
+{
+    Numbers {
+        kind: number_at(table, 4 * i),
+        a: number_at(table, 4 * i + 1),
+        b: number_at(table, 4 * i + 2),
+        c: number_at(table, 4 * i + 3),
+    }
+}
+
+// The number of an equation's form.
+fn form_of(e: Numbers) -> usize
+    ensures { λ r. ⌜ r ≡ formOf (equationOf e) ⌝ }
+{
+    let kind = e.kind;
+    match kind {
+        tables::SIGNAL => 0,
+        tables::START => 1,
+        tables::CONSTANT => 2 + e.a as usize,
+        tables::NOT => 4,
+        tables::AND => 5,
+        tables::OR => 6,
+        tables::BOOLEAN_PRE => 7 + e.c as usize,
+        tables::COUNT_PRE => 9,
+        tables::CAPPED => 10,
+        tables::IF => 11,
+        tables::COMPARE_LITERAL => 12 + e.b as usize,
+        tables::COMPARE_PARAMETER => 17 + e.b as usize,
+        _ => 0,
+    }
+}
+
+// What follows `fN=` in the line of an equation.
+fn write_end(e: Numbers, out: &mut [u8]) -> usize
+    requires { ⌜ Plain (equationOf e) ⌝ }
+    ensures { λ r. ⌜ Placed 220 (lineEnd (equationOf e)) (now (out .entry)) (now (out .exit)) r ⌝ }
+{
+    let form = form_at(form_of(e));
+    let text = form.text;
+    let len = form.len;
+    write_form(&text[..len], e, out)
+}
+
+// The line of equation i, into the unfilled tail of the text.
+fn write_line(table: &[u32], i: usize, out: &mut [u8]) -> usize
+    requires { ⌜ (i < equationLimit) × Plain (equationAt (now table) i) ⌝ }
+    ensures { λ r. ⌜ Placed 440 (lineText i (equationAt (now (table .entry)) i))
+        (now (out .entry)) (now (out .exit)) r ⌝ }
+{
+    let p = write_form(b"fA=", only(i), out);
+    let q = least(p, out.len());
+    p + write_end(equation_at(table, i), &mut out[q..])
+}
+
+// The lines of the first n equations.
+fn write_lines(table: &[u32], n: usize, out: &mut [u8]) -> usize
+    requires { ⌜ PlainTable (now table) n ⌝ }
+    ensures { λ r. ⌜ Placed (440 * n) (lines (now (table .entry)) n) (now (out .entry)) (now (out .exit)) r ⌝ }
+{
+    let mut at = 0;
+    let mut i = 0;
+    while i < n {
+        let q = least(at, out.len());
+        at += write_line(table, i, &mut out[q..]);
+        i += 1;
+    }
+    at
+}
+
+// The text of a table.
+fn write_text(table: &[u32], n: usize, out: &mut [u8]) -> usize
+    requires { ⌜ PlainTable (now table) n ⌝ }
+    ensures { λ r. ⌜ Placed (220 + 440 * n + 220) (textOf (now (table .entry)) n)
+        (now (out .entry)) (now (out .exit)) r ⌝ }
+{
+    let last = n - 1;
+    let p = write_form(b"let\n", only(0), out);
+    let q = least(p, out.len());
+    let s = p + write_lines(table, n, &mut out[q..]);
+    let u = least(s, out.len());
+    s + write_form(b"a=fA;\ntel\n", only(last), &mut out[u..])
+}
+
+// The text of a well-formed table, if the buffer has room for it. How long the text is shows before its first byte is
+// stored, by writing it where there is no room at all.
+fn write_checked(table: &[u32], n: usize, text: &mut [u8]) -> Written
+    requires { ⌜ checked (now table) n ≡ Checked.Passed ⌝ }
+    ensures { λ r. ⌜ afterWrite r (now (text .exit)) ≡ writeEffect (now (table .entry)) n (now (text .entry)) ⌝ }
+{
+    let room = text.len();
+    let len = write_text(table, n, &mut text[..0]);
+    if room < len {
+        return Written::Refused(15);
+    }
+    write_text(table, n, text);
+    Written::Length(len)
+}
+
+// Write a table as Lustre text.
+pub fn write_lustre(table: &[u32], n: usize, text: &mut [u8]) -> Written
+    ensures { λ r. ⌜ afterWrite r (now (text .exit)) ≡ writeEffect (now (table .entry)) n (now (text .entry)) ⌝ }
+{
+    let Checked::Refused(number) = check_table(table, n) else {
+        return write_checked(table, n, text);
+    };
+    Written::Refused(number)
+}
