@@ -6,5 +6,7 @@ pub mod Complete
 pub mod Lists
 pub mod Fragment
 pub mod Numbers
+pub mod Stored
 mod Words
+mod Chains
 mod Steps

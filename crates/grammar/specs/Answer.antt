@@ -5,6 +5,7 @@ use mathlib.Core.List.{List}
 use Prim.Native.Nat.{ℕ, _+_, _-_, _*_, _≤_}
 use lib.ListN.{length}
 use lib.Seq.{sets}
+use Rattle.limits.specs.Limits.{wordLimit}
 use Rattle.traces.specs.Compare.{opNumber}
 use Rattle.formulas.specs.Tree.{Tree, upper}
 use Rattle.formulas.specs.Arena.{row, flat, numKind, numValue}
@@ -28,7 +29,7 @@ pub record Reading (g : Goal) (ws : List ℕ) (i : ℕ) (before : List ℕ) (top
 
 -- What a parse function is lent: at most 240 words, a position among them, and room for two records a word.
 pub record Room (ws : List ℕ) (i : ℕ) (arena : List ℕ) (top : ℕ) : Type 0 where
-  pub few : length ws ≤ 240
+  pub few : length ws ≤ wordLimit
   pub within : i ≤ length ws
   pub fits : top + 8 * (length ws - i) ≤ length arena
 

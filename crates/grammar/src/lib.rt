@@ -4,6 +4,7 @@ ghost use mathlib.Core.Bool.{Bool, true, false, _&&_};
 ghost use mathlib.Core.Path.{_≡_};
 ghost use Prim.Native.Nat.{_+_, _-_, _≤_, _<_};
 ghost use lib.ListN.{length};
+ghost use Rattle.limits.specs.Limits.{wordLimit};
 ghost use Rattle.traces.specs.Compare.{opNumber};
 ghost use Rattle.formulas.specs.Tree.{upper, leadTest, leadCount};
 ghost use Rattle.formulas.specs.Arena.{numKind, numValue};
@@ -78,7 +79,7 @@ fn atom_facts(lead: bool) -> Facts
 
 // The facts of `!` t.
 fn not_facts(t: Facts) -> Facts
-    requires { ⌜ t .nodes < 1000 ⌝ }
+    requires { ⌜ t .nodes ≤ wordLimit ⌝ }
     ensures { λ r. ⌜ r ≡ negFacts t ⌝ }
 {
     Facts {
@@ -90,7 +91,7 @@ fn not_facts(t: Facts) -> Facts
 
 // The facts of a `&` b and of a `|` b.
 fn join_facts(a: Facts, b: Facts) -> Facts
-    requires { ⌜ a .nodes + b .nodes < 1000 ⌝ }
+    requires { ⌜ (a .nodes ≤ wordLimit) × (b .nodes ≤ wordLimit) ⌝ }
     ensures { λ r. ⌜ r ≡ joinFacts a b ⌝ }
 {
     Facts {
@@ -102,7 +103,7 @@ fn join_facts(a: Facts, b: Facts) -> Facts
 
 // The facts of a `then` b.
 fn then_facts(a: Facts, b: Facts) -> Facts
-    requires { ⌜ a .nodes + b .nodes < 1000 ⌝ }
+    requires { ⌜ (a .nodes ≤ wordLimit) × (b .nodes ≤ wordLimit) ⌝ }
     ensures { λ r. ⌜ r ≡ thenFacts a b ⌝ }
 {
     Facts {
@@ -114,7 +115,7 @@ fn then_facts(a: Facts, b: Facts) -> Facts
 
 // The facts of a `chop` b.
 fn chop_facts(a: Facts, b: Facts) -> Facts
-    requires { ⌜ a .nodes + b .nodes < 1000 ⌝ }
+    requires { ⌜ (a .nodes ≤ wordLimit) × (b .nodes ≤ wordLimit) ⌝ }
     ensures { λ r. ⌜ r ≡ chopFacts a b ⌝ }
 {
     Facts {
@@ -199,7 +200,7 @@ fn leaf(ws: &[u32], at: usize, arena: &mut [u32], top: usize) -> Parsed
 
 // op n at a position: the end of an atom, whose record of kind k is written.
 fn comparison(ws: &[u32], at: usize, arena: &mut [u32], top: usize, k: u32, lead: bool) -> Parsed
-    requires { ⌜ (at + 1 < 1000) × (top + 4 ≤ length (now arena)) ⌝ }
+    requires { ⌜ (at ≤ wordLimit) × (top + 4 ≤ length (now arena)) ⌝ }
     ensures { λ r. ⌜ Compared (now (ws .entry)) at (now (arena .entry)) top k lead r (now (arena .exit)) ⌝ }
 {
     let o = peek(ws, at);

@@ -20,7 +20,7 @@ use Rattle.grammar.specs.declared.Parsed.{Parsed}
 use Rattle.grammar.specs.declared.Parsed.the-variants.{At, No}
 use Rattle.grammar.proofs.Position.{inside, signal-pos, bit-pos}
 use Rattle.grammar.proofs.Words.{bit-truth}
-use Rattle.grammar.proofs.Steps.{Said, said, said-no, pushed, stored-as, space, past-word, fits-push}
+use Rattle.grammar.proofs.Stored.{Said, said, said-no, pushed, stored-as, space, past-word, fits-push}
 use Rattle.grammar.proofs.leaf.Statement.{statement}
 use Rattle.grammar.proofs.leaf.Tie as tie
 

@@ -12,8 +12,8 @@ use Rattle.grammar.specs.Parse.Goal.{goB}
 use Rattle.grammar.proofs.Position.{span, inside, test-pos, count-pos}
 use Rattle.grammar.proofs.Words.{test-high, count-high}
 use Rattle.grammar.proofs.Steps
-use Rattle.grammar.proofs.Steps.{Gave, Space, took, lost, space, room}
-use Rattle.grammar.proofs.Steps.{past-word, past-tree, fits-push, square}
+use Rattle.grammar.proofs.Steps.{square}
+use Rattle.grammar.proofs.Stored.{Gave, Space, took, lost, space, room, past-word, past-tree, fits-push}
 use Rattle.grammar.proofs.parse_atom.Reads as reads
 use Rattle.grammar.proofs.+parse_atom+parse_c+parse_d+parse_f+parse_square+parse_u.Lts-parse_atom as lts
 use Rattle.grammar.proofs.+parse_atom+parse_c+parse_d+parse_f+parse_square+parse_u.Proof.Frame.{

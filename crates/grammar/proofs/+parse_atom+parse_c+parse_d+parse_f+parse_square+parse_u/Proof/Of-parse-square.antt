@@ -3,14 +3,16 @@ use mathlib.Core.Bool.{true}
 use mathlib.Core.Path.{_≡_, sym, _∙_}
 use Prim.Native.Nat.{ℕ, _+_}
 use borrow.Author.Needs.{needs}
+use borrow.Fn.Kinds.{In, Out}
 use native.Mathlib.Omega.{arith}
 use Rattle.words.specs.Word
 use Rattle.grammar.specs.Parse.{word}
 use Rattle.grammar.specs.Parse.Goal.{goF}
-use Rattle.grammar.proofs.Position.{span, inside}
+use Rattle.grammar.proofs.Position.{span}
 use Rattle.grammar.proofs.Steps
-use Rattle.grammar.proofs.Steps.{Gave, Space, took, lost, space, room}
-use Rattle.grammar.proofs.Steps.{past-word, square}
+use Rattle.grammar.proofs.Steps.{square}
+use Rattle.grammar.proofs.Stored.{Gave, Space, took, lost, past-first, room}
+use Rattle.grammar.proofs.parse_square.Kinds.{ps, r}
 use Rattle.grammar.proofs.parse_square.Reads as reads
 use Rattle.grammar.proofs.+parse_atom+parse_c+parse_d+parse_f+parse_square+parse_u.Lts-parse_square as lts
 use Rattle.grammar.proofs.+parse_atom+parse_c+parse_d+parse_f+parse_square+parse_u.Proof.Frame.{
@@ -19,98 +21,89 @@ use Rattle.grammar.proofs.+parse_atom+parse_c+parse_d+parse_f+parse_squ
 }
 
 module _ (t : ℕ) where
+  -- A place or a need of the member, where its measure is t.
+  abbrev Here : (lts.Claims → In 2 ps → Out 2 ps r → Type 0) → Type 0
+  Here place = place (calls-parse-square t) (parse-square-at t) reads.Post
+
+  -- The places: the start; the bracket that opens; the call of `parse_f`, and its tree.
+  abbrev start : Here lts.Else1 → Here lts.Start
+  start c = c .before .before .before .before
+
+  abbrev opening : Here lts.After-parse-f → Here lts.Else1
+  opening c = c .before .before
+
+  abbrev call : Here lts.After-known-told → Here lts.After-parse-f
+  call c = c .before .before .before .before .before
+
   -- The word is a square bracket,
-  open-word : (c : lts.Else1 (calls-parse-square t) (parse-square-at t) reads.Post) →
-      let the-args = c .before .before .before .before .args in
-      word (the-args .ws .now) (the-args .at) ≡ Word.SQUARE
+  open-word : (c : Here lts.Else1) →
+      let args = start c .args in
+      word (args .ws .now) (args .at) ≡ Word.SQUARE
   open-word c = sym (c .before .peek .ensures) ∙ c .if1 .left
 
   -- which leaves room.
-  open-space : (c : lts.Else1 (calls-parse-square t) (parse-square-at t) reads.Post) →
-      let the-args = c .before .before .before .before .args in
-      Space 8 (the-args .ws .now) (the-args .at + 1) (the-args .arena .now) (the-args .top)
-  open-space c =
-      let the-pre = c .before .before .before .before .pre in
-      let the-args = c .before .before .before .before .args in
-      past-word (space (the-pre .1)) (inside (the-args .ws .now) (the-args .at) (omega (arith, open-word c)))
+  open-space : (c : Here lts.Else1) →
+      let args = start c .args in
+      Space 8 (args .ws .now) (args .at + 1) (args .arena .now) (args .top)
+  open-space c = past-first (start c .pre .1) (open-word c) (omega arith)
 
   -- What stands in the brackets.
-  one : (c : lts.After-known-told (calls-parse-square t) (parse-square-at t) reads.Post) →
-      let the-parse-f = c .before .before .before .before .before .parse-f in
-      let at-peek = c .before .before .before .before .before .before .before .before in
-      let the-args = at-peek .before .before .before .args in
-      Gave (goF true) (the-args .ws .now) (the-args .at + 1) (the-args .arena .now) (the-args .top)
-      (c .before .j .given .0) (the-parse-f .last .1 .1 .1 .0)
-  one c =
-      let the-parse-f = c .before .before .before .before .before .parse-f in
-      took (the-parse-f .ensures) (λ a m h. span h) (c .before .j .given .1)
+  one : (c : Here lts.After-known-told) →
+      let args = start (opening (call c)) .args in
+      Gave (goF true) (args .ws .now) (args .at + 1) (args .arena .now) (args .top)
+      (c .before .j .given .0) (call c .parse-f .last .1 .1 .1 .0)
+  one c = took (call c .parse-f .ensures) (λ a m h. span h) (c .before .j .given .1)
 
-  returns : lts.Need-returns (calls-parse-square t) (parse-square-at t) reads.Post
+  -- No bracket opens;
+  returns : Here lts.Need-returns
   returns c = Steps.B-no (λ e. c .if1 .taken (c .before .peek .ensures ∙ e))
 
-  add-parse-f : lts.Need-add-parse-f (calls-parse-square t) (parse-square-at t) reads.Post
+  add-parse-f : Here lts.Need-add-parse-f
   add-parse-f c = let s = open-space c in omega arith
 
-  parse-f-requires : lts.Need-parse-f-requires (calls-parse-square t) (parse-square-at t) reads.Post
+  parse-f-requires : Here lts.Need-parse-f-requires
   parse-f-requires c κs =
-      let the-pre = c .before .before .before .before .before .pre in
-      let s = open-space (c .before) in (omega (arith, the-pre .0), room s)
+      let s = open-space (c .before) in
+      (omega (arith, start (c .before) .pre .0), room s)
 
-  same-length : lts.Need-same-length (calls-parse-square t) (parse-square-at t) reads.Post
-  same-length c =
-      let the-parse-f = c .before .before .before .before .parse-f in
-      the-parse-f .kept .1 .1 .1 .0
+  -- no P stands in it;
+  same-length : Here lts.Need-same-length
+  same-length c = c .before .before .before .before .parse-f .kept .1 .1 .1 .0
 
-  returns-2 : lts.Need-returns-2 (calls-parse-square t) (parse-square-at t) reads.Post
+  returns-2 : Here lts.Need-returns-2
   returns-2 c =
-      let the-parse-f = c .before .before .before .before .parse-f in
-      let at-else1 = c .before .before .before .before .before .before in
-      Steps.bracket-no square (open-word at-else1) (lost (the-parse-f .ensures) (c .enum-told .given .1))
+      let at-call = c .before .before .before .before in
+      Steps.bracket-no square (open-word (opening at-call)) (lost (at-call .parse-f .ensures) (c .enum-told .given .1))
 
-  same-length-2 : lts.Need-same-length-2 (calls-parse-square t) (parse-square-at t) reads.Post
-  same-length-2 c =
-      let the-parse-f = c .before .before .before .before .before .before .before .parse-f in
-      the-parse-f .kept .1 .1 .1 .0
+  -- it stays open;
+  same-length-2 : Here lts.Need-same-length-2
+  same-length-2 c = call (c .before .before) .parse-f .kept .1 .1 .1 .0
 
-  returns-3 : lts.Need-returns-3 (calls-parse-square t) (parse-square-at t) reads.Post
+  returns-3 : Here lts.Need-returns-3
   returns-3 c =
-      let at-else1 = c .before .before .before .before .before .before .before .before .before in
-      Steps.bracket-open square (open-word at-else1) (one (c .before .before))
+      let told = c .before .before in
+      Steps.bracket-open square (open-word (opening (call told))) (one told)
       (λ e. c .if2 .taken (c .before .peek2 .ensures ∙ e))
 
-  add-t11 : lts.Need-add-t11 (calls-parse-square t) (parse-square-at t) reads.Post
+  -- it closes.
+  add-t11 : Here lts.Need-add-t11
   add-t11 c =
-      let at-peek = c .before .before .before .before .before .before .before .before .before .before in
-      let the-pre = at-peek .before .before .before .pre in
-      let s = one (c .before .before) .part .spans in omega (arith, the-pre .1 .few)
+      let told = c .before .before in
+      let s = one told .part .spans in
+      omega (arith, start (opening (call told)) .pre .1 .few)
 
-  same-length-3 : lts.Need-same-length-3 (calls-parse-square t) (parse-square-at t) reads.Post
-  same-length-3 c =
-      let the-parse-f = c .before .before .before .before .before .before .before .parse-f in
-      the-parse-f .kept .1 .1 .1 .0
+  same-length-3 : Here lts.Need-same-length-3
+  same-length-3 c = call (c .before .before) .parse-f .kept .1 .1 .1 .0
 
-  returns-4 : lts.Need-returns-4 (calls-parse-square t) (parse-square-at t) reads.Post
+  returns-4 : Here lts.Need-returns-4
   returns-4 c =
-      let at-else1 = c .before .before .before .before .before .before .before .before .before in
-      Steps.bracket-closed square (open-word at-else1) (one (c .before .before))
+      let told = c .before .before in
+      Steps.bracket-closed square (open-word (opening (call told))) (one told)
       (sym (c .before .peek2 .ensures) ∙ c .if2 .left)
-
-  -- What the search finds.
-  peek-requires : lts.Need-peek-requires (calls-parse-square t) (parse-square-at t) reads.Post
-  peek-requires c κs = search needs
-
-  enum-known-j : lts.Need-enum-known-j (calls-parse-square t) (parse-square-at t) reads.Post
-  enum-known-j c = search needs
-
-  enum-told : lts.Need-enum-told (calls-parse-square t) (parse-square-at t) reads.Post
-  enum-told c = search needs
-
-  peek-requires-2 : lts.Need-peek-requires-2 (calls-parse-square t) (parse-square-at t) reads.Post
-  peek-requires-2 c κs = search needs
 
   -- So the member meets its contract, if the calls with lower measures do.
   pub met : {M : Type 1} → lts.Closed (calls-parse-square t) (parse-square-at t) reads.Post M
   met =
       lts.spec (calls-parse-square t) (parse-square-at t) reads.Post
-      peek-requires returns add-parse-f parse-f-requires enum-known-j enum-told same-length returns-2
-      peek-requires-2 same-length-2 returns-3 add-t11 same-length-3 returns-4
+      (λ c κs. search needs) returns add-parse-f parse-f-requires (λ c. search needs) (λ c. search needs)
+      same-length returns-2 (λ c κs. search needs) same-length-2 returns-3 add-t11 same-length-3 returns-4
