@@ -50,120 +50,92 @@ module _ {ws : List ℕ} {j : ℕ} {before : List ℕ} {top k : ℕ} {lead : Boo
             ∙ ap (sets before top) (ap (λ (x : ℕ). row k x b c) ea ∙ ap₂ (row k (opNumber o)) eb ec);
       }
 
+-- The places: the start; both words; a first word that is op; a second that is n; and the record.
+abbrev start : tie.After-peek → tie.Start
+start c = c .before .before .before
+
+abbrev op-looked : tie.Else1 → tie.After-peek
+op-looked c = c .before .before .before
+
+abbrev at-op : tie.Else2 → tie.Else1
+at-op c = c .before .before
+
+abbrev num-looked : tie.Else2 → tie.After-peek2
+num-looked c = at-op c .before .before
+
+abbrev at-num : tie.After-push → tie.Else2
+at-num c = c .before .before .before .before
+
 -- The first word,
-is-op : (c : tie.Else1) →
-    isOp (c .before .before .before .peek .result) ≡ true
+is-op : (c : tie.Else1) → isOp (op-looked c .peek .result) ≡ true
 is-op c =
-    let the-is-op = c .before .is-op in
-    sym (the-is-op .ensures) ∙ not-false (the-is-op .result) (c .if1 .left)
+    let test = c .before .is-op in
+    sym (test .ensures) ∙ not-false (test .result) (c .if1 .left)
+
+op-word : (c : tie.Else1) →
+    let args = start (op-looked c) .args in
+    isOp (word (args .ws .now) (args .at)) ≡ true
+op-word c = ap isOp (sym (op-looked c .peek .ensures)) ∙ is-op c
 
 returns : tie.Need-returns
 returns c =
-    let the-is-op = c .before .is-op in
-    let the-args = c .before .before .before .before .before .before .args in
-    let no = sym (the-is-op .ensures) ∙ not-true (the-is-op .result) (c .if1 .taken) in
-    let n = word (the-args .ws .now) (the-args .at + 1) in
-    no-comparison (ap (λ (x : Bool). x && isNum n) (ap isOp (sym (c .before .before .before .peek .ensures)) ∙ no))
+    let test = c .before .is-op in
+    let first = c .before .before .before in
+    let args = start first .args in
+    let no = sym (test .ensures) ∙ not-true (test .result) (c .if1 .taken) in
+    let n = word (args .ws .now) (args .at + 1) in
+    no-comparison (ap (λ (x : Bool). x && isNum n) (ap isOp (sym (first .peek .ensures)) ∙ no))
 
 -- the second,
-is-num : (c : tie.Else2) →
-    let the-peek2 = c .before .before .before .before .peek2 in
-    isNum (the-peek2 .result) ≡ true
+is-num : (c : tie.Else2) → isNum (num-looked c .peek2 .result) ≡ true
 is-num c =
-    let the-is-num = c .before .is-num in
-    sym (the-is-num .ensures) ∙ not-false (the-is-num .result) (c .if2 .left)
+    let test = c .before .is-num in
+    sym (test .ensures) ∙ not-false (test .result) (c .if2 .left)
 
 returns-2 : tie.Need-returns-2
 returns-2 c =
-    let the-is-num = c .before .is-num in
-    let the-peek2 = c .before .before .before .before .peek2 in
-    let the-peek = c .before .before .before .before .before .peek in
-    let no = sym (the-is-num .ensures) ∙ not-true (the-is-num .result) (c .if2 .taken) in
-    no-comparison
-    (ap₂ _&&_ (ap isOp (sym (the-peek .ensures)) ∙ is-op (c .before .before))
-    (ap isNum (sym (the-peek2 .ensures)) ∙ no))
+    let test = c .before .is-num in
+    let here = c .before .before in
+    let no = sym (test .ensures) ∙ not-true (test .result) (c .if2 .taken) in
+    no-comparison (ap₂ _&&_ (op-word here) (ap isNum (sym (here .before .before .peek2 .ensures)) ∙ no))
 
 -- and both.
 are-both : (c : tie.Else2) →
-    let the-args = c .before .before .before .before .before .before .before .before .args in
-    comparisonAt (the-args .ws .now) (the-args .at) ≡ true
-are-both c =
-    let the-peek2 = c .before .before .before .before .peek2 in
-    let the-peek = c .before .before .before .before .before .peek in
-    ap₂ _&&_ (ap isOp (sym (the-peek .ensures)) ∙ is-op (c .before .before))
-    (ap isNum (sym (the-peek2 .ensures)) ∙ is-num c)
+    let args = start (op-looked (at-op c)) .args in
+    comparisonAt (args .ws .now) (args .at) ≡ true
+are-both c = ap₂ _&&_ (op-word (at-op c)) (ap isNum (sym (num-looked c .peek2 .ensures)) ∙ is-num c)
 
 sub-push : tie.Need-sub-push
 sub-push c =
-    let the-peek = c .before .before .before .before .before .before .peek in
-    op-pos (the-peek .result) (is-op (c .before .before .before))
+    let here = at-op (c .before) in
+    op-pos (op-looked here .peek .result) (is-op here)
 
 num-value-requires : tie.Need-num-value-requires
 num-value-requires c κs = is-num (c .before .before)
 
 is-upper-requires : tie.Need-is-upper-requires
-is-upper-requires c κs =
-    let at-else1 = c .before .before .before .before .before .before .before .before in
-    is-op at-else1
+is-upper-requires c κs = is-op (at-op (at-num (c .before .before)))
 
 returns-3 : tie.Need-returns-3
 returns-3 c =
-    let the-push = c .before .before .before .before .before .push in
-    let the-num-value = c .before .before .before .before .before .before .num-value in
-    let the-num-kind = c .before .before .before .before .before .before .before .num-kind in
-    let at-else2 = c .before .before .before .before .before .before .before .before .before in
-    let at-else1 = at-else2 .before .before in
-    let the-peek2 = at-else1 .before .before .peek2 in
-    let the-peek = at-else1 .before .before .before .peek in
-    let the-args = at-else1 .before .before .before .before .before .before .args in
-    let o = the-peek .ensures in
-    let n = the-peek2 .ensures in
+    let after-push = c .before .before .before .before .before in
+    let both = at-num after-push in
+    let first = op-looked (at-op both) in
+    let o = first .peek .ensures in
+    let n = num-looked both .peek2 .ensures in
     let upper-op = c .before .before .is-upper .ensures ∙ ap (λ (x : ℕ). upper (opWord x)) o in
-    comparison (are-both at-else2)
-    (sym (op-number (the-peek .result) (is-op at-else1)) ∙ ap (λ (x : ℕ). opNumber (opWord x)) o)
-    (the-num-kind .ensures ∙ ap (λ (x : ℕ). numKind (numWord x)) n)
-    (the-num-value .ensures ∙ ap (λ (x : ℕ). numValue (numWord x)) n) (the-push .ensures)
+    comparison (are-both both)
+    (sym (op-number (first .peek .result) (is-op (at-op both))) ∙ ap (λ (x : ℕ). opNumber (opWord x)) o)
+    (after-push .before .before .num-kind .ensures ∙ ap (λ (x : ℕ). numKind (numWord x)) n)
+    (after-push .before .num-value .ensures ∙ ap (λ (x : ℕ). numValue (numWord x)) n) (after-push .push .ensures)
     (c .atom-facts .ensures
-    ∙ ap atomFacts (c .before .both .ensures ∙ ap (λ (x : Bool). the-args .lead && x) upper-op))
-
--- What the search finds.
-peek-requires : tie.Need-peek-requires
-peek-requires c κs = search needs
-
-add-peek : tie.Need-add-peek
-add-peek c = search needs
-
-peek-requires-2 : tie.Need-peek-requires-2
-peek-requires-2 c κs = search needs
-
-is-op-requires : tie.Need-is-op-requires
-is-op-requires c κs = search needs
-
-is-num-requires : tie.Need-is-num-requires
-is-num-requires c κs = search needs
-
-num-kind-requires : tie.Need-num-kind-requires
-num-kind-requires c κs = search needs
-
-push-requires : tie.Need-push-requires
-push-requires c κs = search needs
-
-add-t10 : tie.Need-add-t10
-add-t10 c = search needs
-
-both-requires : tie.Need-both-requires
-both-requires c κs = search needs
-
-atom-facts-requires : tie.Need-atom-facts-requires
-atom-facts-requires c κs = search needs
-
-same-length : tie.Need-same-length
-same-length c = search needs
+    ∙ ap atomFacts (c .before .both .ensures ∙ ap (λ (x : Bool). start first .args .lead && x) upper-op))
 
 pub comparison-spec : {M : Type 1} → statement M
 comparison-spec =
     tie.close
     (tie.spec
-    peek-requires add-peek peek-requires-2 is-op-requires returns is-num-requires returns-2 sub-push
-    num-kind-requires num-value-requires push-requires add-t10 is-upper-requires both-requires atom-facts-requires
-    same-length returns-3)
+    (λ c κs. search needs) (λ c. search needs) (λ c κs. search needs) (λ c κs. search needs) returns
+    (λ c κs. search needs) returns-2 sub-push (λ c κs. search needs) num-value-requires (λ c κs. search needs)
+    (λ c. search needs) is-upper-requires (λ c κs. search needs) (λ c κs. search needs) (λ c. search needs)
+    returns-3)

@@ -2,9 +2,10 @@
 use mathlib.Core.Bool.{true, false}
 use mathlib.Core.List.{List}
 use mathlib.Core.Path.{_≡_, refl, sym, ap, _∙_}
-use Prim.Native.Nat.{ℕ, _+_}
+use Prim.Native.Nat.{ℕ, _+_, _≤_}
 use borrow.Author.Needs.{needs}
 use native.Mathlib.Omega.{arith}
+use lib.ListN.{length}
 use Rattle.traces.specs.Trace.{truth}
 use Rattle.formulas.specs.Arena.{row, flat, CONSTANT, SIGNAL}
 use Rattle.formulas.specs.Tree.{Tree}
@@ -18,9 +19,9 @@ use Rattle.grammar.specs.Parse.Result.{ok}
 use Rattle.grammar.specs.declared.Facts.{Facts}
 use Rattle.grammar.specs.declared.Parsed.{Parsed}
 use Rattle.grammar.specs.declared.Parsed.the-variants.{At, No}
-use Rattle.grammar.proofs.Position.{inside, signal-pos, bit-pos}
+use Rattle.grammar.proofs.Position.{signal-pos, bit-pos}
 use Rattle.grammar.proofs.Words.{bit-truth}
-use Rattle.grammar.proofs.Stored.{Said, said, said-no, pushed, stored-as, space, past-word, fits-push}
+use Rattle.grammar.proofs.Stored.{Said, said, said-no, pushed, stored-as, past-first, fits-push}
 use Rattle.grammar.proofs.leaf.Statement.{statement}
 use Rattle.grammar.proofs.leaf.Tie as tie
 
@@ -39,106 +40,77 @@ module _ {ws : List ℕ} {i : ℕ} {before : List ℕ} {top : ℕ} {after : List
   no-leaf : isSignal (word ws i) ≡ false → isBit (word ws i) ≡ false → Leaf ws i before top No after
   no-leaf s b = leaf (said-no (simp (s, b)))
 
+-- The places: the start; the word, where it is a signal; and where it is a bit.
+abbrev start : tie.After-peek → tie.Start
+start c = c .before .before .before
+
+abbrev signal-looked : tie.Then1 → tie.After-peek
+signal-looked c = c .before .before
+
+abbrev bit-looked : tie.Then2 → tie.After-peek
+bit-looked c = c .before .before .before .before
+
+-- A word leaves room for one record.
+record-room : (c : tie.After-peek) → 1 ≤ c .peek .result →
+    start c .args .top + 4 ≤ length (start c .args .arena .now)
+record-room c l = fits-push 4 (past-first (start c .pre) (sym (c .peek .ensures)) l)
+
 -- A signal.
-is-signal : (c : tie.Then1) → isSignal (c .before .before .peek .result) ≡ true
+is-signal : (c : tie.Then1) → isSignal (signal-looked c .peek .result) ≡ true
 is-signal c = sym (c .before .is-signal .ensures) ∙ c .if1 .taken
 
 sub-push : tie.Need-sub-push
-sub-push c = signal-pos (c .before .before .before .peek .result) (is-signal (c .before))
+sub-push c = signal-pos (signal-looked (c .before) .peek .result) (is-signal (c .before))
 
 push-requires : tie.Need-push-requires
-push-requires c κs =
-    let the-peek = c .before .before .before .peek in
-    let the-pre = c .before .before .before .before .before .before .pre in
-    let the-args = c .before .before .before .before .before .before .args in
-    let w = signal-pos (the-peek .result) (is-signal (c .before)) in
-    let l = inside (the-args .ws .now) (the-args .at) (omega (arith, the-peek .ensures)) in
-    fits-push 4 (past-word (space the-pre) l)
+push-requires c κs = let w = sub-push c in record-room (signal-looked (c .before)) (omega arith)
 
 returns : tie.Need-returns
 returns c =
-    let at-then1 = c .before .before .before .before .before in
-    let the-peek = at-then1 .before .before .peek in
-    let the-args = at-then1 .before .before .before .before .before .args in
-    let w = sym (the-peek .ensures) in
-    let s = ap isSignal w ∙ is-signal at-then1 in
-    one-record (signal (signalWord (word (the-args .ws .now) (the-args .at)))) (simp s) refl
+    let here = c .before .before .before .before .before in
+    let looked = signal-looked here in
+    let args = start looked .args in
+    let w = sym (looked .peek .ensures) in
+    let s = ap isSignal w ∙ is-signal here in
+    one-record (signal (signalWord (word (args .ws .now) (args .at)))) (simp s) refl
     (ap (λ (x : ℕ). row SIGNAL (signalWord x) 0 0) w)
     (c .before .before .before .push .ensures) (c .leaf-facts .ensures)
 
 -- A bit.
-is-bit : (c : tie.Then2) →
-    let the-peek = c .before .before .before .before .peek in
-    isBit (the-peek .result) ≡ true
+is-bit : (c : tie.Then2) → isBit (bit-looked c .peek .result) ≡ true
 is-bit c = sym (c .before .is-bit .ensures) ∙ c .if2 .taken
 
 sub-push-2 : tie.Need-sub-push-2
-sub-push-2 c =
-    let the-peek = c .before .before .before .before .before .peek in
-    bit-pos (the-peek .result) (is-bit (c .before))
+sub-push-2 c = bit-pos (bit-looked (c .before) .peek .result) (is-bit (c .before))
 
 push-requires-2 : tie.Need-push-requires-2
-push-requires-2 c κs =
-    let the-peek = c .before .before .before .before .before .peek in
-    let the-pre = c .before .before .before .before .before .before .before .before .pre in
-    let the-args = c .before .before .before .before .before .before .before .before .args in
-    let w = bit-pos (the-peek .result) (is-bit (c .before)) in
-    let l = inside (the-args .ws .now) (the-args .at) (omega (arith, the-peek .ensures)) in
-    fits-push 4 (past-word (space the-pre) l)
+push-requires-2 c κs = let w = sub-push-2 c in record-room (bit-looked (c .before)) (omega arith)
 
 returns-2 : tie.Need-returns-2
 returns-2 c =
-    let at-then2 = c .before .before .before .before .before in
-    let the-if1 = at-then2 .before .before .if1 in
-    let the-is-signal = at-then2 .before .before .before .is-signal in
-    let the-peek = at-then2 .before .before .before .before .peek in
-    let the-args = at-then2 .before .before .before .before .before .before .before .args in
-    let w = sym (the-peek .ensures) in
-    let s = ap isSignal w ∙ sym (the-is-signal .ensures) ∙ the-if1 .left in
-    let b = ap isBit w ∙ is-bit at-then2 in
-    let same = ap (λ (x : ℕ). truth (bitWord x)) w ∙ bit-truth (the-peek .result) (is-bit at-then2) in
-    one-record (constant (bitWord (word (the-args .ws .now) (the-args .at)))) (simp (s, b)) refl
+    let here = c .before .before .before .before .before in
+    let looked = bit-looked here in
+    let args = start looked .args in
+    let no-signal = here .before .before in
+    let w = sym (looked .peek .ensures) in
+    let s = ap isSignal w ∙ sym (no-signal .before .is-signal .ensures) ∙ no-signal .if1 .left in
+    let b = ap isBit w ∙ is-bit here in
+    let same = ap (λ (x : ℕ). truth (bitWord x)) w ∙ bit-truth (looked .peek .result) (is-bit here) in
+    one-record (constant (bitWord (word (args .ws .now) (args .at)))) (simp (s, b)) refl
     (ap (λ (x : ℕ). row CONSTANT x 0 0) same) (c .before .before .before .push2 .ensures) (c .leaf-facts2 .ensures)
 
 -- Neither.
 returns-3 : tie.Need-returns-3
 returns-3 c =
-    let the-peek = c .before .before .before .before .peek in
-    let w = sym (the-peek .ensures) in
-    no-leaf (ap isSignal w ∙ sym (c .before .before .before .is-signal .ensures) ∙ c .before .before .if1 .left)
+    let no-signal = c .before .before in
+    let w = sym (no-signal .before .before .peek .ensures) in
+    no-leaf (ap isSignal w ∙ sym (no-signal .before .is-signal .ensures) ∙ no-signal .if1 .left)
     (ap isBit w ∙ sym (c .before .is-bit .ensures) ∙ c .if2 .left)
-
--- What the search finds.
-peek-requires : tie.Need-peek-requires
-peek-requires c κs = search needs
-
-is-signal-requires : tie.Need-is-signal-requires
-is-signal-requires c κs = search needs
-
-add-t12 : tie.Need-add-t12
-add-t12 c = search needs
-
-leaf-facts-requires : tie.Need-leaf-facts-requires
-leaf-facts-requires c κs = search needs
-
-same-length : tie.Need-same-length
-same-length c = search needs
-
-is-bit-requires : tie.Need-is-bit-requires
-is-bit-requires c κs = search needs
-
-add-t18 : tie.Need-add-t18
-add-t18 c = search needs
-
-leaf-facts-requires-2 : tie.Need-leaf-facts-requires-2
-leaf-facts-requires-2 c κs = search needs
-
-same-length-2 : tie.Need-same-length-2
-same-length-2 c = search needs
 
 pub leaf-spec : {M : Type 1} → statement M
 leaf-spec =
     tie.close
     (tie.spec
-    peek-requires is-signal-requires sub-push push-requires add-t12 leaf-facts-requires same-length returns
-    is-bit-requires sub-push-2 push-requires-2 add-t18 leaf-facts-requires-2 same-length-2 returns-2 returns-3)
+    (λ c κs. search needs) (λ c κs. search needs) sub-push push-requires (λ c. search needs)
+    (λ c κs. search needs) (λ c. search needs) returns (λ c κs. search needs) sub-push-2 push-requires-2
+    (λ c. search needs) (λ c κs. search needs) (λ c. search needs) returns-2 returns-3)
