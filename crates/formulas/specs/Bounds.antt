@@ -1,20 +1,21 @@
 -- The numbers that a rule can name: "`s` with a number (signal 0 to 63) or `k` with a number (parameter 0 to 7).
--- A literal is 0 to 999,999." Literals are below a limit, which is 1,000,000 where a text is read. Definitions only.
+-- A literal is 0 to 999,999." Literals are below a limit, which is `literalCount` where a text is read. Definitions only.
 use mathlib.Core.Bool.{Bool, true, _&&_}
 use Prim.Native.Nat.{ℕ}
 use lib.Dec.{ltb}
+use Rattle.limits.specs.Limits.{signalCount, parameterCount}
 use Rattle.formulas.specs.Formula.{Num}
 use Rattle.formulas.specs.Formula.Num.{literal, parameter}
 use Rattle.formulas.specs.Tree.{Tree}
 use Rattle.formulas.specs.Tree.Tree.{constant, signal, neg, and, or, then, chop, exists, test, len, count}
 
 abbrev pub signalBound : ℕ → Bool
-signalBound j = ltb j 64
+signalBound j = ltb j signalCount
 
 module _ (limit : ℕ) where
   abbrev pub numBound : Num → Bool
   numBound (literal n) = ltb n limit
-  numBound (parameter j) = ltb j 8
+  numBound (parameter j) = ltb j parameterCount
 
   -- Every number in the tree is such a number.
   abbrev pub bounded : Tree → Bool

@@ -1,6 +1,6 @@
 -- D and C: parts that one word joins, grouped from the left. One set of lemmas over the word, the kind of its records and
 -- the goals, for each turn of the code of `parse_d` and of `parse_c`. Assumes nothing.
-use mathlib.Core.Bool.{Bool, true, false}
+use mathlib.Core.Bool.{Bool}
 use mathlib.Core.List.{List, _++_}
 use mathlib.Core.Path.{_≡_, refl, sym, ap, ap₂, _∙_}
 use Prim.Native.Nat.{ℕ, _+_, _≤_}
@@ -11,7 +11,7 @@ use Rattle.formulas.specs.Tree.Tree.{and, or}
 use Rattle.formulas.specs.Arena
 use Rattle.formulas.specs.Arena.{row, flat}
 use Rattle.words.specs.Word
-use Rattle.grammar.specs.Answer.{Reading, Room, Pushed}
+use Rattle.grammar.specs.Contract.{Parses, Room, Pushed}
 use Rattle.grammar.specs.Facts.{factsOf, joinFacts}
 use Rattle.grammar.specs.Parse.{Goal, word, read, bind}
 use Rattle.grammar.specs.Parse.Result.{no-rule, ok}
@@ -21,7 +21,7 @@ use Rattle.grammar.specs.declared.Parsed.the-variants.{At, No}
 use Rattle.grammar.proofs.Position.{inside}
 use Rattle.grammar.proofs.Sound.{read-eq}
 use Rattle.grammar.proofs.Complete.{then-on, stopD, stopC, turnD, turnC}
-use Rattle.grammar.proofs.Stored.{Part, Took, Turn, Space, pushed, stored-as, stored-on, says, fails}
+use Rattle.grammar.proofs.Stored.{Took, Turn, Space, pushed, stored-as, stored-on, says, fails}
 use Rattle.grammar.proofs.Stored.{space, past-word, past-tree}
 
 -- The goal g reads parts `sub` that the word op joins to trees `f a b`, with records of the kind `node`; `k a` is what
@@ -66,7 +66,7 @@ module _ {g : Goal} {k : Tree → Goal} {sub : Goal} {f : Tree → Tree → Tree
 
   module _ {ws : List ℕ} {i : ℕ} {before : List ℕ} {top : ℕ} {after : List ℕ} where
     -- The first part, if there is one,
-    pub none : read ws sub i ≡ no-rule → Reading g ws i before top No after
+    pub none : read ws sub i ≡ no-rule → Parses g ws i before top No after
     none e = fails _ (z .begins ws i) e
 
     pub first : {n e : ℕ} {x : Facts} → Took sub ws i before top n e x after →
@@ -75,14 +75,14 @@ module _ {g : Goal} {k : Tree → Goal} {sub : Goal} {f : Tree → Tree → Tree
 
     -- no further part,
     pub done : {n e : ℕ} {x : Facts} → Turn g k ws i before top n e x after → (word ws n ≡ op → ⊥) →
-        Reading g ws i before top (At n e x) after
+        Parses g ws i before top (At n e x) after
     done {n} h w =
         let a = h .part in
         says (a .tree) (h .is ∙ z .stops ws (a .tree) n w) (a .stored) (a .known)
 
     module _ {n e : ℕ} {x : Facts} {mid : List ℕ} (h : Turn g k ws i before top n e x mid) (w : word ws n ≡ op) where
       -- one that is not there,
-      pub missing : read ws sub (n + 1) ≡ no-rule → Reading g ws i before top No after
+      pub missing : read ws sub (n + 1) ≡ no-rule → Parses g ws i before top No after
       missing e = fails _ (h .is ∙ z .turns ws (h .part .tree) n w) e
 
       -- and one more.

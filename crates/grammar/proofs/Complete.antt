@@ -25,10 +25,10 @@ use Rattle.grammar.specs.Parse.Goal.{goF, goD, goDs, goC, goCs, goU, goA
 use Rattle.grammar.specs.Parse.Join.{join-then, join-chop, join-none}
 use Rattle.grammar.specs.Parse.Unit.{unit-not, unit-round, unit-leaf, unit-exists, unit-atom}
 use Rattle.grammar.specs.Parse.Atom.{atom-test, atom-len, atom-count}
-use Rattle.grammar.proofs.Position.{Reads, within-high, signal-pos, bit-pos, test-pos, count-pos}
-use Rattle.grammar.proofs.Position.Reads.{f-one, f-then, f-chop, d-one, d-or, c-one, c-and}
-use Rattle.grammar.proofs.Position.Reads.{u-not, u-exists, u-round, u-constant, u-signal}
-use Rattle.grammar.proofs.Position.Reads.{u-test, u-len, u-count, b-square}
+use Rattle.grammar.proofs.Position.{DerivesAt, within-high, signal-pos, bit-pos, test-pos, count-pos}
+use Rattle.grammar.proofs.Position.DerivesAt.{f-one, f-then, f-chop, d-one, d-or, c-one, c-and}
+use Rattle.grammar.proofs.Position.DerivesAt.{u-not, u-exists, u-round, u-constant, u-signal}
+use Rattle.grammar.proofs.Position.DerivesAt.{u-test, u-len, u-count, b-square}
 use Rattle.grammar.proofs.Sound.{read-eq, read-holds}
 
 -- ---- classes of words
@@ -172,7 +172,7 @@ module _ (ws : List ℕ) where
   Full l U i t j = read ws (goU l) i ≡ ok t j
   Full l B i t j = read ws goB i ≡ ok t j
 
-  pub complete : {l : Bool} {c : Symbol} {i j : ℕ} {t : Tree} → Reads ws l c i t j → Full l c i t j
+  pub complete : {l : Bool} {c : Symbol} {i j : ℕ} {t : Tree} → DerivesAt ws l c i t j → Full l c i t j
   complete (f-one {l} {i} {j} {t} r) = λ n.
       F-at l i join-none (complete r (n .no-and) ∙ stopD l t j (n .no-or)) (stop-join l _ (n .no-then) (n .no-chop))
   complete (f-then {i} {m} {j} {a} {b} r e s) = λ n.
@@ -216,15 +216,15 @@ module _ (ws : List ℕ) where
       ∙ closed-at SQUARE-END p j f
 
   -- The parser finds the tree that the grammar has for all words,
-  pub finds : (t : Tree) → Reads ws false F 0 t (length ws) → read ws (goF false) 0 ≡ ok t (length ws)
+  pub finds : (t : Tree) → DerivesAt ws false F 0 t (length ws) → read ws (goF false) 0 ≡ ok t (length ws)
   finds t r = complete r (ends-at _ 0 (List·getD-eq-default ws 0 (le-refl _)) (omega arith))
 
   -- what it finds is one,
-  pub found : (t : Tree) → read ws (goF false) 0 ≡ ok t (length ws) → Reads ws false F 0 t (length ws)
+  pub found : (t : Tree) → read ws (goF false) 0 ≡ ok t (length ws) → DerivesAt ws false F 0 t (length ws)
   found t e = read-holds ws (goF false) 0 t (length ws) e
 
   -- and so there is no other.
-  pub one-tree : (t t′ : Tree) → Reads ws false F 0 t (length ws) → Reads ws false F 0 t′ (length ws) → t ≡ t′
+  pub one-tree : (t t′ : Tree) → DerivesAt ws false F 0 t (length ws) → DerivesAt ws false F 0 t′ (length ws) → t ≡ t′
   one-tree t t′ r r′ =
       let e = finds t r in
       let e′ = finds t′ r′ in

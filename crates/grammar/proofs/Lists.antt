@@ -16,10 +16,10 @@ use Rattle.grammar.specs.Grammar.Derives.{F-one, F-then, F-chop, D-one, 
 use Rattle.grammar.specs.Grammar.Derives.{U-not, U-exists, U-round, U-constant, U-signal}
 use Rattle.grammar.specs.Grammar.Derives.{U-test, U-len, U-count, B-square}
 use Rattle.grammar.specs.Parse.{word}
-use Rattle.grammar.proofs.Position.{Reads, span, inside, num-pos, signal-pos, bit-pos}
-use Rattle.grammar.proofs.Position.Reads.{f-one, f-then, f-chop, d-one, d-or, c-one, c-and}
-use Rattle.grammar.proofs.Position.Reads.{u-not, u-exists, u-round, u-constant, u-signal}
-use Rattle.grammar.proofs.Position.Reads.{u-test, u-len, u-count, b-square}
+use Rattle.grammar.proofs.Position.{DerivesAt, span, inside, num-pos, signal-pos, bit-pos}
+use Rattle.grammar.proofs.Position.DerivesAt.{f-one, f-then, f-chop, d-one, d-or, c-one, c-and}
+use Rattle.grammar.proofs.Position.DerivesAt.{u-not, u-exists, u-round, u-constant, u-signal}
+use Rattle.grammar.proofs.Position.DerivesAt.{u-test, u-len, u-count, b-square}
 
 -- ---- from positions to lists: the words from i up to j are `slice i j ws`
 
@@ -75,7 +75,7 @@ module _ (ws : List ℕ) where
 
 -- A reading over positions is one of the words between them.
 pub to-list : {ws : List ℕ} {l : Bool} {c : Symbol} {i j : ℕ} {t : Tree} →
-    Reads ws l c i t j → Derives l c (slice i j ws) t
+    DerivesAt ws l c i t j → Derives l c (slice i j ws) t
 to-list (f-one r) = F-one (to-list r)
 to-list {ws} (f-then {i} {m} {j} r e s) =
     rw (between ws i m j (span r .moves) (span s .moves) (span s .within), e) (F-then (to-list r) (to-list s))
@@ -167,7 +167,7 @@ next x = omega arith
 
 -- A reading of words is one over the positions where they stand.
 pub to-position : {l : Bool} {c : Symbol} {s : List ℕ} {t : Tree} {ws : List ℕ} {i j : ℕ} →
-    Derives l c s t → Stands ws s i j → Reads ws l c i t j
+    Derives l c s t → Stands ws s i j → DerivesAt ws l c i t j
 to-position (F-one g) x = f-one (to-position g x)
 to-position (F-then {s} {u} g h) x =
     let y = right s (THEN ∷ u) x in
@@ -220,9 +220,9 @@ to-position (B-square {s} g) x =
 -- ---- the whole
 
 -- A reading of all words, from either to the other.
-pub derived : (ws : List ℕ) (t : Tree) → Reads ws false F 0 t (length ws) → Derives false F ws t
+pub derived : (ws : List ℕ) (t : Tree) → DerivesAt ws false F 0 t (length ws) → Derives false F ws t
 derived ws t r = rw take-length at (to-list r)
 
-pub placed : (ws : List ℕ) (t : Tree) → Derives false F ws t → Reads ws false F 0 t (length ws)
+pub placed : (ws : List ℕ) (t : Tree) → Derives false F ws t → DerivesAt ws false F 0 t (length ws)
 placed ws t g =
     to-position g (record { front = []; back = []; whole = sym (append-nil ws); start = refl; end = omega arith })

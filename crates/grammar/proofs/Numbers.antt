@@ -2,40 +2,45 @@
 use mathlib.Core.Path.{_≡_, refl, ap₂}
 use mathlib.Core.Bool.{Bool, true, false, _&&_, _||_, cond, false≢true}
 use mathlib.Core.List.{List}
-use Prim.Native.Nat.{ℕ, _+_, _-_, _≤_, _<_}
+use Prim.Native.Nat.{ℕ, _+_, _-_, _≤_}
 use native.Mathlib.Omega.{arith}
 use lib.Dec.{leb}
 use borrow.Author.Tests.{leb-true, lt-ltb}
+use Rattle.limits.specs.Limits.{signalCount, literalCount, parameterCount}
 use Rattle.formulas.specs.Formula.Num.{literal, parameter}
 use Rattle.formulas.specs.Tree.{Tree}
 use Rattle.formulas.specs.Bounds.{signalBound, numBound, bounded}
 use Rattle.words.specs.Word.{PARAMETER, SIGNAL, LITERAL, within, isSignal, isNum}
 use Rattle.grammar.specs.Grammar.{Symbol, signalWord, numWord}
 use Rattle.grammar.specs.Parse.{word}
-use Rattle.grammar.proofs.Position.{Reads, within-high}
-use Rattle.grammar.proofs.Position.Reads.{f-one, f-then, f-chop, d-one, d-or, c-one, c-and}
-use Rattle.grammar.proofs.Position.Reads.{u-not, u-exists, u-round, u-constant, u-signal}
-use Rattle.grammar.proofs.Position.Reads.{u-test, u-len, u-count, b-square}
+use Rattle.grammar.proofs.Position.{DerivesAt, within-high}
+use Rattle.grammar.proofs.Position.DerivesAt.{f-one, f-then, f-chop, d-one, d-or, c-one, c-and}
+use Rattle.grammar.proofs.Position.DerivesAt.{u-not, u-exists, u-round, u-constant, u-signal}
+use Rattle.grammar.proofs.Position.DerivesAt.{u-test, u-len, u-count, b-square}
+
+-- The word of the greatest literal: no word is above it.
+abbrev pub lastWord : ℕ
+lastWord = LITERAL + (literalCount - 1)
 
 -- A signal's word,
 signal-bound : (w : ℕ) → isSignal w ≡ true → signalBound (signalWord w) ≡ true
 unfolding isSignal
-signal-bound w h = lt-ltb (w - SIGNAL) 64 (omega (arith, within-high SIGNAL (SIGNAL + 63) w h))
+signal-bound w h = lt-ltb (w - SIGNAL) signalCount (omega (arith, within-high SIGNAL (SIGNAL + 63) w h))
 
 -- and the word of a literal or a parameter.
-num-bound : (w : ℕ) → isNum w ≡ true → w < LITERAL + 1000000 → numBound 1000000 (numWord w) ≡ true
+num-bound : (w : ℕ) → isNum w ≡ true → w ≤ lastWord → numBound literalCount (numWord w) ≡ true
 unfolding isNum
 num-bound w h k = go (leb LITERAL w) (within PARAMETER (PARAMETER + 7) w) refl refl h
   where
     go : (x y : Bool) → leb LITERAL w ≡ x → within PARAMETER (PARAMETER + 7) w ≡ y → y || x ≡ true →
-        numBound 1000000 (cond x (literal (w - LITERAL)) (parameter (w - PARAMETER))) ≡ true
-    go true y p q e = lt-ltb (w - LITERAL) 1000000 (omega (arith, leb-true LITERAL w p))
-    go false true p q e = lt-ltb (w - PARAMETER) 8 (omega (arith, within-high PARAMETER (PARAMETER + 7) w q))
+        numBound literalCount (cond x (literal (w - LITERAL)) (parameter (w - PARAMETER))) ≡ true
+    go true y p q e = lt-ltb (w - LITERAL) literalCount (omega (arith, leb-true LITERAL w p))
+    go false true p q e = lt-ltb (w - PARAMETER) parameterCount (omega (arith, within-high PARAMETER (PARAMETER + 7) w q))
     go false false p q e = absurd (false≢true e)
 
--- So every reading, where no word is above the last literal's.
+-- So every tree that words have, where no word is above the last.
 pub numbers : {ws : List ℕ} {l : Bool} {c : Symbol} {i j : ℕ} {t : Tree} →
-    ((k : ℕ) → word ws k ≤ 1999999) → Reads ws l c i t j → bounded 1000000 t ≡ true
+    ((k : ℕ) → word ws k ≤ lastWord) → DerivesAt ws l c i t j → bounded literalCount t ≡ true
 numbers k (f-one r) = numbers k r
 numbers k (f-then r e s) = ap₂ _&&_ (numbers k r) (numbers k s)
 numbers k (f-chop r e s) = ap₂ _&&_ (numbers k r) (numbers k s)
@@ -49,7 +54,7 @@ numbers k (u-round e r f) = numbers k r
 numbers k (u-constant h) = refl
 numbers {ws} k (u-signal {i} h) = signal-bound (word ws i) h
 numbers k (u-test h r) = numbers k r
-numbers {ws} k (u-len {i} e h n) = num-bound (word ws (i + 1 + 1)) n (omega (arith, k (i + 1 + 1)))
+numbers {ws} k (u-len {i} e h n) = num-bound (word ws (i + 1 + 1)) n (k (i + 1 + 1))
 numbers {ws} k (u-count {j = j} h r f n) =
-    ap₂ _&&_ (numbers k r) (num-bound (word ws (j + 1)) n (omega (arith, k (j + 1))))
+    ap₂ _&&_ (numbers k r) (num-bound (word ws (j + 1)) n (k (j + 1)))
 numbers k (b-square e r f) = numbers k r

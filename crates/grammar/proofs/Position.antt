@@ -1,4 +1,4 @@
--- The grammar once more, over positions in the list of words: `Reads ws l X i t j` says that the words from i up to,
+-- The grammar once more, over positions in the list of words: `DerivesAt ws l X i t j` says that the words from i up to,
 -- not including, j are an X with the tree t. Shown is what a reading takes: at least one word, none past the end, at
 -- most eight numbers of records and one node for each word. Assumes nothing.
 use mathlib.Core.Path.{_≡_, refl}
@@ -21,37 +21,37 @@ use Rattle.grammar.specs.Grammar.Symbol.{F, D, C, U, B}
 use Rattle.grammar.specs.Parse.{word}
 
 -- As `Derives` of specs/Grammar.antt, constructor by constructor; true: inside square brackets.
-pub data Reads (ws : List ℕ) : Bool → Symbol → ℕ → Tree → ℕ → Type 0 where
-  f-one : {l : Bool} {i j : ℕ} {t : Tree} → Reads ws l D i t j → Reads ws l F i t j
+pub data DerivesAt (ws : List ℕ) : Bool → Symbol → ℕ → Tree → ℕ → Type 0 where
+  f-one : {l : Bool} {i j : ℕ} {t : Tree} → DerivesAt ws l D i t j → DerivesAt ws l F i t j
   f-then : {i m j : ℕ} {a b : Tree} →
-      Reads ws false D i a m → word ws m ≡ THEN → Reads ws false F (m + 1) b j → Reads ws false F i (then a b) j
+      DerivesAt ws false D i a m → word ws m ≡ THEN → DerivesAt ws false F (m + 1) b j → DerivesAt ws false F i (then a b) j
   f-chop : {i m j : ℕ} {a b : Tree} →
-      Reads ws false D i a m → word ws m ≡ CHOP → Reads ws false F (m + 1) b j → Reads ws false F i (chop a b) j
-  d-one : {l : Bool} {i j : ℕ} {t : Tree} → Reads ws l C i t j → Reads ws l D i t j
+      DerivesAt ws false D i a m → word ws m ≡ CHOP → DerivesAt ws false F (m + 1) b j → DerivesAt ws false F i (chop a b) j
+  d-one : {l : Bool} {i j : ℕ} {t : Tree} → DerivesAt ws l C i t j → DerivesAt ws l D i t j
   d-or : {l : Bool} {i m j : ℕ} {a b : Tree} →
-      Reads ws l D i a m → word ws m ≡ OR → Reads ws l C (m + 1) b j → Reads ws l D i (or a b) j
-  c-one : {l : Bool} {i j : ℕ} {t : Tree} → Reads ws l U i t j → Reads ws l C i t j
+      DerivesAt ws l D i a m → word ws m ≡ OR → DerivesAt ws l C (m + 1) b j → DerivesAt ws l D i (or a b) j
+  c-one : {l : Bool} {i j : ℕ} {t : Tree} → DerivesAt ws l U i t j → DerivesAt ws l C i t j
   c-and : {l : Bool} {i m j : ℕ} {a b : Tree} →
-      Reads ws l C i a m → word ws m ≡ AND → Reads ws l U (m + 1) b j → Reads ws l C i (and a b) j
-  u-not : {l : Bool} {i j : ℕ} {t : Tree} → word ws i ≡ NOT → Reads ws l U (i + 1) t j → Reads ws l U i (neg t) j
+      DerivesAt ws l C i a m → word ws m ≡ AND → DerivesAt ws l U (m + 1) b j → DerivesAt ws l C i (and a b) j
+  u-not : {l : Bool} {i j : ℕ} {t : Tree} → word ws i ≡ NOT → DerivesAt ws l U (i + 1) t j → DerivesAt ws l U i (neg t) j
   u-exists : {i j : ℕ} {t : Tree} →
-      word ws i ≡ EXISTS → isSignal (word ws (i + 1)) ≡ true → Reads ws false U (i + 2) t j →
-      Reads ws false U i (exists (signalWord (word ws (i + 1))) t) j
+      word ws i ≡ EXISTS → isSignal (word ws (i + 1)) ≡ true → DerivesAt ws false U (i + 2) t j →
+      DerivesAt ws false U i (exists (signalWord (word ws (i + 1))) t) j
   u-round : {l : Bool} {i j : ℕ} {t : Tree} →
-      word ws i ≡ ROUND → Reads ws l F (i + 1) t j → word ws j ≡ ROUND-END → Reads ws l U i t (j + 1)
-  u-constant : {i : ℕ} → isBit (word ws i) ≡ true → Reads ws true U i (constant (bitWord (word ws i))) (i + 1)
-  u-signal : {i : ℕ} → isSignal (word ws i) ≡ true → Reads ws true U i (signal (signalWord (word ws i))) (i + 1)
+      word ws i ≡ ROUND → DerivesAt ws l F (i + 1) t j → word ws j ≡ ROUND-END → DerivesAt ws l U i t (j + 1)
+  u-constant : {i : ℕ} → isBit (word ws i) ≡ true → DerivesAt ws true U i (constant (bitWord (word ws i))) (i + 1)
+  u-signal : {i : ℕ} → isSignal (word ws i) ≡ true → DerivesAt ws true U i (signal (signalWord (word ws i))) (i + 1)
   u-test : {i j : ℕ} {p : Tree} →
-      isTest (word ws i) ≡ true → Reads ws false B (i + 1) p j → Reads ws false U i (test (testWord (word ws i)) p) j
+      isTest (word ws i) ≡ true → DerivesAt ws false B (i + 1) p j → DerivesAt ws false U i (test (testWord (word ws i)) p) j
   u-len : {i : ℕ} →
       word ws i ≡ LEN → isOp (word ws (i + 1)) ≡ true → isNum (word ws (i + 1 + 1)) ≡ true →
-      Reads ws false U i (len (opWord (word ws (i + 1))) (numWord (word ws (i + 1 + 1)))) (i + 1 + 2)
+      DerivesAt ws false U i (len (opWord (word ws (i + 1))) (numWord (word ws (i + 1 + 1)))) (i + 1 + 2)
   u-count : {i j : ℕ} {p : Tree} →
-      isCount (word ws i) ≡ true → Reads ws false B (i + 1) p j →
+      isCount (word ws i) ≡ true → DerivesAt ws false B (i + 1) p j →
       isOp (word ws j) ≡ true → isNum (word ws (j + 1)) ≡ true →
-      Reads ws false U i (count (countWord (word ws i)) p (opWord (word ws j)) (numWord (word ws (j + 1)))) (j + 2)
+      DerivesAt ws false U i (count (countWord (word ws i)) p (opWord (word ws j)) (numWord (word ws (j + 1)))) (j + 2)
   b-square : {i j : ℕ} {p : Tree} →
-      word ws i ≡ SQUARE → Reads ws true F (i + 1) p j → word ws j ≡ SQUARE-END → Reads ws false B i p (j + 1)
+      word ws i ≡ SQUARE → DerivesAt ws true F (i + 1) p j → word ws j ≡ SQUARE-END → DerivesAt ws false B i p (j + 1)
 
 -- A word that is not 0 stands before the end,
 pub inside : (ws : List ℕ) (i : ℕ) → 0 < word ws i → i < length ws
@@ -116,7 +116,7 @@ before t x s f =
     record { moves = omega arith; within = x .within; small = omega arith; few = omega arith }
 
 -- and of every reading.
-pub span : {ws : List ℕ} {l : Bool} {c : Symbol} {i j : ℕ} {t : Tree} → Reads ws l c i t j → Span ws i t j
+pub span : {ws : List ℕ} {l : Bool} {c : Symbol} {i j : ℕ} {t : Tree} → DerivesAt ws l c i t j → Span ws i t j
 span (f-one r) = span r
 span (f-then r e s) = joined _ (span r) (span s) (simp length-append (omega arith)) (omega arith)
 span (f-chop r e s) = joined _ (span r) (span s) (simp length-append (omega arith)) (omega arith)

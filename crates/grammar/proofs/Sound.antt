@@ -25,10 +25,10 @@ use Rattle.grammar.specs.Parse.Goal.{goF, goD, goDs, goC, goCs, goU, goA
 use Rattle.grammar.specs.Parse.Join.{join-then, join-chop, join-none}
 use Rattle.grammar.specs.Parse.Unit.{unit-not, unit-round, unit-leaf, unit-exists, unit-atom}
 use Rattle.grammar.specs.Parse.Atom.{atom-test, atom-len, atom-count, atom-none}
-use Rattle.grammar.proofs.Position.{Reads, span, inside, signal-pos, test-pos, count-pos}
-use Rattle.grammar.proofs.Position.Reads.{f-one, f-then, f-chop, d-one, d-or, c-one, c-and}
-use Rattle.grammar.proofs.Position.Reads.{u-not, u-exists, u-round, u-constant, u-signal}
-use Rattle.grammar.proofs.Position.Reads.{u-test, u-len, u-count, b-square}
+use Rattle.grammar.proofs.Position.{DerivesAt, span, inside, signal-pos, test-pos, count-pos}
+use Rattle.grammar.proofs.Position.DerivesAt.{f-one, f-then, f-chop, d-one, d-or, c-one, c-and}
+use Rattle.grammar.proofs.Position.DerivesAt.{u-not, u-exists, u-round, u-constant, u-signal}
+use Rattle.grammar.proofs.Position.DerivesAt.{u-test, u-len, u-count, b-square}
 
 -- ---- results
 
@@ -119,22 +119,22 @@ named w = go (isTest w) (eqb w LEN) (isCount w) refl refl refl
 module _ (ws : List ℕ) where
   -- What an answer to a goal says in the grammar's terms. What follows a D or a C makes a longer one of it.
   abbrev pub Holds : Goal → ℕ → Tree → ℕ → Type 0
-  Holds (goF l) i t j = Reads ws l F i t j
-  Holds (goD l) i t j = Reads ws l D i t j
-  Holds (goDs l a) i t j = (i ≤ j) × ((s : ℕ) → Reads ws l D s a i → Reads ws l D s t j)
-  Holds (goC l) i t j = Reads ws l C i t j
-  Holds (goCs l a) i t j = (i ≤ j) × ((s : ℕ) → Reads ws l C s a i → Reads ws l C s t j)
-  Holds (goU l) i t j = Reads ws l U i t j
-  Holds goA i t j = Reads ws false U i t j
-  Holds goB i t j = Reads ws false B i t j
+  Holds (goF l) i t j = DerivesAt ws l F i t j
+  Holds (goD l) i t j = DerivesAt ws l D i t j
+  Holds (goDs l a) i t j = (i ≤ j) × ((s : ℕ) → DerivesAt ws l D s a i → DerivesAt ws l D s t j)
+  Holds (goC l) i t j = DerivesAt ws l C i t j
+  Holds (goCs l a) i t j = (i ≤ j) × ((s : ℕ) → DerivesAt ws l C s a i → DerivesAt ws l C s t j)
+  Holds (goU l) i t j = DerivesAt ws l U i t j
+  Holds goA i t j = DerivesAt ws false U i t j
+  Holds goB i t j = DerivesAt ws false B i t j
 
   -- Readings whose every answer is so.
   abbrev pub Sound : (Goal → ℕ → Result) → Type 0
   Sound rec = (g : Goal) (i : ℕ) → All (Holds g i) (rec g i)
 
   -- A reading inside or outside square brackets, where it is known which.
-  there : {l : Bool} {c : Symbol} {i j : ℕ} {t : Tree} (b : Bool) → l ≡ b → Reads ws b c i t j → Reads ws l c i t j
-  there {l} {c} {i} {j} {t} b e r = subst (λ (x : Bool). Reads ws x c i t j) (sym e) r
+  there : {l : Bool} {c : Symbol} {i j : ℕ} {t : Tree} (b : Bool) → l ≡ b → DerivesAt ws b c i t j → DerivesAt ws l c i t j
+  there {l} {c} {i} {j} {t} b e r = subst (λ (x : Bool). DerivesAt ws x c i t j) (sym e) r
 
   -- A word that closes,
   sound-closed : {P : Tree → ℕ → Type 0} (w : ℕ) (t : Tree) (j : ℕ) → (word ws j ≡ w → P t (j + 1)) →
@@ -159,11 +159,11 @@ module _ (ws : List ℕ) where
       go false y p q = fails
 
   -- a leaf,
-  sound-leaf : (i : ℕ) → All (λ t j. Reads ws true U i t j) (leafAt ws i)
+  sound-leaf : (i : ℕ) → All (λ t j. DerivesAt ws true U i t j) (leafAt ws i)
   sound-leaf i = go (isSignal (word ws i)) (isBit (word ws i)) refl refl
     where
       go : (x y : Bool) → isSignal (word ws i) ≡ x → isBit (word ws i) ≡ y →
-          All (λ t j. Reads ws true U i t j)
+          All (λ t j. DerivesAt ws true U i t j)
           (cond x (ok (signal (signalWord (word ws i))) (i + 1))
           (cond y (ok (constant (bitWord (word ws i))) (i + 1)) no-rule))
       go true y p q = gives (u-signal p)
@@ -172,8 +172,8 @@ module _ (ws : List ℕ) where
 
   -- and one step over sound readings are sound.
   module _ (rec : Goal → ℕ → Result) (snd : Sound rec) where
-    sound-F : (l : Bool) (k : Join) (i : ℕ) (a : Tree) (m : ℕ) → Joins l (word ws m) k → Reads ws l D i a m →
-        All (λ t j. Reads ws l F i t j) (stepF ws rec k a m)
+    sound-F : (l : Bool) (k : Join) (i : ℕ) (a : Tree) (m : ℕ) → Joins l (word ws m) k → DerivesAt ws l D i a m →
+        All (λ t j. DerivesAt ws l F i t j) (stepF ws rec k a m)
     sound-F l join-then i a m e r =
         all-bind (snd (goF false) (m + 1)) (λ b j s.
         gives (there false (e .0) (f-then (there l (sym (e .0)) r) (e .1) s)))
@@ -199,12 +199,12 @@ module _ (ws : List ℕ) where
     sound-C l false a m e = gives (le-refl m, λ x r. r)
 
     sound-exists : (b : Bool) (i : ℕ) → word ws i ≡ EXISTS → isSignal (word ws (i + 1)) ≡ b →
-        All (λ t j. Reads ws false U i t j) (stepExists ws rec b i)
+        All (λ t j. DerivesAt ws false U i t j) (stepExists ws rec b i)
     sound-exists true i e f = all-bind (snd (goU false) (i + 2)) (λ t j s. gives (u-exists e f s))
     sound-exists false i e f = fails
 
     sound-U : (l : Bool) (k : First) (i : ℕ) → Begins l (word ws i) k →
-        All (λ t j. Reads ws l U i t j) (stepU ws rec l k i)
+        All (λ t j. DerivesAt ws l U i t j) (stepU ws rec l k i)
     sound-U l unit-not i e = all-bind (snd (goU l) (i + 1)) (λ t j s. gives (u-not e s))
     sound-U l unit-round i e =
         all-bind (snd (goF l) (i + 1)) (λ t j s. sound-closed ROUND-END t j (λ f. u-round e s f))
@@ -278,7 +278,7 @@ module _ (ws : List ℕ) where
     same-bind g i f f′ d h = bind-cong (rec g i) (rec′ g i) f f′ (same g i d) (snd g i) h
 
     same-F : (l : Bool) (k : Join) (i : ℕ) (a : Tree) (m : ℕ) → depth ws (goF l) i ≤ n → Joins l (word ws m) k →
-        Reads ws l D i a m → stepF ws rec k a m ≡ stepF ws rec′ k a m
+        DerivesAt ws l D i a m → stepF ws rec k a m ≡ stepF ws rec′ k a m
     same-F l join-then i a m d e r =
         let x = span r in
         let h = inside ws m (omega (arith, e .1)) in

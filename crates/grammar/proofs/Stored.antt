@@ -1,6 +1,5 @@
 -- What a parse function has read and stored, in the terms of specs/Parse.antt; what it has to say of its answer; and the
 -- room that is left in the arena. Assumes nothing.
-use mathlib.Core.Bool.{true, false}
 use mathlib.Core.List.{List, [], _++_}
 use mathlib.Core.Path.{_≡_, refl, sym, ap, ap₂, _∙_, subst}
 use Prim.Native.Nat.{ℕ, _+_, _-_, _*_, _≤_, _<_}
@@ -12,7 +11,7 @@ use Rattle.limits.specs.Limits.{wordLimit}
 use Rattle.lists.proofs.Buffers.{sets-append}
 use Rattle.formulas.specs.Tree.{Tree}
 use Rattle.formulas.specs.Arena.{row, flat}
-use Rattle.grammar.specs.Answer.{answerOf, Reading, Room, Pushed}
+use Rattle.grammar.specs.Contract.{parsedOf, Parses, Room, Pushed}
 use Rattle.grammar.specs.Facts.{factsOf}
 use Rattle.grammar.specs.Parse.{Result, Goal, word, read, bind}
 use Rattle.grammar.specs.Parse.Result.{no-rule, ok}
@@ -85,20 +84,23 @@ pub record Turn (g : Goal) (k : Tree → Goal) (ws : List ℕ) (i : ℕ) (before
   pub part : Part ws i before top n e f after
   pub is : read ws g i ≡ read ws (k (part .tree)) n
 
+-- An answer with a tree is not the one without.
+no-tree-at : {n e : ℕ} {f : Facts} → No ≡ At n e f → ⊥
+no-tree-at q = let z : _≡_ {A = ℕ} 0 1 = cc in omega arith
+
 module _ {g : Goal} {ws : List ℕ} {i : ℕ} {before : List ℕ} {top : ℕ} {r : Parsed} {after : List ℕ} where
   -- What a result says of the answer.
-  answers : {x : Result} → Reading g ws i before top r after → read ws g i ≡ x → answerOf x top ≡ r
-  answers h p = sym (h .result ∙ ap (λ (y : Result). answerOf y top) p)
+  answers : {x : Result} → Parses g ws i before top r after → read ws g i ≡ x → parsedOf x top ≡ r
+  answers h p = sym (h .result ∙ ap (λ (y : Result). parsedOf y top) p)
 
   -- A call took what its answer says; the reading of the goal spans what it took.
-  pub took : {n e : ℕ} {f : Facts} → Reading g ws i before top r after →
+  pub took : {n e : ℕ} {f : Facts} → Parses g ws i before top r after →
       ((t : Tree) (j : ℕ) → Holds ws g i t j → Span ws i t j) → r ≡ At n e f → Took g ws i before top n e f after
   took {n} {e} {f} h span q = go (read ws g i) refl
     where
       go : (x : Result) → read ws g i ≡ x → Took g ws i before top n e f after
       go no-rule p =
-          let b : No ≡ At n e f = answers h p ∙ q in
-          absurd (let z : _≡_ {A = ℕ} 0 1 = cc in omega arith)
+          absurd (no-tree-at (answers h p ∙ q))
       go (ok t j) p =
           let b : At j (top + length (flat t)) (factsOf t) ≡ At n e f = answers h p ∙ q in
           let is : read ws g i ≡ ok t n = p ∙ ap (ok t) (cc) in
@@ -113,20 +115,20 @@ module _ {g : Goal} {ws : List ℕ} {i : ℕ} {before : List ℕ} {top : ℕ} {r
           }
 
   -- A call that gave none read none.
-  pub lost : Reading g ws i before top r after → r ≡ No → read ws g i ≡ no-rule
+  pub lost : Parses g ws i before top r after → r ≡ No → read ws g i ≡ no-rule
   lost h q = go (read ws g i) refl
     where
       go : (x : Result) → read ws g i ≡ x → read ws g i ≡ no-rule
       go no-rule p = p
       go (ok t j) p =
           let b : At j (top + length (flat t)) (factsOf t) ≡ No = answers h p ∙ q in
-          absurd (let z : _≡_ {A = ℕ} 0 1 = cc in omega arith)
+          cc
 
 -- ---- what a return has to say
 
--- What the answer r and the arena say of a result x, as in `Reading` and in `Leaf`.
+-- What the answer r and the arena say of a result x, as in `Parses` and in `ParsesLeaf`.
 pub record Said (x : Result) (before : List ℕ) (top : ℕ) (r : Parsed) (after : List ℕ) : Type 0 where
-  pub result : r ≡ answerOf x top
+  pub result : r ≡ parsedOf x top
   pub filled : (t : Tree) (j : ℕ) → x ≡ ok t j → after ≡ sets before top (flat t)
 
 module _ {x : Result} {before : List ℕ} {top : ℕ} {after : List ℕ} where
@@ -135,7 +137,7 @@ module _ {x : Result} {before : List ℕ} {top : ℕ} {after : List ℕ} where
       Said x before top (At n e f) after
   said {n} t is stored known =
       record {
-        result = ap₂ (At n) (stored .end) known ∙ ap (λ (y : Result). answerOf y top) (sym is);
+        result = ap₂ (At n) (stored .end) known ∙ ap (λ (y : Result). parsedOf y top) (sym is);
         filled = λ t′ j q.
             let same : t ≡ t′ = cc in
             stored .filled ∙ ap (λ (u : Tree). sets before top (flat u)) same;
@@ -145,8 +147,8 @@ module _ {x : Result} {before : List ℕ} {top : ℕ} {after : List ℕ} where
   pub said-no : x ≡ no-rule → Said x before top No after
   said-no is =
       record {
-        result = ap (λ (y : Result). answerOf y top) (sym is);
-        filled = λ t j q. absurd (let z : _≡_ {A = ℕ} 0 1 = cc in omega arith);
+        result = ap (λ (y : Result). parsedOf y top) (sym is);
+        filled = λ t j q. cc;
       }
 
   -- and what is said of another result that is the same.
@@ -155,19 +157,19 @@ module _ {x : Result} {before : List ℕ} {top : ℕ} {after : List ℕ} where
 
 module _ {g : Goal} {ws : List ℕ} {i : ℕ} {before : List ℕ} {top : ℕ} {after : List ℕ} where
   -- In the terms of the contracts.
-  pub reading : {r : Parsed} → Said (read ws g i) before top r after → Reading g ws i before top r after
-  reading h = record { result = h .result; filled = h .filled }
+  pub parses : {r : Parsed} → Said (read ws g i) before top r after → Parses g ws i before top r after
+  parses h = record { result = h .result; filled = h .filled }
 
   pub says : {n e : ℕ} {f : Facts} (t : Tree) → read ws g i ≡ ok t n → Stored before top (flat t) e after → f ≡ factsOf t →
-      Reading g ws i before top (At n e f) after
-  says t is stored known = reading (said t is stored known)
+      Parses g ws i before top (At n e f) after
+  says t is stored known = parses (said t is stored known)
 
-  pub says-no : read ws g i ≡ no-rule → Reading g ws i before top No after
-  says-no is = reading (said-no is)
+  pub says-no : read ws g i ≡ no-rule → Parses g ws i before top No after
+  says-no is = parses (said-no is)
 
   -- None is read where what is read first is not there.
   pub fails : {s : Result} (f : Tree → ℕ → Result) → read ws g i ≡ bind s f → s ≡ no-rule →
-      Reading g ws i before top No after
+      Parses g ws i before top No after
   fails f e l = says-no (e ∙ ap (λ (x : Result). bind x f) l)
 
 -- ---- room

@@ -10,6 +10,7 @@ use native.Mathlib.Omega.{arith}
 use lib.Dec.{eqb}
 use lib.ListN.{length}
 use borrow.Author.Tests.{eqb-true, eq-eqb}
+use Rattle.limits.specs.Limits.{literalCount}
 use Rattle.formulas.specs.Formula.{Formula}
 use Rattle.formulas.specs.Tree.{Tree, nodes, formulaOf}
 use Rattle.formulas.specs.Arena.{flat}
@@ -23,7 +24,7 @@ use Rattle.grammar.proofs.Position.{span}
 use Rattle.grammar.proofs.Complete.{finds, found, one-tree}
 use Rattle.grammar.proofs.Lists.{derived, placed}
 use Rattle.grammar.proofs.Fragment
-use Rattle.grammar.proofs.Numbers.{numbers}
+use Rattle.grammar.proofs.Numbers.{lastWord, numbers}
 
 module _ (ws : List ℕ) (t : Tree) where
   -- The tree that the parser gives is one that the grammar has,
@@ -63,7 +64,7 @@ module _ (ws : List ℕ) (t : Tree) where
   rule-none g e = Fragment.rule-none ws t g e
 
   -- A rule names signals 0 to 63, parameters 0 to 7 and literals 0 to 999,999, where its words are words.
-  pub rule-numbers : Rule ws t → ((i : ℕ) → word ws i ≤ 1999999) → bounded 1000000 t ≡ true
+  pub rule-numbers : Rule ws t → ((i : ℕ) → word ws i ≤ lastWord) → bounded literalCount t ≡ true
   rule-numbers g h = numbers h (placed ws t g)
 
 -- Where the parser gives no tree, the words are no rule.

@@ -13,8 +13,9 @@ use Rattle.formulas.specs.Formula.Test.{begin, end, point, held, kept}
 use Rattle.formulas.specs.Formula.Count.{sum, age}
 use Rattle.formulas.specs.Tree.{Tree}
 use Rattle.formulas.specs.Tree.Tree.{constant, signal, neg, and, or, then, chop, exists, test, len, count}
-use Rattle.words.specs.Word.{ROUND, ROUND-END, SQUARE, SQUARE-END, NOT, AND, OR, LE, BEGIN, LEN, SUM, THEN, CHOP}
-use Rattle.words.specs.Word.{EXISTS, PARAMETER, SIGNAL, LITERAL, isOp, isSignal, isNum, isBit, isTest, isCount}
+use Rattle.words.specs.Word.{ROUND, ROUND-END, SQUARE, SQUARE-END, NOT, AND, OR, LE, BEGIN, LEN, SUM}
+use Rattle.words.specs.Word.{THEN, CHOP, EXISTS, PARAMETER, SIGNAL, LITERAL}
+use Rattle.words.specs.Word.{isOp, isSignal, isNum, isBit, isTest, isCount}
 
 -- What a word stands for in a tree: the constants `0` and `1`, a signal's number, a comparison, n, a test, a count.
 abbrev pub bitWord : ℕ → Bool

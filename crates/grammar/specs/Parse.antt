@@ -10,8 +10,8 @@ use Rattle.traces.specs.Compare.{Op}
 use Rattle.formulas.specs.Formula.{Num}
 use Rattle.formulas.specs.Tree.{Tree}
 use Rattle.formulas.specs.Tree.Tree.{constant, signal, neg, and, or, then, chop, exists, test, len, count}
-use Rattle.words.specs.Word.{ROUND, ROUND-END, SQUARE, SQUARE-END, NOT, AND, OR, LEN, THEN, CHOP, EXISTS, isOp}
-use Rattle.words.specs.Word.{isSignal, isNum, isBit, isTest, isCount}
+use Rattle.words.specs.Word.{ROUND, ROUND-END, SQUARE, SQUARE-END, NOT, AND, OR, LEN, THEN, CHOP, EXISTS}
+use Rattle.words.specs.Word.{isOp, isSignal, isNum, isBit, isTest, isCount}
 use Rattle.grammar.specs.Grammar.{bitWord, signalWord, opWord, numWord, testWord, countWord}
 
 -- The word at a position.

@@ -1,5 +1,5 @@
-// Reading a rule's words by recursive descent (document 01, "Grammar"): F, D, C and U call each other, and the words left
-// fall. A tree is written as records into a lent arena (formulas, specs/Arena.antt).
+// Reading a rule's words by recursive descent (document 01, "Grammar"): F, D, C and U call each other, and the words
+// left fall. A tree is written as records into a lent arena (formulas, specs/Arena.antt).
 ghost use mathlib.Core.Bool.{Bool, true, false, _&&_};
 ghost use mathlib.Core.Path.{_≡_};
 ghost use Prim.Native.Nat.{_+_, _-_, _≤_, _<_};
@@ -14,7 +14,7 @@ ghost use Rattle.grammar.specs.Facts.{leafFacts, atomFacts, negFacts, jo
 ghost use Rattle.grammar.specs.Facts.{existsFacts};
 ghost use Rattle.grammar.specs.Parse.{word};
 ghost use Rattle.grammar.specs.Parse.Goal.{goF, goD, goC, goU, goA, goB};
-ghost use Rattle.grammar.specs.Answer.{Reading, Room, Pushed, Leaf, Compared};
+ghost use Rattle.grammar.specs.Contract.{Parses, Room, Pushed, ParsesLeaf, ParsesComparison};
 
 // What is known of a tree: its nodes, whether it is a lead, and whether the left of each `then` in it is one.
 pub struct Facts {
@@ -184,7 +184,7 @@ fn num_value(n: u32) -> u32
 // `0`, `1` or a signal, the word at a position inside square brackets.
 fn leaf(ws: &[u32], at: usize, arena: &mut [u32], top: usize) -> Parsed
     requires { ⌜ Room (now ws) at (now arena) top ⌝ }
-    ensures { λ r. ⌜ Leaf (now (ws .entry)) at (now (arena .entry)) top r (now (arena .exit)) ⌝ }
+    ensures { λ r. ⌜ ParsesLeaf (now (ws .entry)) at (now (arena .entry)) top r (now (arena .exit)) ⌝ }
 {
     let w = peek(ws, at);
     if words::is_signal(w) {
@@ -201,7 +201,7 @@ fn leaf(ws: &[u32], at: usize, arena: &mut [u32], top: usize) -> Parsed
 // op n at a position: the end of an atom, whose record of kind k is written.
 fn comparison(ws: &[u32], at: usize, arena: &mut [u32], top: usize, k: u32, lead: bool) -> Parsed
     requires { ⌜ (at ≤ wordLimit) × (top + 4 ≤ length (now arena)) ⌝ }
-    ensures { λ r. ⌜ Compared (now (ws .entry)) at (now (arena .entry)) top k lead r (now (arena .exit)) ⌝ }
+    ensures { λ r. ⌜ ParsesComparison (now (ws .entry)) at (now (arena .entry)) top k lead r (now (arena .exit)) ⌝ }
 {
     let o = peek(ws, at);
     let n = peek(ws, at + 1);
@@ -218,7 +218,7 @@ fn comparison(ws: &[u32], at: usize, arena: &mut [u32], top: usize, k: u32, lead
 // "F: D, or D `then` F, or D `chop` F."
 pub fn parse_f(ws: &[u32], inside: bool, at: usize, arena: &mut [u32], top: usize) -> Parsed
     requires { ⌜ Room (now ws) at (now arena) top ⌝ }
-    ensures { λ r. ⌜ Reading (goF inside) (now (ws .entry)) at (now (arena .entry)) top r (now (arena .exit)) ⌝ }
+    ensures { λ r. ⌜ Parses (goF inside) (now (ws .entry)) at (now (arena .entry)) top r (now (arena .exit)) ⌝ }
 {
     let Parsed::At(j, t, a) = parse_d(ws, inside, at, arena, top) else {
         return Parsed::No;
@@ -246,9 +246,9 @@ pub fn parse_f(ws: &[u32], inside: bool, at: usize, arena: &mut [u32], top: usiz
 }
 
 // "D: one or more C joined by `|`, grouped from the left."
-pub fn parse_d(ws: &[u32], inside: bool, at: usize, arena: &mut [u32], top: usize) -> Parsed
+fn parse_d(ws: &[u32], inside: bool, at: usize, arena: &mut [u32], top: usize) -> Parsed
     requires { ⌜ Room (now ws) at (now arena) top ⌝ }
-    ensures { λ r. ⌜ Reading (goD inside) (now (ws .entry)) at (now (arena .entry)) top r (now (arena .exit)) ⌝ }
+    ensures { λ r. ⌜ Parses (goD inside) (now (ws .entry)) at (now (arena .entry)) top r (now (arena .exit)) ⌝ }
 {
     let Parsed::At(first, low, a) = parse_c(ws, inside, at, arena, top) else {
         return Parsed::No;
@@ -268,9 +268,9 @@ pub fn parse_d(ws: &[u32], inside: bool, at: usize, arena: &mut [u32], top: usiz
 }
 
 // "C: likewise U joined by `&`."
-pub fn parse_c(ws: &[u32], inside: bool, at: usize, arena: &mut [u32], top: usize) -> Parsed
+fn parse_c(ws: &[u32], inside: bool, at: usize, arena: &mut [u32], top: usize) -> Parsed
     requires { ⌜ Room (now ws) at (now arena) top ⌝ }
-    ensures { λ r. ⌜ Reading (goC inside) (now (ws .entry)) at (now (arena .entry)) top r (now (arena .exit)) ⌝ }
+    ensures { λ r. ⌜ Parses (goC inside) (now (ws .entry)) at (now (arena .entry)) top r (now (arena .exit)) ⌝ }
 {
     let Parsed::At(first, low, a) = parse_u(ws, inside, at, arena, top) else {
         return Parsed::No;
@@ -290,9 +290,9 @@ pub fn parse_c(ws: &[u32], inside: bool, at: usize, arena: &mut [u32], top: usiz
 }
 
 // "U: `!` U, or `exists` signal U, or `(` F `)`, or an atom."
-pub fn parse_u(ws: &[u32], inside: bool, at: usize, arena: &mut [u32], top: usize) -> Parsed
+fn parse_u(ws: &[u32], inside: bool, at: usize, arena: &mut [u32], top: usize) -> Parsed
     requires { ⌜ Room (now ws) at (now arena) top ⌝ }
-    ensures { λ r. ⌜ Reading (goU inside) (now (ws .entry)) at (now (arena .entry)) top r (now (arena .exit)) ⌝ }
+    ensures { λ r. ⌜ Parses (goU inside) (now (ws .entry)) at (now (arena .entry)) top r (now (arena .exit)) ⌝ }
 {
     let k = peek(ws, at);
     if k == words::NOT {
@@ -329,9 +329,9 @@ pub fn parse_u(ws: &[u32], inside: bool, at: usize, arena: &mut [u32], top: usiz
 }
 
 // "Atoms: `begin[P]`, `end[P]`, `point[P]`, `held[P]`, `kept[P]`, `len` op n, `sum[P]` op n, `age[P]` op n."
-pub fn parse_atom(ws: &[u32], at: usize, arena: &mut [u32], top: usize) -> Parsed
+fn parse_atom(ws: &[u32], at: usize, arena: &mut [u32], top: usize) -> Parsed
     requires { ⌜ Room (now ws) at (now arena) top ⌝ }
-    ensures { λ r. ⌜ Reading goA (now (ws .entry)) at (now (arena .entry)) top r (now (arena .exit)) ⌝ }
+    ensures { λ r. ⌜ Parses goA (now (ws .entry)) at (now (arena .entry)) top r (now (arena .exit)) ⌝ }
 {
     let k = peek(ws, at);
     if words::is_test(k) {
@@ -361,9 +361,9 @@ pub fn parse_atom(ws: &[u32], at: usize, arena: &mut [u32], top: usize) -> Parse
 }
 
 // A P in square brackets.
-pub fn parse_square(ws: &[u32], at: usize, arena: &mut [u32], top: usize) -> Parsed
+fn parse_square(ws: &[u32], at: usize, arena: &mut [u32], top: usize) -> Parsed
     requires { ⌜ Room (now ws) at (now arena) top ⌝ }
-    ensures { λ r. ⌜ Reading goB (now (ws .entry)) at (now (arena .entry)) top r (now (arena .exit)) ⌝ }
+    ensures { λ r. ⌜ Parses goB (now (ws .entry)) at (now (arena .entry)) top r (now (arena .exit)) ⌝ }
 {
     if peek(ws, at) != words::SQUARE {
         return Parsed::No;

@@ -6,12 +6,11 @@ use Prim.Native.Nat.{ℕ, _+_}
 use borrow.Author.Needs.{needs}
 use borrow.Author.Tests.{not-true, not-false}
 use lib.Seq.{sets}
-use native.Mathlib.Omega.{arith}
 use Rattle.traces.specs.Compare.{opNumber}
 use Rattle.formulas.specs.Tree.{upper}
 use Rattle.formulas.specs.Arena.{row, numKind, numValue}
 use Rattle.words.specs.Word.{isOp, isNum}
-use Rattle.grammar.specs.Answer.{Compared, Pushed}
+use Rattle.grammar.specs.Contract.{ParsesComparison, Pushed}
 use Rattle.grammar.specs.Facts.{atomFacts}
 use Rattle.grammar.specs.Grammar.{opWord, numWord}
 use Rattle.grammar.specs.Parse.{comparisonAt, word}
@@ -25,11 +24,11 @@ use Rattle.grammar.proofs.comparison.Tie as tie
 
 module _ {ws : List ℕ} {j : ℕ} {before : List ℕ} {top k : ℕ} {lead : Bool} {after : List ℕ} where
   -- Where one of the words is of another class, nothing is said of the arena.
-  no-comparison : comparisonAt ws j ≡ false → Compared ws j before top k lead No after
+  no-comparison : comparisonAt ws j ≡ false → ParsesComparison ws j before top k lead No after
   no-comparison is =
       record {
         result = simp is;
-        filled = λ q. absurd (let z : _≡_ {A = ℕ} 0 1 = cc in omega arith);
+        filled = λ q. cc;
       }
 
   -- Where both are of their class, the record has what the words o and n stand for.
@@ -38,7 +37,7 @@ module _ {ws : List ℕ} {j : ℕ} {before : List ℕ} {top k : ℕ} {lead : Boo
       let n = word ws (j + 1) in
       a ≡ opNumber (opWord o) → b ≡ numKind (numWord n) → c ≡ numValue (numWord n) →
       Pushed before top k a b c e after → f ≡ atomFacts (lead && upper (opWord o)) →
-      Compared ws j before top k lead (At (j + 2) e f) after
+      ParsesComparison ws j before top k lead (At (j + 2) e f) after
   comparison {a} {b} {c} {e} {f} is ea eb ec pushed facts =
       let o = opWord (word ws j) in
       let at : ℕ → Facts → Parsed = At (j + 2) in

@@ -11,7 +11,7 @@ use Rattle.formulas.specs.Arena.{row, flat, CONSTANT, SIGNAL}
 use Rattle.formulas.specs.Tree.{Tree}
 use Rattle.formulas.specs.Tree.Tree.{constant, signal}
 use Rattle.words.specs.Word.{isBit, isSignal}
-use Rattle.grammar.specs.Answer.{Leaf, Pushed}
+use Rattle.grammar.specs.Contract.{ParsesLeaf, Pushed}
 use Rattle.grammar.specs.Facts.{factsOf, leafFacts}
 use Rattle.grammar.specs.Grammar.{bitWord, signalWord}
 use Rattle.grammar.specs.Parse.{leafAt, word}
@@ -27,17 +27,17 @@ use Rattle.grammar.proofs.leaf.Tie as tie
 
 module _ {ws : List ℕ} {i : ℕ} {before : List ℕ} {top : ℕ} {after : List ℕ} where
   -- In the terms of the contract.
-  leaf : {r : Parsed} → Said (leafAt ws i) before top r after → Leaf ws i before top r after
+  leaf : {r : Parsed} → Said (leafAt ws i) before top r after → ParsesLeaf ws i before top r after
   leaf h = record { result = h .result; filled = h .filled }
 
   -- The record of a tree t without parts.
   one-record : (t : Tree) {k a e : ℕ} {f : Facts} → leafAt ws i ≡ ok t (i + 1) → factsOf t ≡ leafFacts →
       flat t ≡ row k a 0 0 → Pushed before top k a 0 0 e after → f ≡ leafFacts →
-      Leaf ws i before top (At (i + 1) e f) after
+      ParsesLeaf ws i before top (At (i + 1) e f) after
   one-record t is known records u facts = leaf (said t is (stored-as (sym records) (pushed u)) (facts ∙ sym known))
 
   -- Another word is none of them.
-  no-leaf : isSignal (word ws i) ≡ false → isBit (word ws i) ≡ false → Leaf ws i before top No after
+  no-leaf : isSignal (word ws i) ≡ false → isBit (word ws i) ≡ false → ParsesLeaf ws i before top No after
   no-leaf s b = leaf (said-no (simp (s, b)))
 
 -- The places: the start; the word, where it is a signal; and where it is a bit.
