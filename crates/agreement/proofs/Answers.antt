@@ -25,11 +25,11 @@ use Rattle.tables.specs.declared.Checked.the-variants.{Passed}
 use Rattle.flows.specs.declared.Fresh.the-variants.{Made}
 use Rattle.tables.proofs.Checks.{passed-both}
 use Rattle.flows.proofs.Runs.{lustre, calls}
-use Rattle.agreement.specs.Emit.{names, numbersOf}
+use Rattle.scheme.specs.Emit.{names, numbersOf}
 use Rattle.agreement.specs.Agreement.{SameParameters, traceOfTicks}
-use Rattle.agreement.proofs.Parts.{observerOver}
-use Rattle.agreement.proofs.Formed.{formed-over, last-over, last-boolean}
-use Rattle.agreement.proofs.Local.{on, boolean-number}
+use Rattle.scheme.proofs.Parts.{observerOver}
+use Rattle.scheme.proofs.Formed.{formed-over, last-over, last-boolean}
+use Rattle.scheme.proofs.Local.{on, boolean-number}
 use Rattle.agreement.proofs.Verdicts.{verdict-over}
 use Rattle.agreement.proofs.Calls.{Small, same-at, same-answers}
 

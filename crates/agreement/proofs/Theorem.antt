@@ -15,11 +15,11 @@ use Rattle.limits.specs.Limits.{equationLimit, signalCount}
 use Rattle.tables.specs.Table.{checked}
 use Rattle.flows.specs.Step.{AfterFresh}
 use Rattle.tables.specs.declared.Checked.the-variants.{Passed}
-use Rattle.agreement.specs.Emit.{names, observer, numbersOf}
+use Rattle.scheme.specs.Emit.{names, observer, numbersOf}
 use Rattle.agreement.specs.Agreement.{Observes}
-use Rattle.agreement.proofs.Header.{names-below}
-use Rattle.agreement.proofs.Sizes.{observer-size}
-use Rattle.agreement.proofs.Memories.{memories-few}
+use Rattle.scheme.proofs.Header.{names-below}
+use Rattle.scheme.proofs.Sizes.{observer-size}
+use Rattle.scheme.proofs.Memories.{memories-few}
 use Rattle.agreement.proofs.Answers.{made, passes, answered}
 
 -- For every cap up to a million, every formula f whose `then`s have leads on their left, whose signals, parameters and

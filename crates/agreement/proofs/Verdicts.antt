@@ -1,64 +1,31 @@
 -- The verdict of an observer is its formula's, at every tick: in any flows that satisfy its table's equations, on a
 -- trace whose parameters are the same at all ticks and below the cap. Assumes nothing.
-use mathlib.Core.Bool.{Bool, true, false, not, _||_}
+use mathlib.Core.Bool.{true, not}
 use mathlib.Core.List.{List, _++_}
-use mathlib.Core.Option.{Option}
-use mathlib.Core.Path.{_≡_, ap, _∙_}
-use Prim.Native.Nat.{ℕ, zero, suc, _<_}
+use mathlib.Core.Path.{_≡_}
+use Prim.Native.Nat.{ℕ, _<_}
 use lib.ListN.{length}
 use Rattle.traces.specs.Trace.{Trace, truth, signalAt, parameterAt, starts}
 use Rattle.formulas.specs.Formula.{Formula}
-use Rattle.formulas.specs.Meaning.{meaning, since, verdict}
+use Rattle.formulas.specs.Meaning.{verdict}
 use Rattle.formulas.specs.Tree.{leads}
 use Rattle.formulas.specs.Bounds.{bounded}
 use Rattle.formulas.specs.Raw.{raw}
 use Rattle.tables.specs.Table.{kindOf}
 use Rattle.limits.specs.Limits.{parameterCount}
 use Rattle.flows.specs.Lustre.{Lustre}
-use Rattle.agreement.specs.Scheme.{_⊕_}
-use Rattle.agreement.specs.Emit.{names, whole-es, numbersOf}
-use Rattle.agreement.proofs.Offsets.{zero-⊕}
-use Rattle.agreement.proofs.Places.{each-left, each-right}
-use Rattle.agreement.proofs.Parts.{headRows, flowAmong, bodyPlace, bodyBlock, wholePlace, wholeRows}
-use Rattle.agreement.proofs.Parts.{observerOver}
-use Rattle.agreement.proofs.Header.{signal-at}
-use Rattle.agreement.proofs.Local.{on, LocalAt, Stand, all-stand}
-use Rattle.agreement.proofs.Atoms.{Since}
-use Rattle.agreement.proofs.Nodes.{Agrees, agrees}
-use Rattle.agreement.proofs.Starts.{Never, Latest, latest-is}
+use Rattle.scheme.specs.Scheme.{_⊕_}
+use Rattle.scheme.specs.Emit.{names, numbersOf}
+use Rattle.scheme.proofs.Offsets.{zero-⊕}
+use Rattle.scheme.proofs.Places.{each-left, each-right}
+use Rattle.scheme.proofs.Parts.{headRows, flowAmong, bodyPlace, bodyBlock, wholePlace, wholeRows}
+use Rattle.scheme.proofs.Parts.{observerOver}
+use Rattle.scheme.proofs.Header.{signal-at}
+use Rattle.scheme.proofs.Local.{on, LocalAt, Stand, all-stand}
+use Rattle.scheme.proofs.Nodes.{Agrees, agrees}
+use Rattle.scheme.proofs.Closing.{whole-is}
 
 module _ (cap : ℕ) (trace : Trace) (flow : ℕ → ℕ → ℕ) where
-  -- ---- the closing rows
-
-  module _ (s o v : ℕ) (h : Stand cap trace flow o (whole-es s o v)) where
-    -- Started since the latest start,
-    started : (b d : ℕ) → Since (on flow s) b d → on flow (o ⊕ 1) (b ⊕ d) ≡ true
-    unfolding kindOf
-    started b zero begun = rw (h .1 .0 b, begun)
-    started b (suc d) begun = rw (h .1 .0 (suc (b ⊕ d)), begun .1, h .0 .1 (b ⊕ d), started b d (begun .0))
-
-    -- and not before any.
-    not-started : (e : ℕ) → Never (on flow s) e → on flow (o ⊕ 1) e ≡ false
-    unfolding kindOf
-    not-started zero never = rw (h .1 .0 0, never, h .0 .0)
-    not-started (suc e) never = rw (h .1 .0 (suc e), never .1, h .0 .1 e, not-started e (never .0))
-
-    shown : (e : ℕ) → on flow (o ⊕ 3) e ≡ not (on flow (o ⊕ 1) e) || on flow v e
-    unfolding kindOf
-    shown e = h .1 .1 .1 .0 e ∙ ap (λ (x : Bool). x || on flow v e) (h .1 .1 .0 e)
-
-    module _ (f : Formula) (begins : (k : ℕ) → on flow s k ≡ starts (trace k))
-        (agree : Agrees cap trace flow s v f) where
-      whole-is : (e : ℕ) → truth (on flow (o ⊕ 3) e) ≡ verdict trace f e
-      whole-is e = rw (shown e) (go (latest-is trace (on flow s) begins e))
-        where
-          go : {x : Option ℕ} → Latest (on flow s) e x
-              → truth (not (on flow (o ⊕ 1) e) || on flow v e) ≡ since trace (λ b. meaning trace f b e) x
-          go (Latest.never never) = rw (not-started e never)
-          go (Latest.since b d end begun) = rw (← end, started b d begun, agree b d begun)
-
-  -- ---- the observer
-
   module _ (same : (i j : ℕ) → (trace i) .parameters ≡ (trace j) .parameters)
       (small : (k j : ℕ) → j < parameterCount → parameterAt (trace k) j < cap)
       (m : ℕ) (f : Formula) (led : leads (raw f) ≡ true) (bound : bounded cap (raw f) ≡ true)
@@ -100,6 +67,6 @@ module _ (cap : ℕ) (trace : Trace) (flow : ℕ → ℕ → ℕ) where
 
     pub verdict-over : (e : ℕ) → truth (on flow (wholePlace m f ⊕ 3) e) ≡ verdict trace f e
     verdict-over e =
-        whole-is 0 (wholePlace m f) (bodyBlock m f .out)
+        whole-is cap trace flow 0 (wholePlace m f) (bodyBlock m f .out)
         (each-right (LocalAt cap trace flow) (bodyBlock m f .es) (wholeRows m f) (bodyPlace m f) rest)
         f begins body-agrees e

@@ -1,20 +1,19 @@
 -- Demand 3: the agreement of an observer's answers with the interval meaning, as one statement about a list of calls
 -- (document 01, "Interval meaning", last paragraph). Definitions only; the theorem is in proofs/Theorem.antt.
-use mathlib.Core.Bool.{cond}
 use mathlib.Core.List.{List, [], _∷_}
 use mathlib.Core.Path.{_≡_}
-use Prim.Native.Nat.{ℕ, zero, suc, _+_, _*_, _≤_}
+use Prim.Native.Nat.{ℕ, _+_, _*_, _≤_}
 use lib.ListN.{length}
 use Rattle.traces.specs.declared.Tick.{Tick}
 use Rattle.traces.specs.Trace.{Trace, traceOf}
 use Rattle.formulas.specs.Formula.{Formula}
 use Rattle.formulas.specs.Meaning.{verdict}
-use Rattle.tables.specs.Table.{kindAt, checked}
-use Rattle.tables.specs.Table.{isMemory}
+use Rattle.tables.specs.Table.{checked}
 use Rattle.flows.specs.Step.{freshened}
 use Rattle.flows.specs.Run.{Call, answers, ticks, expected}
 use Rattle.tables.specs.declared.Checked.the-variants.{Passed}
 use Rattle.flows.specs.declared.Fresh.the-variants.{Made}
+use Rattle.scheme.specs.Memories.{memories}
 
 -- "only the eight parameters are the same at all steps that are not refused"
 pub data SameParameters (ps : List ℕ) : List Tick → Type 0 where
@@ -24,11 +23,6 @@ pub data SameParameters (ps : List ℕ) : List Tick → Type 0 where
 -- The trace of the ticks; past the last one, which no verdict looks at, ticks with those parameters.
 abbrev pub traceOfTicks : List ℕ → List Tick → Trace
 traceOfTicks ps ks = traceOf (record { start = 0; signals = 0; parameters = ps }) ks
-
--- "Memories are counted over the n equations": kinds 6 and 7.
-abbrev pub memories : List ℕ → ℕ → ℕ
-memories t zero = 0
-memories t (suc i) = cond (isMemory (kindAt t i)) (suc (memories t i)) (memories t i)
 
 -- The n equations of the table are an observer of the formula f, which has that many nodes.
 pub record Observes (cap : ℕ) (t : List ℕ) (n : ℕ) (f : Formula) (nodes : ℕ) : Type 0 where

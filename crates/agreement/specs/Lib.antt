@@ -1,5 +1,3 @@
--- Observers: the equations of a formula, and what their agreement with the interval meaning is.
-pub mod Scheme
-pub mod Emit
+-- The agreement of an observer's answers with the interval meaning.
 pub mod Agreement
 pub mod Trials

@@ -17,7 +17,7 @@ use Rattle.limits.specs.Limits.{standardCap}
 use Rattle.flows.specs.Step.{freshened}
 use Rattle.flows.specs.Run.{answers}
 use Rattle.flows.specs.declared.Stepped.{Stepped}
-use Rattle.agreement.specs.Emit.{observer, numbersOf}
+use Rattle.scheme.specs.Emit.{observer, numbersOf}
 use Rattle.agreement.specs.Agreement.{traceOfTicks}
 
 pub record Trial : Type 0 where

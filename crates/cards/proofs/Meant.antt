@@ -29,10 +29,10 @@ use Rattle.flows.specs.declared.Stepped.{Stepped}
 use Rattle.flows.specs.declared.Stepped.the-variants as S
 use Rattle.tables.proofs.Tests.{all-of}
 use Rattle.flows.proofs.Buffers.{length-flows}
-use Rattle.agreement.specs.Emit.{observer, numbersOf}
+use Rattle.scheme.specs.Emit.{observer, numbersOf}
 use Rattle.agreement.specs.Agreement.{Observes, SameParameters, traceOfTicks}
 use Rattle.agreement.specs.Agreement.SameParameters.{none as same-none, more as same-more}
-use Rattle.agreement.proofs.Sizes.{observer-size}
+use Rattle.scheme.proofs.Sizes.{observer-size}
 use Rattle.emitter.proofs.Size.{observer-front}
 use Rattle.rules.specs.Reading.{ruleOf}
 use Rattle.rules.specs.Reading.Outcome.{rule}

@@ -11,8 +11,8 @@ use lib.Seq.{getD-at, set-at}
 use Rattle.traces.specs.Trace.{nonzero}
 use Rattle.tables.specs.Table.{Equation}
 use Rattle.limits.specs.Limits.{signalCount}
-use Rattle.agreement.specs.Scheme.{equation}
-use Rattle.agreement.specs.Emit.{after, signals, places}
+use Rattle.scheme.specs.Scheme.{equation}
+use Rattle.scheme.specs.Emit.{after, signals, places}
 use Rattle.emitter.specs.Machine.{written, Header, headerOf, settled, settle}
 use Rattle.emitter.specs.Contract.{Headed}
 use Rattle.emitter.proofs.Written.{written-append}

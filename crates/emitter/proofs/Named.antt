@@ -18,7 +18,7 @@ use Rattle.formulas.specs.Formula.Formula.{test, len, count, neg, and, or, then
 use Rattle.formulas.specs.Arena.{CONSTANT, SIGNAL, NOT, AND, OR, TEST, LEN, COUNT, LEAD-END, THEN}
 use Rattle.formulas.specs.Arena.{testNumber, countNumber, numKind, numValue, row, flat}
 use Rattle.formulas.proofs.Formulas.{rawP, raw}
-use Rattle.agreement.specs.Emit.{namesP, names}
+use Rattle.scheme.specs.Emit.{namesP, names}
 use Rattle.emitter.specs.Machine.{marked, marks}
 
 -- The records l mark the signals of ν, whatever records follow: `on` are the marks then.

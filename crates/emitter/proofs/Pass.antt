@@ -15,9 +15,9 @@ use Rattle.formulas.specs.Arena.{numValue}
 use Rattle.formulas.specs.Arena.{row, flat}
 use Rattle.formulas.proofs.Formulas.{rawP, raw}
 use Rattle.tables.specs.Table.{Equation}
-use Rattle.agreement.specs.Scheme.{_⊕_}
-use Rattle.agreement.specs.Emit.{Block, after, emitP, emit, not-block, join-block, atom-block, not-es, and-es, or-es}
-use Rattle.agreement.specs.Emit.{begin-es, point-es, held-es, kept-es, sum-es, age-es, lead-end-es, then-es}
+use Rattle.scheme.specs.Scheme.{_⊕_}
+use Rattle.scheme.specs.Emit.{Block, after, emitP, emit, not-block, join-block, atom-block, not-es, and-es, or-es}
+use Rattle.scheme.specs.Emit.{begin-es, point-es, held-es, kept-es, sum-es, age-es, lead-end-es, then-es}
 use Rattle.emitter.specs.Machine.{written, nodes, nodeOf, State, state, before, recordOf}
 use Rattle.emitter.specs.Machine.{valuesAt, applied, step, run}
 use Rattle.emitter.proofs.Written.{written-none, written-append, after-append}

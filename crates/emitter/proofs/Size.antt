@@ -9,7 +9,7 @@ use lib.Seq.{sets, sets-eq}
 use Rattle.formulas.specs.Formula.{Formula}
 use Rattle.tables.specs.Table.{Equation}
 use Rattle.limits.specs.Limits.{equationLimit}
-use Rattle.agreement.specs.Emit.{observer, numbersOf}
+use Rattle.scheme.specs.Emit.{observer, numbersOf}
 use Rattle.emitter.proofs.Written.{numbers-length}
 
 -- "9: the lent table has under 16,384 numbers.": in a table of that many, an observer's equations stand at the front,

@@ -7,7 +7,7 @@ use native.Mathlib.Numerals.{add-one}
 use native.Mathlib.Omega.{arith}
 use lib.ListN.{getD, set, drop, length}
 use lib.Seq.{getD-set-same, getD-set-other}
-use Rattle.agreement.specs.Scheme.{_⊕_, fill}
+use Rattle.scheme.specs.Scheme.{_⊕_, fill}
 use Rattle.emitter.specs.Machine.{widest, written, Node, node, nodeOf, before, stacked, valuesAt, applied, step}
 use Rattle.emitter.specs.Contract.{Pushed, Added, Stepped}
 use Rattle.emitter.specs.declared.Place.{Place}

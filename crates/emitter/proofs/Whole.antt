@@ -11,8 +11,8 @@ use Rattle.formulas.specs.Arena.{flat}
 use Rattle.formulas.proofs.Formulas.{raw}
 use Rattle.tables.specs.Table.{Equation}
 use Rattle.limits.specs.Limits.{signalCount}
-use Rattle.agreement.specs.Scheme.{_⊕_}
-use Rattle.agreement.specs.Emit.{Block, after, emit, names, signals, places, whole-es}
+use Rattle.scheme.specs.Scheme.{_⊕_}
+use Rattle.scheme.specs.Emit.{Block, after, emit, names, signals, places, whole-es}
 use Rattle.emitter.specs.Machine.{arenaLimit, WHOLE, written, nodes, nodeOf, State, state, recordOf, valuesAt}
 use Rattle.emitter.specs.Machine.{applied, step, run, ran, marks, Header, headerOf, settle, headed}
 use Rattle.emitter.specs.Contract.{Emitted, Ran, Headed}

@@ -9,8 +9,8 @@ use lib.ListN.{length, getD, set}
 use lib.Seq.{sets}
 use Rattle.lists.proofs.Buffers.{sets-append}
 use Rattle.tables.specs.Table.{Equation}
-use Rattle.agreement.specs.Scheme.{equation, rowAt, resolved, fill}
-use Rattle.agreement.specs.Emit.{after, numbersOf}
+use Rattle.scheme.specs.Scheme.{equation, rowAt, resolved, fill}
+use Rattle.scheme.specs.Emit.{after, numbersOf}
 use Rattle.emitter.specs.Machine.{written, rowOf}
 use Rattle.emitter.specs.declared.Row.{Row}
 

@@ -8,7 +8,7 @@ use Rattle.formulas.specs.Formula.{Formula}
 use Rattle.formulas.specs.Arena.{flat}
 use Rattle.formulas.specs.Raw.{raw}
 use Rattle.limits.specs.Limits.{equationLimit, signalCount}
-use Rattle.agreement.specs.Emit.{observer, numbersOf}
+use Rattle.scheme.specs.Emit.{observer, numbersOf}
 use Rattle.emitter.specs.Machine.{State, state, Node, applied, step, ran, stacked, widest, headerOf, headed}
 use Rattle.emitter.specs.declared.Place.{Place}
 use Rattle.emitter.specs.declared.Record.{Record}

@@ -13,9 +13,9 @@ use Rattle.traces.specs.Trace.{nonzero}
 use Rattle.formulas.specs.Arena as arena
 use Rattle.tables.specs.Table.{Equation}
 use Rattle.limits.specs.Limits.{signalCount}
-use Rattle.agreement.specs.Scheme.{_⊕_, equation, rowAt, fill, values}
-use Rattle.agreement.specs.Scheme.{N, P, Q, SIGNAL, O, O1, O3, O4}
-use Rattle.agreement.specs.Emit.{numbersOf}
+use Rattle.scheme.specs.Scheme.{_⊕_, equation, rowAt, fill, values}
+use Rattle.scheme.specs.Scheme.{N, P, Q, SIGNAL, O, O1, O3, O4}
+use Rattle.scheme.specs.Emit.{numbersOf}
 use Rattle.emitter.specs.declared.Row.{Row}
 use Rattle.emitter.specs.declared.Record.{Record}
 

@@ -8,7 +8,7 @@ ghost use mathlib.Core.List.{[], _∷_};
 ghost use Prim.Native.Nat.{_≤_, _<_, _+_, _-_};
 ghost use lib.ListN.{getD, set, length};
 ghost use Rattle.limits.specs.Limits.{equationLimit, signalCount};
-ghost use Rattle.agreement.specs.Scheme.{equation, rowAt, resolved, fill, values};
+ghost use Rattle.scheme.specs.Scheme.{equation, rowAt, resolved, fill, values};
 ghost use Rattle.emitter.specs.Machine.{arenaLimit, widest, written, rowOf, node, before, recordAt};
 ghost use Rattle.emitter.specs.Machine.{valuesAt, stacked, marked, marks, headerOf, settled};
 ghost use Rattle.emitter.specs.Contract.{Emitted, Room, Pushed, Added, Stepped, Ran, Headed};

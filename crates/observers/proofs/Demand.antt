@@ -20,11 +20,11 @@ use Rattle.formulas.proofs.Formulas.{formula-raw}
 use Rattle.grammar.proofs.Theorems.{rule-numbers, rule-size}
 use Rattle.tables.specs.Table.{Equation}
 use Rattle.limits.specs.Limits.{standardCap}
-use Rattle.agreement.specs.Emit.{observer, numbersOf}
+use Rattle.scheme.specs.Emit.{observer, numbersOf}
 use Rattle.agreement.specs.Agreement.{Observes}
 use Rattle.agreement.proofs.Theorem.{observes}
 use Rattle.emitter.specs.Contract.{Emitted}
-use Rattle.agreement.proofs.Sizes.{observer-size}
+use Rattle.scheme.proofs.Sizes.{observer-size}
 use Rattle.emitter.proofs.Size.{observer-front}
 use Rattle.emitter.proofs.Written.{numbers-length}
 use Rattle.rules.specs.Reading.{Outcome, ruleOf}

@@ -19,7 +19,7 @@ use Rattle.flows.specs.Step.{freshened, freshChecked, stepped, stepChecked, aft
 use Rattle.flows.specs.Run.{Call, answers}
 use Rattle.flows.specs.declared.Stepped.{Stepped}
 use Rattle.flows.specs.declared.Stepped.the-variants.{Verdict, Refused}
-use Rattle.agreement.specs.Emit.{numbersOf}
+use Rattle.scheme.specs.Emit.{numbersOf}
 use Rattle.words.specs.Split.{classOf, run, keywordAmong, keywordOf, digits as areDigits, decimal, numberOf, runOf}
 use Rattle.words.specs.Split.{wordOf, words, splitOf}
 use Rattle.words.specs.Word.{isOp, isSignal, isNum, isBit, isTest, isCount}

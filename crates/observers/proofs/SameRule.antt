@@ -12,7 +12,7 @@ use Rattle.limits.specs.Limits.{standardCap}
 use Rattle.flows.specs.Step.{AfterFresh, freshened}
 use Rattle.flows.specs.Run.{Call, answers, ticks, expected}
 use Rattle.agreement.specs.Agreement.{SameParameters, traceOfTicks, Observes}
-use Rattle.agreement.specs.Emit.{observer}
+use Rattle.scheme.specs.Emit.{observer}
 use Rattle.rules.specs.Reading.{ruleOf}
 use Rattle.rules.specs.Reading.Outcome.{refused, rule}
 use Rattle.rules.proofs.SameRule.{SameRule, yes-tree}

@@ -11,7 +11,7 @@ use lib.Seq.{sets}
 use Rattle.formulas.specs.Formula.{Formula}
 use Rattle.formulas.specs.Tree.{Tree, formulaOf}
 use Rattle.tables.specs.Table.{Equation}
-use Rattle.agreement.specs.Emit.{observer, numbersOf}
+use Rattle.scheme.specs.Emit.{observer, numbersOf}
 use Rattle.rules.specs.Reading.{Outcome, ruleOf}
 use Rattle.rules.specs.Reading.Outcome.{refused, rule}
 use Rattle.observers.specs.declared.Compiled.{Compiled}

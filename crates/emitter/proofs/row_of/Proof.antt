@@ -3,7 +3,7 @@ use mathlib.Core.Path.{_≡_, sym, ap}
 use Prim.Native.Nat.{ℕ}
 use lib.ListN.{List·getD-eq-default}
 use Rattle.tables.proofs.Numbers.{none-below}
-use Rattle.agreement.specs.Scheme.{equation, rows}
+use Rattle.scheme.specs.Scheme.{equation, rows}
 use Rattle.emitter.specs.Machine.{asRow, rowOf}
 use Rattle.emitter.proofs.row_of.Statement.{statement}
 use Rattle.emitter.proofs.row_of.Tie as tie

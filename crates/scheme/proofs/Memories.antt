@@ -17,11 +17,11 @@ use Rattle.formulas.specs.Tree.{nodes}
 use Rattle.formulas.specs.Raw.{raw}
 use Rattle.tables.specs.Table.{Equation, kindOf, kindAt}
 use Rattle.tables.specs.Table.{isMemory}
-use Rattle.agreement.specs.Scheme.{_⊕_, equation}
-use Rattle.agreement.specs.Emit.{after, emitP, emit, names, flowIn, signals, header, whole-es, body, observer}
-use Rattle.agreement.specs.Emit.{numbersOf}
-use Rattle.agreement.specs.Agreement.{memories}
-use Rattle.agreement.proofs.Places.{four-more}
+use Rattle.scheme.specs.Scheme.{_⊕_, equation}
+use Rattle.scheme.specs.Emit.{after, emitP, emit, names, flowIn, signals, header, whole-es, body, observer}
+use Rattle.scheme.specs.Emit.{numbersOf}
+use Rattle.scheme.specs.Memories.{memories}
+use Rattle.scheme.proofs.Places.{four-more}
 
 -- The memories of a formula's own equations: one for each `begin`, `kept`, `held`, `len`, `sum` and `age`, two for
 -- each `then`.

@@ -7,11 +7,11 @@ use native.Mathlib.Omega.{arith}
 use Rattle.traces.specs.Trace.{Trace}
 use Rattle.formulas.specs.Meaning.{any}
 use Rattle.tables.specs.Table.{kindOf}
-use Rattle.agreement.specs.Scheme.{_⊕_}
-use Rattle.agreement.specs.Emit.{lead-end-es, then-es}
-use Rattle.agreement.proofs.Offsets.{⊕-add, any-none, any-one}
-use Rattle.agreement.proofs.Local.{on, Stand}
-use Rattle.agreement.proofs.Atoms.{Since}
+use Rattle.scheme.specs.Scheme.{_⊕_}
+use Rattle.scheme.specs.Emit.{lead-end-es, then-es}
+use Rattle.scheme.proofs.Offsets.{⊕-add, any-none, any-one}
+use Rattle.scheme.proofs.Local.{on, Stand}
+use Rattle.scheme.proofs.Atoms.{Since}
 
 -- ---- the meaning
 

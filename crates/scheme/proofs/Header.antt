@@ -14,11 +14,11 @@ use Rattle.formulas.specs.Bounds.{bounded, numBound}
 use Rattle.formulas.specs.Raw.{rawP, raw}
 use Rattle.tables.specs.Table.{Equation, kindOf, shapeOf, shapeFits, operandFits}
 use Rattle.limits.specs.Limits.{signalCount}
-use Rattle.agreement.specs.Scheme.{_⊕_, equation}
-use Rattle.agreement.specs.Emit.{after, namesP, names, signals, places}
-use Rattle.agreement.proofs.Offsets.{suc-⊕}
-use Rattle.agreement.proofs.Places.{after-later, Each}
-use Rattle.agreement.proofs.Roles.{Fits}
+use Rattle.scheme.specs.Scheme.{_⊕_, equation}
+use Rattle.scheme.specs.Emit.{after, namesP, names, signals, places}
+use Rattle.scheme.proofs.Offsets.{suc-⊕}
+use Rattle.scheme.proofs.Places.{after-later, Each}
+use Rattle.scheme.proofs.Roles.{Fits}
 
 -- ---- the named signals among the m from j on
 

@@ -16,11 +16,11 @@ use Rattle.formulas.specs.Bounds.{numBound}
 use Rattle.formulas.specs.Arena.{numKind, numValue}
 use Rattle.tables.specs.Table.{kindOf}
 use Rattle.limits.specs.Limits.{parameterCount}
-use Rattle.agreement.specs.Scheme.{_⊕_, equation}
-use Rattle.agreement.specs.Emit.{begin-es, point-es, kept-es, held-es, len-es, sum-es, age-es}
-use Rattle.agreement.proofs.Offsets.{longer, each-last, tally-last, streak-single}
-use Rattle.agreement.proofs.Local.{on, Stand}
-use Rattle.agreement.proofs.Caps.{compares-held, increased-held, restarted-held, first-held}
+use Rattle.scheme.specs.Scheme.{_⊕_, equation}
+use Rattle.scheme.specs.Emit.{begin-es, point-es, kept-es, held-es, len-es, sum-es, age-es}
+use Rattle.scheme.proofs.Offsets.{longer, each-last, tally-last, streak-single}
+use Rattle.scheme.proofs.Local.{on, Stand}
+use Rattle.scheme.proofs.Caps.{compares-held, increased-held, restarted-held, first-held}
 
 -- s at tick b and at none of the d ticks after it: b is the latest start at b ⊕ d.
 abbrev pub Since : (ℕ → Bool) → ℕ → ℕ → Type 0

@@ -20,15 +20,15 @@ use Rattle.formulas.specs.Raw.{rawP, raw}
 use Rattle.formulas.proofs.Meaning.{lead-falls}
 use Rattle.tables.specs.Table.{Equation, kindOf}
 use Rattle.limits.specs.Limits.{parameterCount}
-use Rattle.agreement.specs.Scheme.{_⊕_}
-use Rattle.agreement.specs.Emit.{Block, after, emitP, emit, namesP, names, lead-end-es, then-es}
-use Rattle.agreement.specs.Emit.{begin-es, point-es, kept-es, held-es, sum-es, age-es}
-use Rattle.agreement.proofs.Offsets.{⊕-add, span, lt-longer, eq-longer}
-use Rattle.agreement.proofs.Places.{each-left, each-right}
-use Rattle.agreement.proofs.Local.{on, LocalAt, Stand}
-use Rattle.agreement.proofs.Atoms.{Since, begin-is, point-is, kept-is, held-is, len-is, sum-is, age-is}
-use Rattle.agreement.proofs.Atoms.{compare-is}
-use Rattle.agreement.proofs.Then.{then-is, second-negated}
+use Rattle.scheme.specs.Scheme.{_⊕_}
+use Rattle.scheme.specs.Emit.{Block, after, emitP, emit, namesP, names, lead-end-es, then-es}
+use Rattle.scheme.specs.Emit.{begin-es, point-es, kept-es, held-es, sum-es, age-es}
+use Rattle.scheme.proofs.Offsets.{⊕-add, span, lt-longer, eq-longer}
+use Rattle.scheme.proofs.Places.{each-left, each-right}
+use Rattle.scheme.proofs.Local.{on, LocalAt, Stand}
+use Rattle.scheme.proofs.Atoms.{Since, begin-is, point-is, kept-is, held-is, len-is, sum-is, age-is}
+use Rattle.scheme.proofs.Atoms.{compare-is}
+use Rattle.scheme.proofs.Then.{then-is, second-negated}
 
 module _ (cap : ℕ) (trace : Trace) (flow : ℕ → ℕ → ℕ) where
   -- ---- parts of equations that stand

@@ -15,14 +15,14 @@ use Rattle.formulas.specs.Raw.{rawP, raw}
 use Rattle.tables.specs.Table.{Equation}
 use Rattle.limits.specs.Limits.{literalCount}
 use Rattle.tables.specs.declared.Sort.the-variants.{Boolean}
-use Rattle.agreement.specs.Scheme.{_⊕_}
-use Rattle.agreement.specs.Emit.{Block, after, emitP, emit, namesP, names, join-block, not-es, and-es, or-es}
-use Rattle.agreement.specs.Emit.{begin-es, point-es, kept-es, held-es, sum-es, age-es, lead-end-es, then-es}
-use Rattle.agreement.proofs.Places.{after-append, after-later, Each, each-left, each-right, each-join}
-use Rattle.agreement.proofs.Roles.{Before, later, Fits, KindAt}
-use Rattle.agreement.proofs.Rows.{Fine, constant-fine, not-fine, and-fine, or-fine}
-use Rattle.agreement.proofs.Rows.{begin-fine, point-fine, kept-fine, held-fine, len-fine, sum-fine, age-fine}
-use Rattle.agreement.proofs.Rows.{lead-end-fine, rest-fine}
+use Rattle.scheme.specs.Scheme.{_⊕_}
+use Rattle.scheme.specs.Emit.{Block, after, emitP, emit, namesP, names, join-block, not-es, and-es, or-es}
+use Rattle.scheme.specs.Emit.{begin-es, point-es, kept-es, held-es, sum-es, age-es, lead-end-es, then-es}
+use Rattle.scheme.proofs.Places.{after-append, after-later, Each, each-left, each-right, each-join}
+use Rattle.scheme.proofs.Roles.{Before, later, Fits, KindAt}
+use Rattle.scheme.proofs.Rows.{Fine, constant-fine, not-fine, and-fine, or-fine}
+use Rattle.scheme.proofs.Rows.{begin-fine, point-fine, kept-fine, held-fine, len-fine, sum-fine, age-fine}
+use Rattle.scheme.proofs.Rows.{lead-end-fine, rest-fine}
 
 -- In a table t of N equations:
 module _ (t : List ℕ) (N : ℕ) where

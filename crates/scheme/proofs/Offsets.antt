@@ -8,7 +8,7 @@ use native.Mathlib.Omega.{arith}
 use lib.Dec.{eqb, ltb}
 use borrow.Author.Tests.{lt-ltb, le-ltb, eq-eqb, ne-eqb}
 use Rattle.formulas.specs.Meaning.{each, any, tally, streak}
-use Rattle.agreement.specs.Scheme.{_⊕_}
+use Rattle.scheme.specs.Scheme.{_⊕_}
 
 -- ---- b ⊕ d
 

@@ -15,7 +15,7 @@ use Rattle.formulas.specs.Formula.Count.{sum, age}
 use Rattle.formulas.specs.Formula.Formula.{test, len, count, neg, and, or, then}
 use Rattle.formulas.specs.Arena.{numKind, numValue}
 use Rattle.tables.specs.Table.{Equation}
-use Rattle.agreement.specs.Scheme.{_⊕_, equation, fill, values}
+use Rattle.scheme.specs.Scheme.{_⊕_, equation, fill, values}
 
 -- A block of equations, and the flow that is its result.
 pub record Block : Type 0 where

@@ -8,9 +8,9 @@ use native.Mathlib.Omega.{arith}
 use lib.ListN.{getD, length}
 use Rattle.formulas.specs.Formula.{Formula}
 use Rattle.tables.specs.Table.{Equation}
-use Rattle.agreement.specs.Scheme.{_⊕_, equation}
-use Rattle.agreement.specs.Emit.{Block, after, emit, names, signals, places, whole-es, observer}
-use Rattle.agreement.proofs.Places.{after-append, after-length}
+use Rattle.scheme.specs.Scheme.{_⊕_, equation}
+use Rattle.scheme.specs.Emit.{Block, after, emit, names, signals, places, whole-es, observer}
+use Rattle.scheme.proofs.Places.{after-append, after-length}
 
 -- The start flow, its negation, and the named signals among the first m.
 abbrev pub headRows : (ℕ → Bool) → ℕ → List Equation

@@ -16,12 +16,12 @@ use Rattle.tables.specs.Table.{all, Equation, kindOf, kindAt, shapeOf, sortOf, 
 use Rattle.limits.specs.Limits.{truthCount, opCount}
 use Rattle.limits.specs.Limits.{literalCount, parameterCount}
 use Rattle.tables.specs.declared.Sort.the-variants.{Boolean}
-use Rattle.agreement.specs.Scheme.{_⊕_, fill, values}
-use Rattle.agreement.specs.Emit.{constant-es, not-es, and-es, or-es, begin-es, point-es, kept-es, held-es}
-use Rattle.agreement.specs.Emit.{len-es, sum-es, age-es, lead-end-es, then-es, whole-es}
-use Rattle.agreement.proofs.Places.{Each, _▹_}
-use Rattle.agreement.proofs.Roles.{Role, rolesOf, rowsOk, Before, later, Fits, KindAt, Plays, rows-fit}
-use Rattle.agreement.proofs.Roles.Role.{given, free}
+use Rattle.scheme.specs.Scheme.{_⊕_, fill, values}
+use Rattle.scheme.specs.Emit.{constant-es, not-es, and-es, or-es, begin-es, point-es, kept-es, held-es}
+use Rattle.scheme.specs.Emit.{len-es, sum-es, age-es, lead-end-es, then-es, whole-es}
+use Rattle.scheme.proofs.Places.{Each, _▹_}
+use Rattle.scheme.proofs.Roles.{Role, rolesOf, rowsOk, Before, later, Fits, KindAt, Plays, rows-fit}
+use Rattle.scheme.proofs.Roles.Role.{given, free}
 
 truth-below : (c : Bool) → truth c < truthCount
 truth-below true = omega arith

@@ -5,9 +5,9 @@ use Prim.Native.Nat.{ℕ, zero, suc, _+_, _*_, _≤_, _<_}
 use native.Mathlib.Omega.{arith}
 use lib.ListN.{getD, length}
 use Rattle.tables.specs.Table.{Equation, equationAt}
-use Rattle.agreement.specs.Scheme.{_⊕_, equation}
-use Rattle.agreement.specs.Emit.{after, numbersOf}
-use Rattle.agreement.proofs.Offsets.{suc-⊕}
+use Rattle.scheme.specs.Scheme.{_⊕_, equation}
+use Rattle.scheme.specs.Emit.{after, numbersOf}
+use Rattle.scheme.proofs.Offsets.{suc-⊕}
 
 -- ---- the place after equations
 

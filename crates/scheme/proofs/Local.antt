@@ -16,9 +16,9 @@ use Rattle.flows.specs.Flow.{increased, valueOf, initial, inRange}
 use Rattle.tables.specs.declared.Sort.{Sort}
 use Rattle.tables.specs.declared.Sort.the-variants.{Boolean, Count}
 use Rattle.flows.specs.Lustre.{arrowPre, Lustre}
-use Rattle.agreement.specs.Emit.{numbersOf}
-use Rattle.agreement.proofs.Offsets.{zero-⊕}
-use Rattle.agreement.proofs.Places.{Each, each-from, equation-at}
+use Rattle.scheme.specs.Emit.{numbersOf}
+use Rattle.scheme.proofs.Offsets.{zero-⊕}
+use Rattle.scheme.proofs.Places.{Each, each-from, equation-at}
 
 -- Boolean flow i is true at tick k.
 abbrev pub on : (ℕ → ℕ → ℕ) → ℕ → ℕ → Bool

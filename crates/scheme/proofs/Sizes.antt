@@ -16,9 +16,9 @@ use Rattle.formulas.specs.Arena.{flat}
 use Rattle.formulas.specs.Raw.{rawP, raw}
 use Rattle.tables.specs.Table.{Equation}
 use Rattle.limits.specs.Limits.{equationLimit}
-use Rattle.agreement.specs.Scheme.{_⊕_, equation}
-use Rattle.agreement.specs.Emit.{after, emitP, emit, names, flowIn, signals, header, whole-es, body, observer}
-use Rattle.agreement.proofs.Header.{signals-length}
+use Rattle.scheme.specs.Scheme.{_⊕_, equation}
+use Rattle.scheme.specs.Emit.{after, emitP, emit, names, flowIn, signals, header, whole-es, body, observer}
+use Rattle.scheme.proofs.Header.{signals-length}
 
 module _ (flowOf : ℕ → ℕ) where
   -- One equation for each record of a proposition but a signal's.

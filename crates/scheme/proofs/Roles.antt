@@ -16,9 +16,9 @@ use Rattle.tables.specs.declared.Operand.{Operand}
 use Rattle.tables.specs.declared.Operand.the-variants.{Unused, Earlier, Anywhere, Below}
 use Rattle.tables.specs.declared.Shape.{Shape}
 use Rattle.tables.proofs.Tests.{all-at}
-use Rattle.agreement.specs.Scheme.{_⊕_, rowAt, resolved, fill}
-use Rattle.agreement.proofs.Offsets.{⊕-add, suc-⊕}
-use Rattle.agreement.proofs.Places.{Each, each-at, each-from, nothing}
+use Rattle.scheme.specs.Scheme.{_⊕_, rowAt, resolved, fill}
+use Rattle.scheme.proofs.Offsets.{⊕-add, suc-⊕}
+use Rattle.scheme.proofs.Places.{Each, each-at, each-from, nothing}
 
 -- ---- the test
 

@@ -5,8 +5,8 @@ use mathlib.Core.Path.{_≡_, refl, ap}
 use Prim.Native.Nat.{ℕ, zero, suc}
 use Rattle.traces.specs.Trace.{Trace, starts}
 use Rattle.formulas.specs.Meaning.{latest}
-use Rattle.agreement.specs.Scheme.{_⊕_}
-use Rattle.agreement.proofs.Atoms.{Since}
+use Rattle.scheme.specs.Scheme.{_⊕_}
+use Rattle.scheme.proofs.Atoms.{Since}
 
 -- None of the ticks up to e has s.
 abbrev pub Never : (ℕ → Bool) → ℕ → Type 0

@@ -15,17 +15,17 @@ use Rattle.tables.specs.declared.Sort.the-variants.{Boolean}
 use Rattle.tables.specs.declared.Checked.the-variants.{Passed}
 use Rattle.tables.proofs.Tests.{all-of}
 use Rattle.tables.proofs.Checks.{long-enough}
-use Rattle.agreement.specs.Scheme.{_⊕_}
-use Rattle.agreement.specs.Emit.{names, signals, numbersOf}
-use Rattle.agreement.proofs.Offsets.{zero-⊕}
-use Rattle.agreement.proofs.Places.{after-later, Each, each-left, each-right, each-at, each-from}
-use Rattle.agreement.proofs.Places.{equation-at, length-numbers}
-use Rattle.agreement.proofs.Parts.{headRows, flowAmong, bodyPlace, bodyBlock, wholePlace, wholeRows}
-use Rattle.agreement.proofs.Parts.{observerOver, whole-last}
-use Rattle.agreement.proofs.Roles.{Before, later, Fits, KindAt}
-use Rattle.agreement.proofs.Rows.{here, not-fine, whole-fine}
-use Rattle.agreement.proofs.Blocks.{AllFine, follow, fine}
-use Rattle.agreement.proofs.Header.{signal-at, signal-before, signals-fit}
+use Rattle.scheme.specs.Scheme.{_⊕_}
+use Rattle.scheme.specs.Emit.{names, signals, numbersOf}
+use Rattle.scheme.proofs.Offsets.{zero-⊕}
+use Rattle.scheme.proofs.Places.{after-later, Each, each-left, each-right, each-at, each-from}
+use Rattle.scheme.proofs.Places.{equation-at, length-numbers}
+use Rattle.scheme.proofs.Parts.{headRows, flowAmong, bodyPlace, bodyBlock, wholePlace, wholeRows}
+use Rattle.scheme.proofs.Parts.{observerOver, whole-last}
+use Rattle.scheme.proofs.Roles.{Before, later, Fits, KindAt}
+use Rattle.scheme.proofs.Rows.{here, not-fine, whole-fine}
+use Rattle.scheme.proofs.Blocks.{AllFine, follow, fine}
+use Rattle.scheme.proofs.Header.{signal-at, signal-before, signals-fit}
 
 module _ (cap : ℕ) (low : cap ≤ literalCount) (m : ℕ) (few : m ≤ signalCount) (f : Formula)
     (bound : bounded cap (raw f) ≡ true) (below : (j : ℕ) → names f j ≡ true → j < m) (junk : List ℕ) where

@@ -1,0 +1,43 @@
+-- The closing rows: started since the latest start and not before any, so the last flow is the verdict. Assumes nothing.
+use mathlib.Core.Bool.{Bool, true, false, not, _||_}
+use mathlib.Core.Option.{Option}
+use mathlib.Core.Path.{_≡_, ap, _∙_}
+use Prim.Native.Nat.{ℕ, zero, suc}
+use Rattle.traces.specs.Trace.{Trace, truth, starts}
+use Rattle.formulas.specs.Formula.{Formula}
+use Rattle.formulas.specs.Meaning.{meaning, since, verdict}
+use Rattle.tables.specs.Table.{kindOf}
+use Rattle.scheme.specs.Scheme.{_⊕_}
+use Rattle.scheme.specs.Emit.{whole-es}
+use Rattle.scheme.proofs.Local.{on, Stand}
+use Rattle.scheme.proofs.Atoms.{Since}
+use Rattle.scheme.proofs.Nodes.{Agrees}
+use Rattle.scheme.proofs.Starts.{Never, Latest, latest-is}
+
+module _ (cap : ℕ) (trace : Trace) (flow : ℕ → ℕ → ℕ) where
+  module _ (s o v : ℕ) (h : Stand cap trace flow o (whole-es s o v)) where
+    -- Started since the latest start,
+    started : (b d : ℕ) → Since (on flow s) b d → on flow (o ⊕ 1) (b ⊕ d) ≡ true
+    unfolding kindOf
+    started b zero begun = rw (h .1 .0 b, begun)
+    started b (suc d) begun = rw (h .1 .0 (suc (b ⊕ d)), begun .1, h .0 .1 (b ⊕ d), started b d (begun .0))
+
+    -- and not before any.
+    not-started : (e : ℕ) → Never (on flow s) e → on flow (o ⊕ 1) e ≡ false
+    unfolding kindOf
+    not-started zero never = rw (h .1 .0 0, never, h .0 .0)
+    not-started (suc e) never = rw (h .1 .0 (suc e), never .1, h .0 .1 e, not-started e (never .0))
+
+    shown : (e : ℕ) → on flow (o ⊕ 3) e ≡ not (on flow (o ⊕ 1) e) || on flow v e
+    unfolding kindOf
+    shown e = h .1 .1 .1 .0 e ∙ ap (λ (x : Bool). x || on flow v e) (h .1 .1 .0 e)
+
+    module _ (f : Formula) (begins : (k : ℕ) → on flow s k ≡ starts (trace k))
+        (agree : Agrees cap trace flow s v f) where
+      pub whole-is : (e : ℕ) → truth (on flow (o ⊕ 3) e) ≡ verdict trace f e
+      whole-is e = rw (shown e) (go (latest-is trace (on flow s) begins e))
+        where
+          go : {x : Option ℕ} → Latest (on flow s) e x
+              → truth (not (on flow (o ⊕ 1) e) || on flow v e) ≡ since trace (λ b. meaning trace f b e) x
+          go (Latest.never never) = rw (not-started e never)
+          go (Latest.since b d end begun) = rw (← end, started b d begun, agree b d begun)

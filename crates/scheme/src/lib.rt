@@ -1,0 +1,1 @@
+// The observer of a formula: definitions and laws. No code.
