@@ -1,39 +1,40 @@
--- Every word that splitting a text makes is from 1 to 1,999,999, and there are at most 240. Assumes nothing.
+-- Every word that splitting a text makes is from 1 to the highest word, and there are at most as many as a text can
+-- have. Assumes nothing.
 use mathlib.Core.Bool.{Bool, true, false, not, cond, _&&_, _||_, and-eq-true-iff}
 use mathlib.Core.List.{List, [], _∷_, _++_}
 use mathlib.Core.Path.{_≡_, refl, subst}
-use Prim.Native.Nat.{ℕ, suc, _+_, _≤_, _<_}
+use Prim.Native.Nat.{ℕ, suc, _+_, _-_, _≤_, _<_}
 use native.Mathlib.Decide.{decLt}
 use native.Mathlib.Omega.{arith}
 use lib.Dec.{eqb, leb, ltb}
 use lib.ListN.{length, getD, drop, length-append, List·getD-append, List·getD-eq-default}
 use lib.Seq.{getD-append-seam}
 use borrow.Author.Tests.{ltb-true, leb-true, eqb-false, not-true}
-use Rattle.words.specs.Word.{within, LT, GT, BEGIN, keywords, PARAMETER, SIGNAL, LITERAL}
-use Rattle.words.specs.Split.{SPACE, RUN, OTHER, Operator, operators, wordAmong, classOf, goesOn, begins, run}
+use Rattle.limits.specs.Limits.{textLimit, wordLimit, signalCount, parameterCount, literalCount}
 use Rattle.lists.specs.Same.{same}
-use Rattle.words.specs.Split.{keywordAmong, keywordOf, digits, decimal, needless, numberOf, runOf, longest}
+use Rattle.lists.specs.Decimal.{Numeral, numeral}
+use Rattle.lists.specs.Decimal.Numeral.{is, above, missing}
+use Rattle.lists.proofs.Choice.{chosen}
+use Rattle.lists.proofs.Decimals.{is-bounded}
+use Rattle.words.specs.Word.{within, LT, GT, BEGIN, keywords, PARAMETER, SIGNAL, LITERAL, lastWord}
+use Rattle.words.specs.Split.{SPACE, RUN, OTHER, Operator, operators, wordAmong, classOf, goesOn, begins, run}
+use Rattle.words.specs.Split.{keywordAmong, keywordOf, wordFrom, numberOf, runOf, longest}
 use Rattle.words.specs.Split.{wordOf, Out, add, words, splitOf}
 use Rattle.words.specs.Split.Out.{refused, made}
 use Rattle.words.specs.declared.Word.{Word}
 use Rattle.words.specs.declared.Word.the-variants.{Made, Bad}
 
--- A choice has a property that both sides have where they are chosen.
-either : {A : Type 0} (P : A → Type 0) (b : Bool) {x y : A} → (b ≡ true → P x) → (b ≡ false → P y) → P (cond b x y)
-either P true f g = f refl
-either P false f g = g refl
-
 -- The property of one word, of an answer of one word, of a list of words, and of what splitting gives.
 pub record Fine (w : ℕ) : Type 0 where
   pub some : 0 < w
-  pub low : w ≤ 1999999
+  pub low : w ≤ lastWord
 
 abbrev pub FineWord : Word → Type 0
 FineWord (Made w) = Fine w
 FineWord (Bad n) = Unit {0}
 
 pub record FineList (ws : List ℕ) : Type 0 where
-  pub few : length ws ≤ 240
+  pub few : length ws ≤ wordLimit
   pub each : (i : ℕ) → i < length ws → Fine (getD ws i 0)
 
 abbrev pub FineOut : Out → Type 0
@@ -50,13 +51,13 @@ unfolding small
 among-small [] b t = omega arith
 among-small (o ∷ os) b t =
     let both = and-eq-true-iff (leb (o .word) 50) (small os) .0 t in
-    either (λ c. c ≤ 50) (eqb b (o .byte)) (λ _. leb-true (o .word) 50 (both .0)) (λ _. among-small os b (both .1))
+    chosen (λ c. c ≤ 50) (eqb b (o .byte)) (λ _. leb-true (o .word) 50 (both .0)) (λ _. among-small os b (both .1))
 
 class-small : (b : ℕ) → classOf b ≤ 50
 unfolding classOf small
 class-small b =
-    either (λ c. c ≤ 50) (within 97 122 b || within 48 57 b) (λ _. omega arith)
-    (λ _. either (λ c. c ≤ 50) (eqb b 32) (λ _. omega arith) (λ _. among-small operators b refl))
+    chosen (λ c. c ≤ 50) (within 97 122 b || within 48 57 b) (λ _. omega arith)
+    (λ _. chosen (λ c. c ≤ 50) (eqb b 32) (λ _. omega arith) (λ _. among-small operators b refl))
 
 -- A byte that begins a word is no space.
 class-some : (p c : ℕ) → begins p c ≡ true → 0 < c
@@ -72,39 +73,45 @@ among-bound : (ks : List (List ℕ)) (n : ℕ) (r : List ℕ) → keywordAmong k
 unfolding keywordAmong
 among-bound [] n r = omega arith
 among-bound (k ∷ ks) n r =
-    either (λ w. w ≤ n + suc (length ks)) (same r k) (λ _. omega arith) (λ _. omega (arith, among-bound ks (suc n) r))
+    chosen (λ w. w ≤ n + suc (length ks)) (same r k) (λ _. omega arith) (λ _. omega (arith, among-bound ks (suc n) r))
 
-number-fine : (base max : ℕ) (l : List ℕ) → 0 < base → base + max ≤ 1999999 → FineWord (numberOf base max l)
+from-fine : (base max : ℕ) (q : Numeral) → 0 < base → base + max ≤ lastWord
+    → ((v : ℕ) (l : List ℕ) → q ≡ is v l → v ≤ max) → FineWord (wordFrom base q)
+from-fine base max (is v []) s h b = record { some = omega arith; low = omega (arith, b v [] refl) }
+from-fine base max (is v (x ∷ l)) s h b = tt
+from-fine base max (above []) s h b = tt
+from-fine base max (above (x ∷ l)) s h b = tt
+from-fine base max missing s h b = tt
+
+number-fine : (base max : ℕ) (l : List ℕ) → 0 < base → base + max ≤ lastWord → FineWord (numberOf base max l)
 unfolding numberOf
-number-fine base max l s h =
-    either FineWord (eqb (length l) 0 || not (digits l)) (λ _. tt)
-    (λ _. either FineWord (needless l) (λ _. tt)
-    (λ _. either FineWord (leb (decimal 0 l) max)
-    (λ t. record { some = omega arith; low = omega (arith, leb-true (decimal 0 l) max t) }) (λ _. tt)))
+number-fine base max l s h = from-fine base max (numeral max l) s h (λ v r e. is-bounded max l e)
 
 run-fine : (r : List ℕ) → FineWord (runOf r)
 unfolding runOf keywordOf
 run-fine r =
-    either FineWord (ltb 0 (keywordOf r))
+    chosen FineWord (ltb 0 (keywordOf r))
     (λ t. record { some = ltb-true 0 (keywordOf r) t; low = omega (arith, among-bound keywords BEGIN r) })
-    (λ _. either FineWord (eqb (getD r 0 0) 115) (λ _. number-fine SIGNAL 63 (drop 1 r) (omega arith) (omega arith))
-    (λ _. either FineWord (eqb (getD r 0 0) 107) (λ _. number-fine PARAMETER 7 (drop 1 r) (omega arith) (omega arith))
-    (λ _. number-fine LITERAL 999999 r (omega arith) (omega arith))))
+    (λ _. chosen FineWord (eqb (getD r 0 0) 115)
+    (λ _. number-fine SIGNAL (signalCount - 1) (drop 1 r) (omega arith) (omega arith))
+    (λ _. chosen FineWord (eqb (getD r 0 0) 107)
+    (λ _. number-fine PARAMETER (parameterCount - 1) (drop 1 r) (omega arith) (omega arith))
+    (λ _. number-fine LITERAL (literalCount - 1) r (omega arith) (omega arith))))
 
 longest-fine : (c next : ℕ) → 0 < c → c ≤ 50 → FineWord (longest c next)
 longest-fine c next s h =
-    either Fine (eqb c LT && eqb next 61) (λ _. record { some = omega arith; low = omega arith })
-    (λ _. either Fine (eqb c GT && eqb next 61) (λ _. record { some = omega arith; low = omega arith })
+    chosen Fine (eqb c LT && eqb next 61) (λ _. record { some = omega arith; low = omega arith })
+    (λ _. chosen Fine (eqb c GT && eqb next 61) (λ _. record { some = omega arith; low = omega arith })
     (λ _. record { some = s; low = omega arith }))
 
 word-fine : (c : ℕ) (l : List ℕ) → 0 < c → c ≤ 50 → FineWord (wordOf c l)
 unfolding wordOf
 word-fine c l s h =
-    either FineWord (eqb c RUN) (λ _. run-fine (run l))
-    (λ _. either FineWord (eqb c OTHER) (λ _. tt) (λ _. longest-fine c (getD l 1 0) s h))
+    chosen FineWord (eqb c RUN) (λ _. run-fine (run l))
+    (λ _. chosen FineWord (eqb c OTHER) (λ _. tt) (λ _. longest-fine c (getD l 1 0) s h))
 
--- One word more, where there are not yet 240.
-more-fine : (ws : List ℕ) (w : ℕ) → FineList ws → (length ws ≡ 240 → ⊥) → Fine w → FineList (ws ++ w ∷ [])
+-- One word more, where there are not yet so many.
+more-fine : (ws : List ℕ) (w : ℕ) → FineList ws → (length ws ≡ wordLimit → ⊥) → Fine w → FineList (ws ++ w ∷ [])
 more-fine ws w h n f = record { few = simp length-append (omega (arith, h .few)); each = each }
   where
     last : (i : ℕ) → i ≡ length ws → Fine (getD (ws ++ w ∷ []) i 0)
@@ -117,7 +124,7 @@ more-fine ws w h n f = record { few = simp length-append (omega (arith, h .few))
           | no a ↦ last i (let e = length-append ws (w ∷ []) in omega arith)
         ]
 
-add-fine : (w : Word) (ws : List ℕ) (rest : List ℕ → Out) → FineWord w → FineList ws → (length ws ≡ 240 → ⊥)
+add-fine : (w : Word) (ws : List ℕ) (rest : List ℕ → Out) → FineWord w → FineList ws → (length ws ≡ wordLimit → ⊥)
     → ((more : List ℕ) → FineList more → FineOut (rest more)) → FineOut (add w ws rest)
 add-fine (Made w) ws rest f h n go = go (ws ++ w ∷ []) (more-fine ws w h n f)
 add-fine (Bad k) ws rest f h n go = tt
@@ -127,17 +134,17 @@ unfolding words
 words-fine [] p ws h = h
 words-fine (b ∷ l) p ws h =
     let c = classOf b in
-    either FineOut (begins p c)
-    (λ t. either FineOut (eqb (length ws) 240) (λ _. tt)
+    chosen FineOut (begins p c)
+    (λ t. chosen FineOut (eqb (length ws) wordLimit) (λ _. tt)
     (λ n. add-fine (wordOf c (b ∷ l)) ws (λ more. words l c more)
-    (word-fine c (b ∷ l) (class-some p c t) (class-small b)) h (eqb-false (length ws) 240 n)
+    (word-fine c (b ∷ l) (class-some p c t) (class-small b)) h (eqb-false (length ws) wordLimit n)
     (λ more f. words-fine l c more f)))
     (λ _. words-fine l c ws h)
 
 split-fine : (text : List ℕ) → FineOut (splitOf text)
 unfolding splitOf
 split-fine text =
-    either FineOut (eqb (length text) 0 || ltb 2048 (length text)) (λ _. tt)
+    chosen FineOut (eqb (length text) 0 || ltb textLimit (length text)) (λ _. tt)
     (λ _. words-fine text SPACE [] (record { few = omega arith; each = λ i h. absurd (omega arith) }))
 
 -- The theorems.
@@ -145,13 +152,13 @@ module _ (text ws : List ℕ) (e : splitOf text ≡ made ws) where
   fine : FineList ws
   fine = subst FineOut e (split-fine text)
 
-  pub words-few : length ws ≤ 240
+  pub words-few : length ws ≤ wordLimit
   words-few = fine .few
 
   pub word-made : (i : ℕ) → i < length ws → 0 < getD ws i 0
   word-made i h = fine .each i h .some
 
-  pub word-bound : (i : ℕ) → getD ws i 0 ≤ 1999999
+  pub word-bound : (i : ℕ) → getD ws i 0 ≤ lastWord
   word-bound i =
       elim (decLt i (length ws)) [
         | yes h ↦ fine .each i h .low

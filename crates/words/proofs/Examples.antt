@@ -2,12 +2,14 @@
 -- computed. Assumes nothing.
 use mathlib.Core.List.{List, [], _∷_, _++_, map}
 use mathlib.Core.Path.{_≡_, refl}
-use Prim.Native.Nat.{ℕ, _+_}
+use Prim.Native.Nat.{ℕ, _+_, _-_}
 use lib.ListN.{replicate}
+use Rattle.limits.specs.Limits.{textLimit, wordLimit}
 use Rattle.lists.specs.Text.{bytes}
+use Rattle.lists.specs.Decimal.{isDigit, digitsAfter, numeral}
 use Rattle.words.specs.Word.{ROUND, ROUND-END, SQUARE, SQUARE-END, NOT, AND, OR, LE, LT, EQ, GT, GE}
 use Rattle.words.specs.Word.{BEGIN, KEPT, LEN, SUM, AGE, THEN, CHOP, EXISTS, PARAMETER, SIGNAL, LITERAL}
-use Rattle.words.specs.Split.{classOf, run, keywordAmong, keywordOf, digits, decimal, numberOf, runOf, wordOf}
+use Rattle.words.specs.Split.{classOf, run, keywordAmong, keywordOf, numberOf, runOf, wordOf}
 use Rattle.words.specs.Split.{Out, words, splitOf}
 use Rattle.words.specs.Split.Out.{refused, made}
 
@@ -63,8 +65,8 @@ examples =
     (ROUND ∷ ROUND-END ∷ SQUARE ∷ SQUARE-END ∷ NOT ∷ AND ∷ OR ∷ LT ∷ EQ ∷ GT ∷ LE ∷ GE ∷ []) ∷
     -- how long a text is
     refuses [] 1 ∷
-    refuses (spaces 2049) 1 ∷
-    splits (spaces 2048) [] ∷
+    refuses (spaces (textLimit + 1)) 1 ∷
+    splits (spaces textLimit) [] ∷
     splits (bytes "   ") [] ∷
     -- numbers at the ends of their ranges
     splits (bytes "s0") (signal 0 ∷ []) ∷
@@ -99,13 +101,13 @@ examples =
     -- the earliest word counts
     refuses (bytes "x 1000000") 2 ∷
     refuses (bytes "1000000 x") 3 ∷
-    -- the 241st word, well made or not, and a bad word before it
-    splits (rounds 240) (replicate 240 ROUND) ∷
-    refuses (rounds 241) 4 ∷
-    refuses (rounds 240 ++ bytes "x") 4 ∷
-    refuses (rounds 239 ++ bytes "x(") 2 ∷
+    -- one word too many, well made or not, and a bad word before it
+    splits (rounds wordLimit) (replicate wordLimit ROUND) ∷
+    refuses (rounds (wordLimit + 1)) 4 ∷
+    refuses (rounds wordLimit ++ bytes "x") 4 ∷
+    refuses (rounds (wordLimit - 1) ++ bytes "x(") 2 ∷
     []
 
 pub examples-hold : map (λ e. splitOf (e .text)) examples ≡ map (λ e. e .out) examples
-unfolding examples classOf run keywordAmong keywordOf digits decimal numberOf runOf wordOf words splitOf
+unfolding examples isDigit digitsAfter numeral classOf run keywordAmong keywordOf numberOf runOf wordOf words splitOf
 examples-hold = refl

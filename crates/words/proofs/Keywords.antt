@@ -1,34 +1,57 @@
--- What is known of a run while it is compared with the keywords, one after the other. Assumes nothing.
-use mathlib.Core.Bool.{true, false}
-use mathlib.Core.List.{List, _∷_}
-use mathlib.Core.Path.{_≡_, refl, sym, _∙_}
-use Prim.Native.Nat.{ℕ, suc, _+_}
-use lib.ListN.{drop}
-use Rattle.words.specs.Word.{BEGIN, keywords}
+-- Which keyword a run is, by its first byte. Assumes nothing.
+use mathlib.Core.Bool.{Bool, true, false, _&&_, and-eq-true-iff}
+use mathlib.Core.List.{List, [], _∷_, map}
+use mathlib.Core.Path.{_≡_, refl, sym, ap, _∙_}
+use Prim.Native.Nat.{ℕ, suc, _+_, _<_}
+use native.Mathlib.Omega.{arith}
+use lib.Dec.{eqb}
+use lib.ListN.{getD}
+use borrow.Author.Tests.{eqb-true, eqb-false}
 use Rattle.lists.specs.Same.{same}
-use Rattle.words.specs.Split.{keywordAmong, keywordOf}
+use Rattle.lists.specs.Text.{bytes}
+use Rattle.words.specs.Word.{BEGIN, keywords}
+use Rattle.words.specs.Split.{spelledOr, keywordAmong, keywordOf}
+use Rattle.words.proofs.Classes.{among, NoneOf, none-among}
 
--- The keywords ks, numbered from n on, decide which one the run r is.
-pub record Left (r : List ℕ) (ks : List (List ℕ)) (n : ℕ) : Type 0 where
-  pub decide : keywordOf r ≡ keywordAmong ks n r
+-- The keyword of that place in the table, compared with a run.
+abbrev pub spelledAs : ℕ → List ℕ → ℕ → ℕ
+spelledAs i r other = spelledOr r (getD keywords i []) (BEGIN + i) other
 
--- The run is none of the first m keywords.
-abbrev pub NoneOf : List ℕ → ℕ → Type 0
-NoneOf r m = Left r (drop m keywords) (BEGIN + m)
+-- What is right of every run that begins with the byte b, is right of a run whose first byte is b.
+pub by-first : (f : List ℕ → ℕ) (r : List ℕ) (b : ℕ) → getD r 0 0 ≡ b → 0 < b
+    → ((l : List ℕ) → f (b ∷ l) ≡ keywordOf (b ∷ l)) → f r ≡ keywordOf r
+by-first f [] b e z h = absurd (omega arith)
+by-first f (x ∷ l) b e z h = rw e (h l)
 
-pub none-yet : (r : List ℕ) → NoneOf r 0
-unfolding keywordOf
-none-yet r = record { decide = refl }
+-- The first bytes of the keywords, each once.
+abbrev pub firstBytes : List ℕ
+firstBytes = bytes "bephklsatc"
 
--- Compared with the keyword k.
-pub spelled : {r k : List ℕ} {ks : List (List ℕ)} {n : ℕ} → Left r (k ∷ ks) n → same r k ≡ true → n ≡ keywordOf r
-unfolding keywordAmong
-spelled h t = sym (h .decide ∙ rw t)
+-- The keywords begin with these bytes.
+begin-in : List ℕ → List (List ℕ) → Bool
+begin-in bs [] = true
+begin-in bs (k ∷ ks) = among (getD k 0 0) bs && begin-in bs ks
 
-pub missed : {r k : List ℕ} {ks : List (List ℕ)} {n : ℕ} → Left r (k ∷ ks) n → same r k ≡ false → Left r ks (suc n)
-unfolding keywordAmong
-missed h t = record { decide = h .decide ∙ rw t }
+-- A run with another first byte is none of them.
+module _ (b : ℕ) (l bs : List ℕ) (no : among b bs ≡ false) where
+  differs : (k : List ℕ) → among (getD k 0 0) bs ≡ true → same (b ∷ l) k ≡ false
+  differs [] h = refl
+  differs (x ∷ k) h = at-first (eqb b x) refl
+    where
+      at-first : (t : Bool) → eqb b x ≡ t → (t && same l k) ≡ false
+      at-first true e =
+          let clash : true ≡ false = sym h ∙ ap (λ (y : ℕ). among y bs) (sym (eqb-true b x e)) ∙ no in
+          absurd (eqb-false 0 0 clash refl)
+      at-first false e = refl
 
-pub none : {r : List ℕ} → NoneOf r 11 → 0 ≡ keywordOf r
-unfolding keywordAmong
-none h = sym (h .decide)
+  none-spelled : (ks : List (List ℕ)) (n : ℕ) → begin-in bs ks ≡ true → keywordAmong ks n (b ∷ l) ≡ 0
+  unfolding keywordAmong begin-in
+  none-spelled [] n h = refl
+  none-spelled (k ∷ ks) n h =
+      let both = and-eq-true-iff (among (getD k 0 0) bs) (begin-in bs ks) .0 h in
+      rw (differs k (both .0)) (none-spelled ks (suc n) (both .1))
+
+pub no-keyword : (r : List ℕ) → NoneOf (getD r 0 0) firstBytes (Unit {0}) → 0 ≡ keywordOf r
+unfolding keywordOf keywordAmong begin-in among
+no-keyword [] h = refl
+no-keyword (b ∷ l) h = sym (none-spelled b l firstBytes (none-among b firstBytes h) keywords BEGIN refl)

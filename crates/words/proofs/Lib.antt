@@ -1,8 +1,8 @@
 -- Laws on bytes, runs, keywords, numbers and words, and what splitting a text gives.
 pub mod Classes
-pub mod Runs
 pub mod Keywords
 pub mod Numbers
+pub mod Runs
 pub mod Widths
 pub mod Turns
 pub mod Bounds

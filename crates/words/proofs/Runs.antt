@@ -1,5 +1,5 @@
--- Runs of a text and their words, and slices that hold the same bytes. Assumes nothing.
-use mathlib.Core.Bool.{Bool, true, false, _&&_, cond, and-false}
+-- Runs of a text and their words. Assumes nothing.
+use mathlib.Core.Bool.{Bool, true, false, cond}
 use mathlib.Core.List.{List, [], _∷_}
 use mathlib.Core.Path.{_≡_, refl, ap}
 use Prim.Native.Nat.{ℕ, suc, _+_, _-_, _≤_, _<_}
@@ -10,8 +10,8 @@ use lib.Dec.{eqb}
 use lib.ListN.{length, getD, take, drop, drop-of-length-le, length-drop}
 use lib.Seq.{drop-cons}
 use borrow.Author.Tests.{eq-eqb, ne-eqb}
+use Rattle.limits.specs.Limits.{signalCount, parameterCount, literalCount}
 use Rattle.words.specs.Word.{PARAMETER, SIGNAL, LITERAL}
-use Rattle.lists.specs.Same.{same}
 use Rattle.words.specs.Split.{RUN, OTHER, classOf, run, keywordOf, numberOf, runOf, longest, wordOf}
 use Rattle.words.specs.declared.Word.the-variants.{Bad}
 
@@ -64,15 +64,16 @@ module _ (t : List ℕ) (i : ℕ) where
 
 -- The word of a run that is no keyword, by its first byte.
 module _ (r : List ℕ) (n : keywordOf r ≡ 0) where
-  pub run-signal : getD r 0 0 ≡ 115 → runOf r ≡ numberOf SIGNAL 63 (drop 1 r)
+  pub run-signal : getD r 0 0 ≡ 115 → runOf r ≡ numberOf SIGNAL (signalCount - 1) (drop 1 r)
   unfolding runOf
   run-signal e = simp (n, e)
 
-  pub run-parameter : getD r 0 0 ≡ 107 → runOf r ≡ numberOf PARAMETER 7 (drop 1 r)
+  pub run-parameter : getD r 0 0 ≡ 107 → runOf r ≡ numberOf PARAMETER (parameterCount - 1) (drop 1 r)
   unfolding runOf
   run-parameter e = simp (n, e)
 
-  pub run-literal : (getD r 0 0 ≡ 115 → ⊥) → (getD r 0 0 ≡ 107 → ⊥) → runOf r ≡ numberOf LITERAL 999999 r
+  pub run-literal : (getD r 0 0 ≡ 115 → ⊥) → (getD r 0 0 ≡ 107 → ⊥)
+      → runOf r ≡ numberOf LITERAL (literalCount - 1) r
   unfolding runOf
   run-literal s k = simp (n, ne-eqb (getD r 0 0) 115 s, ne-eqb (getD r 0 0) 107 k)
 

@@ -10,6 +10,7 @@ use lib.Dec.{eqb}
 use lib.ListN.{length, getD, drop, set, drop-of-length-le, length-append}
 use lib.Seq.{sets, length-sets, drop-cons}
 use borrow.Author.Tests.{eq-eqb, ne-eqb, lt-ltb, le-ltb}
+use Rattle.limits.specs.Limits.{textLimit, wordLimit}
 use Rattle.lists.proofs.Buffers.{sets-append}
 use Rattle.words.specs.Split.{SPACE, classOf, begins, wordOf, add, words, splitOf}
 use Rattle.words.specs.Split.Out.{refused, made}
@@ -25,13 +26,13 @@ module _ (text : List ℕ) where
   unfolding splitOf
   split-empty h = simp (eq-eqb (length text) 0 h)
 
-  pub split-long : (length text ≡ 0 → ⊥) → 2048 < length text → splitOf text ≡ refused 1
+  pub split-long : (length text ≡ 0 → ⊥) → textLimit < length text → splitOf text ≡ refused 1
   unfolding splitOf
-  split-long n h = simp (ne-eqb (length text) 0 n, lt-ltb 2048 (length text) h)
+  split-long n h = simp (ne-eqb (length text) 0 n, lt-ltb textLimit (length text) h)
 
-  pub split-words : (length text ≡ 0 → ⊥) → length text ≤ 2048 → splitOf text ≡ words text SPACE []
+  pub split-words : (length text ≡ 0 → ⊥) → length text ≤ textLimit → splitOf text ≡ words text SPACE []
   unfolding splitOf
-  split-words n h = simp (ne-eqb (length text) 0 n, le-ltb 2048 (length text) h)
+  split-words n h = simp (ne-eqb (length text) 0 n, le-ltb textLimit (length text) h)
 
 -- A refusal promises nothing of the buffer.
 refused-made : {A : Type 0} {n : ℕ} {ws : List ℕ} → refused n ≡ made ws → A
@@ -50,7 +51,7 @@ pub record At (text before after : List ℕ) (count i : ℕ) : Type 0 where
   pub ws : List ℕ
   pub rest : words text SPACE [] ≡ words (drop i text) SPACE ws
   pub counted : count ≡ length ws
-  pub few : count ≤ 240
+  pub few : count ≤ wordLimit
   pub stored : after ≡ sets before 0 ws
 
 pub at-start : (text before : List ℕ) → At text before before 0 0
@@ -65,7 +66,7 @@ words-at : (text : List ℕ) (i p : ℕ) (ws : List ℕ) → i < length text
     → words (drop i text) p ws
     ≡ let c = classOf (getD text i 0) in
     let one = add (wordOf c (drop i text)) ws (λ more. words (drop (i + 1) text) c more) in
-    cond (begins p c) (cond (eqb (length ws) 240) (refused 4) one) (words (drop (i + 1) text) c ws)
+    cond (begins p c) (cond (eqb (length ws) wordLimit) (refused 4) one) (words (drop (i + 1) text) c ws)
 unfolding words
 words-at text i p ws h = rw (add-one i, drop-cons text i 0 h)
 
@@ -74,26 +75,26 @@ module _ {text before after : List ℕ} {count i : ℕ} (h : At text before afte
     (e : c ≡ classOf (getD text i 0)) where
   turn : words text SPACE []
       ≡ let one = add (wordOf c (drop i text)) (h .ws) (λ more. words (drop (i + 1) text) c more) in
-      cond (begins SPACE c) (cond (eqb count 240) (refused 4) one) (words (drop (i + 1) text) c (h .ws))
+      cond (begins SPACE c) (cond (eqb count wordLimit) (refused 4) one) (words (drop (i + 1) text) c (h .ws))
   turn = h .rest ∙ words-at text i SPACE (h .ws) l ∙ rw (← e, ← (h .counted))
 
   pub skips : c ≡ SPACE → At text before after count (i + 1)
   skips b =
       record { ws = h .ws; rest = turn ∙ simp b; counted = h .counted; few = h .few; stored = h .stored }
 
-  pub too-many : (c ≡ SPACE → ⊥) → count ≡ 240 → words text SPACE [] ≡ refused 4
-  too-many b f = turn ∙ simp (ne-eqb c SPACE b, eq-eqb count 240 f)
+  pub too-many : (c ≡ SPACE → ⊥) → count ≡ wordLimit → words text SPACE [] ≡ refused 4
+  too-many b f = turn ∙ simp (ne-eqb c SPACE b, eq-eqb count wordLimit f)
 
-  pub breaks : (n : ℕ) → (c ≡ SPACE → ⊥) → (count ≡ 240 → ⊥) → wordOf c (drop i text) ≡ Bad n
+  pub breaks : (n : ℕ) → (c ≡ SPACE → ⊥) → (count ≡ wordLimit → ⊥) → wordOf c (drop i text) ≡ Bad n
       → words text SPACE [] ≡ refused n
-  breaks n b f w = turn ∙ simp (ne-eqb c SPACE b, ne-eqb count 240 f, w)
+  breaks n b f w = turn ∙ simp (ne-eqb c SPACE b, ne-eqb count wordLimit f, w)
 
-  pub adds : (word end : ℕ) → (c ≡ SPACE → ⊥) → (count ≡ 240 → ⊥) → wordOf c (drop i text) ≡ Made word
+  pub adds : (word end : ℕ) → (c ≡ SPACE → ⊥) → (count ≡ wordLimit → ⊥) → wordOf c (drop i text) ≡ Made word
       → end ≡ i + widthOf c (drop i text) → At text before (set after count word) (count + 1) end
   adds word end b f w g =
       record {
         ws = h .ws ++ word ∷ [];
-        rest = turn ∙ simp (ne-eqb c SPACE b, ne-eqb count 240 f, w) (rw g (text-past text i c _ l e));
+        rest = turn ∙ simp (ne-eqb c SPACE b, ne-eqb count wordLimit f, w) (rw g (text-past text i c _ l e));
         counted = simp length-append (omega (arith, h .counted));
         few = omega (arith, h .few);
         stored =

@@ -4,6 +4,7 @@ use mathlib.Core.List.{List}
 use Prim.Native.Nat.{ℕ, _≤_}
 use lib.ListN.{length}
 use lib.Seq.{sets}
+use Rattle.limits.specs.Limits.{wordLimit}
 use Rattle.words.specs.Split.{Out, splitOf}
 use Rattle.words.specs.Split.Out.{refused, made}
 use Rattle.words.specs.declared.Split.{Split}
@@ -18,4 +19,4 @@ answerOf (made ws) = Words (length ws)
 pub record Splits (text before : List ℕ) (r : Split) (after : List ℕ) : Type 0 where
   pub result : r ≡ answerOf (splitOf text)
   pub filled : (ws : List ℕ) → splitOf text ≡ made ws → after ≡ sets before 0 ws
-  pub few : (ws : List ℕ) → splitOf text ≡ made ws → length ws ≤ 240
+  pub few : (ws : List ℕ) → splitOf text ≡ made ws → length ws ≤ wordLimit

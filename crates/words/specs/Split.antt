@@ -1,12 +1,15 @@
 -- How a text is split into words, and refusals 1 to 4 (document 01, "Rule text" and "Read a rule"). Definitions only.
-use mathlib.Core.Bool.{Bool, true, false, not, _&&_, _||_, cond}
+use mathlib.Core.Bool.{Bool, not, _&&_, _||_, cond}
 use mathlib.Core.List.{List, [], _∷_, _++_}
-use Prim.Native.Nat.{ℕ, zero, suc, _+_, _-_, _*_}
-use lib.Dec.{eqb, leb, ltb}
+use Prim.Native.Nat.{ℕ, suc, _+_, _-_}
+use lib.Dec.{eqb, ltb}
 use lib.ListN.{length, getD, drop}
+use Rattle.limits.specs.Limits.{textLimit, wordLimit, signalCount, parameterCount, literalCount}
 use Rattle.lists.specs.Same.{same}
-use Rattle.words.specs.Word.{ROUND, ROUND-END, SQUARE, SQUARE-END, NOT, AND, OR, LE, LT, EQ, GT, GE, BEGIN}
-use Rattle.words.specs.Word.{PARAMETER, SIGNAL, LITERAL, keywords, within}
+use Rattle.lists.specs.Decimal.{Numeral, numeral}
+use Rattle.lists.specs.Decimal.Numeral.{is, above, missing}
+use Rattle.words.specs.Word.{ROUND, ROUND-END, SQUARE, SQUARE-END, NOT, AND, OR, LE, LT, EQ, GT, GE}
+use Rattle.words.specs.Word.{BEGIN, PARAMETER, SIGNAL, LITERAL, keywords, within}
 use Rattle.words.specs.declared.Word.{Word}
 use Rattle.words.specs.declared.Word.the-variants.{Made, Bad}
 
@@ -55,41 +58,38 @@ unfoldable pub run : List ℕ → List ℕ
 run [] = []
 run (b ∷ l) = let r = b ∷ run l in cond (eqb (classOf b) RUN) r []
 
+-- The word of a spelling, if the run is that; else the other number.
+abbrev pub spelledOr : List ℕ → List ℕ → ℕ → ℕ → ℕ
+spelledOr r spelling word other = cond (same r spelling) word other
+
 -- Which keyword a run is, numbered from n on; 0 if it is none.
 unfoldable pub keywordAmong : List (List ℕ) → ℕ → List ℕ → ℕ
 keywordAmong [] n r = 0
-keywordAmong (k ∷ ks) n r = let other = keywordAmong ks (suc n) r in cond (same r k) n other
+keywordAmong (k ∷ ks) n r = let other = keywordAmong ks (suc n) r in spelledOr r k n other
 
 unfoldable pub keywordOf : List ℕ → ℕ
 keywordOf r = keywordAmong keywords BEGIN r
 
--- All bytes are `0` to `9`.
-unfoldable pub digits : List ℕ → Bool
-digits [] = true
-digits (b ∷ l) = within 48 57 b && digits l
+-- The word of a number, base + n, where nothing stands after it: "2 where no word can be made or a number begins with a
+-- needless 0; 3 where a number is above its range". After a needless 0 the other digits stand.
+abbrev pub wordFrom : ℕ → Numeral → Word
+wordFrom base (is n []) = Made (base + n)
+wordFrom base (is n (b ∷ l)) = Bad 2
+wordFrom base (above []) = Bad 3
+wordFrom base (above (b ∷ l)) = Bad 2
+wordFrom base missing = Bad 2
 
--- Their decimal number, after the number v.
-unfoldable pub decimal : ℕ → List ℕ → ℕ
-decimal v [] = v
-decimal v (b ∷ l) = decimal (v * 10 + (b - 48)) l
-
--- "Only the number 0 itself begins with 0."
-abbrev pub needless : List ℕ → Bool
-needless l = eqb (getD l 0 0) 48 && ltb 1 (length l)
-
--- A number up to max, as the word base + n: "2 where no word can be made or a number begins with a needless 0; 3 where a
--- number is above its range".
+-- A number up to max.
 unfoldable pub numberOf : ℕ → ℕ → List ℕ → Word
-numberOf base max l =
-    cond (eqb (length l) 0 || not (digits l)) (Bad 2)
-    (cond (needless l) (Bad 2) (cond (leb (decimal 0 l) max) (Made (base + decimal 0 l)) (Bad 3)))
+numberOf base max l = wordFrom base (numeral max l)
 
 -- "Such a run is [a keyword], a literal, `s` with a number (signal 0 to 63) or `k` with a number (parameter 0 to 7)."
 unfoldable pub runOf : List ℕ → Word
 runOf r =
     cond (ltb 0 (keywordOf r)) (Made (keywordOf r))
-    (cond (eqb (getD r 0 0) 115) (numberOf SIGNAL 63 (drop 1 r))
-    (cond (eqb (getD r 0 0) 107) (numberOf PARAMETER 7 (drop 1 r)) (numberOf LITERAL 999999 r)))
+    (cond (eqb (getD r 0 0) 115) (numberOf SIGNAL (signalCount - 1) (drop 1 r))
+    (cond (eqb (getD r 0 0) 107) (numberOf PARAMETER (parameterCount - 1) (drop 1 r))
+    (numberOf LITERAL (literalCount - 1) r)))
 
 -- "by longest match": `<` and `>` with a `=` behind them.
 abbrev pub longest : ℕ → ℕ → Word
@@ -117,8 +117,8 @@ words [] p ws = made ws
 words (b ∷ l) p ws =
     let one = add (wordOf (classOf b) (b ∷ l)) ws (λ more. words l (classOf b) more) in
     let none = words l (classOf b) ws in
-    cond (begins p (classOf b)) (cond (eqb (length ws) 240) (refused 4) one) none
+    cond (begins p (classOf b)) (cond (eqb (length ws) wordLimit) (refused 4) one) none
 
 -- "1: the text is empty or over 2,048 bytes."
 unfoldable pub splitOf : List ℕ → Out
-splitOf text = cond (eqb (length text) 0 || ltb 2048 (length text)) (refused 1) (words text SPACE [])
+splitOf text = cond (eqb (length text) 0 || ltb textLimit (length text)) (refused 1) (words text SPACE [])

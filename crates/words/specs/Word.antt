@@ -1,8 +1,9 @@
 -- The words of a rule text and their numbers (document 01, "Rule text"). Definitions only.
 use mathlib.Core.Bool.{Bool, true, false, _&&_, _||_}
 use mathlib.Core.List.{List, [], _∷_}
-use Prim.Native.Nat.{ℕ, _+_}
+use Prim.Native.Nat.{ℕ, _+_, _-_}
 use lib.Dec.{leb}
+use Rattle.limits.specs.Limits.{signalCount, parameterCount, literalCount}
 use Rattle.lists.specs.Text.{bytes}
 
 -- "A word is `( ) [ ] ! & | <= < = > >=` by longest match, or a longest run of `a` to `z` and `0` to `9`."
@@ -84,6 +85,10 @@ SIGNAL = 64
 abbrev pub LITERAL : ℕ
 LITERAL = 1000000
 
+-- The highest word.
+abbrev pub lastWord : ℕ
+lastWord = LITERAL + (literalCount - 1)
+
 -- A number from lo to hi.
 abbrev pub within : ℕ → ℕ → ℕ → Bool
 within lo hi w = leb lo w && leb w hi
@@ -93,11 +98,11 @@ unfoldable pub isOp : ℕ → Bool
 isOp w = within LE GE w
 
 unfoldable pub isSignal : ℕ → Bool
-isSignal w = within SIGNAL (SIGNAL + 63) w
+isSignal w = within SIGNAL (SIGNAL + (signalCount - 1)) w
 
 -- "n a literal or a parameter"
 unfoldable pub isNum : ℕ → Bool
-isNum w = within PARAMETER (PARAMETER + 7) w || leb LITERAL w
+isNum w = within PARAMETER (PARAMETER + (parameterCount - 1)) w || leb LITERAL w
 
 -- "`0`, `1`" as P has them
 unfoldable pub isBit : ℕ → Bool

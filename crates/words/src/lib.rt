@@ -4,12 +4,13 @@ ghost use mathlib.Core.Path.{_≡_};
 ghost use Prim.Native.Nat.{_+_, _≤_, _<_, _^_};
 ghost use lib.Dec.{eqb};
 ghost use lib.ListN.{length, getD, drop};
-ghost use Rattle.words.specs.Word.{within, isOp, isSignal, isNum, isBit, isTest, isCount};
-ghost use Rattle.lists.specs.Same.{same};
-ghost use Rattle.words.specs.Split.{RUN, classOf, run, keywordOf, needless, numberOf, runOf};
+ghost use Rattle.limits.specs.Limits.{wordLimit, literalCount};
+ghost use Rattle.words.specs.Word.{LITERAL, within, isOp, isSignal, isNum, isBit, isTest, isCount};
+ghost use Rattle.words.specs.Split.{RUN, classOf, run, spelledOr, keywordOf, numberOf, runOf};
 ghost use Rattle.words.specs.Split.{longest, wordOf};
 ghost use Rattle.words.specs.Width.{operatorWidth, widthOf};
 ghost use Rattle.words.specs.Answer.{Splits};
+use lists::Decimal;
 
 pub const ROUND: u32 = 1;
 
@@ -63,6 +64,13 @@ pub const SIGNAL: u32 = 64;
 
 pub const LITERAL: u32 = 1000000;
 
+// The highest number of a signal, a parameter and a literal.
+const LAST_SIGNAL: u32 = limits::SIGNALS - 1;
+
+const LAST_PARAMETER: u32 = limits::PARAMETERS - 1;
+
+const LAST_LITERAL: u32 = limits::LITERALS - 1;
+
 // Classes of bytes beside the operators, whose class is their word.
 const SPACE: u32 = 0;
 
@@ -88,12 +96,24 @@ pub enum Split {
     Refused(u32),
 }
 
+// Whether a byte is part of a run.
+fn in_run(b: u8) -> bool
+    ensures { λ r. ⌜ r ≡ eqb (classOf b) RUN ⌝ }
+{
+    match b {
+        b'a'..=b'z' | b'0'..=b'9' => true,
+        _ => false,
+    }
+}
+
 // The class of a byte: it decides which words it can be part of.
 fn class(b: u8) -> u32
     ensures { λ r. ⌜ r ≡ classOf b ⌝ }
 {
+    if in_run(b) {
+        return RUN;
+    }
     match b {
-        b'a'..=b'z' | b'0'..=b'9' => RUN,
         b' ' => SPACE,
         b'(' => ROUND,
         b')' => ROUND_END,
@@ -106,16 +126,6 @@ fn class(b: u8) -> u32
         b'=' => EQ,
         b'>' => GT,
         _ => OTHER,
-    }
-}
-
-// Whether a byte is part of a run.
-fn in_run(b: u8) -> bool
-    ensures { λ r. ⌜ r ≡ eqb (classOf b) RUN ⌝ }
-{
-    match b {
-        b'a'..=b'z' | b'0'..=b'9' => true,
-        _ => false,
     }
 }
 
@@ -134,110 +144,58 @@ fn run_end(text: &[u8], i: usize) -> usize
     end
 }
 
-// Whether two slices hold the same bytes.
-fn same_bytes(a: &[u8], b: &[u8]) -> bool
-    ensures { λ r. ⌜ r ≡ same (now (a .entry)) (now (b .entry)) ⌝ }
+// The word of a keyword, if the run spells it; else the other number.
+fn spelled_or(run: &[u8], spelling: &[u8], word: u32, other: u32) -> u32
+    ensures { λ r. ⌜ r ≡ spelledOr (now (run .entry)) (now (spelling .entry)) word other ⌝ }
 {
-    if a.len() != b.len() {
-        return false;
+    if lists::same_bytes(run, spelling) {
+        word
+    } else {
+        other
     }
-    let mut i = 0;
-    while i < a.len() {
-        if a[i] != b[i] {
-            return false;
-        }
-        i += 1;
-    }
-    true
 }
 
-// The keyword that a run spells, 0 if it is none.
+// The keyword that a run spells, 0 if it is none. The first byte leaves one keyword to compare with, or two.
 fn keyword(run: &[u8]) -> u32
     ensures { λ r. ⌜ r ≡ keywordOf (now (run .entry)) ⌝ }
 {
-    if same_bytes(run, b"begin") {
-        return BEGIN;
+    match lists::byte_at(run, 0) {
+        b'b' => spelled_or(run, b"begin", BEGIN, 0),
+        b'e' => spelled_or(run, b"end", END, spelled_or(run, b"exists", EXISTS, 0)),
+        b'p' => spelled_or(run, b"point", POINT, 0),
+        b'h' => spelled_or(run, b"held", HELD, 0),
+        b'k' => spelled_or(run, b"kept", KEPT, 0),
+        b'l' => spelled_or(run, b"len", LEN, 0),
+        b's' => spelled_or(run, b"sum", SUM, 0),
+        b'a' => spelled_or(run, b"age", AGE, 0),
+        b't' => spelled_or(run, b"then", THEN, 0),
+        b'c' => spelled_or(run, b"chop", CHOP, 0),
+        _ => 0,
     }
-    if same_bytes(run, b"end") {
-        return END;
-    }
-    if same_bytes(run, b"point") {
-        return POINT;
-    }
-    if same_bytes(run, b"held") {
-        return HELD;
-    }
-    if same_bytes(run, b"kept") {
-        return KEPT;
-    }
-    if same_bytes(run, b"len") {
-        return LEN;
-    }
-    if same_bytes(run, b"sum") {
-        return SUM;
-    }
-    if same_bytes(run, b"age") {
-        return AGE;
-    }
-    if same_bytes(run, b"then") {
-        return THEN;
-    }
-    if same_bytes(run, b"chop") {
-        return CHOP;
-    }
-    if same_bytes(run, b"exists") {
-        return EXISTS;
-    }
-    0
 }
 
-// A byte as a wider number.
-fn wide(b: u8) -> u32
-    ensures { λ r. ⌜ r ≡ b ⌝ }
-{
-    b as u32
-}
-
-// Whether digits begin with a 0 that is not the number 0 itself.
-fn needless_zero(digits: &[u8]) -> bool
-    ensures { λ r. ⌜ r ≡ needless (now (digits .entry)) ⌝ }
-{
-    if digits.len() < 2 {
-        return false;
-    }
-    digits[0] == b'0'
-}
-
-// A number up to max, as the word base + n. Once the value is above 999,999 it is held, so that nothing overflows.
+// A number up to max, as the word base + n. It has to be all of the digits.
 fn number(digits: &[u8], base: u32, max: u32) -> Word
-    requires { ⌜ (base ≤ 1000000) × (max ≤ 999999) ⌝ }
+    requires { ⌜ (base ≤ LITERAL) × (max < literalCount) ⌝ }
     ensures { λ r. ⌜ r ≡ numberOf base max (now (digits .entry)) ⌝ }
 {
-    if digits.len() == 0 {
-        return Word::Bad(2);
-    }
-    if needless_zero(digits) {
-        return Word::Bad(2);
-    }
-    let mut value: u32 = 0;
-    let mut i = 0;
-    while i < digits.len() {
-        let digit = digits[i];
-        if digit < b'0' {
-            return Word::Bad(2);
+    match lists::read_decimal(digits, 0, max) {
+        Decimal::Is { value, next } => {
+            if next < digits.len() {
+                Word::Bad(2)
+            } else {
+                Word::Made(base + value)
+            }
         }
-        if digit > b'9' {
-            return Word::Bad(2);
+        Decimal::Above { next } => {
+            if next < digits.len() {
+                Word::Bad(2)
+            } else {
+                Word::Bad(3)
+            }
         }
-        if value <= 999999 {
-            value = value * 10 + wide(digit - b'0');
-        }
-        i += 1;
+        Decimal::Missing => Word::Bad(2),
     }
-    if value <= max {
-        return Word::Made(base + value);
-    }
-    Word::Bad(3)
 }
 
 // The word that a run is.
@@ -250,9 +208,9 @@ fn run_word(run: &[u8]) -> Word
         return Word::Made(word);
     }
     match run[0] {
-        b's' => number(&run[1..], SIGNAL, 63),
-        b'k' => number(&run[1..], PARAMETER, 7),
-        _ => number(run, LITERAL, 999999),
+        b's' => number(&run[1..], SIGNAL, LAST_SIGNAL),
+        b'k' => number(&run[1..], PARAMETER, LAST_PARAMETER),
+        _ => number(run, LITERAL, LAST_LITERAL),
     }
 }
 
@@ -283,13 +241,6 @@ fn operator_at(c: u32, next: u8, i: usize) -> Token
     }
 }
 
-// The byte at i, 0 past the end.
-fn byte_at(text: &[u8], i: usize) -> u8
-    ensures { λ r. ⌜ r ≡ getD (now (text .entry)) i 0 ⌝ }
-{
-    if i < text.len() { text[i] } else { 0 }
-}
-
 // The word that begins at i with a byte of class c.
 fn word_at(text: &[u8], i: usize, c: u32) -> Token
     requires { ⌜ (i < length (now text)) × (c ≡ classOf (getD (now text) i 0)) ⌝ }
@@ -307,18 +258,18 @@ fn word_at(text: &[u8], i: usize, c: u32) -> Token
             end: i + 1,
         };
     }
-    operator_at(c, byte_at(text, i + 1), i)
+    operator_at(c, lists::byte_at(text, i + 1), i)
 }
 
 // The words of a text, stored at the front of out.
 pub fn split_text(text: &[u8], out: &mut [u32]) -> Split
-    requires { ⌜ 240 ≤ length (now out) ⌝ }
+    requires { ⌜ wordLimit ≤ length (now out) ⌝ }
     ensures { λ r. ⌜ Splits (now (text .entry)) (now (out .entry)) r (now (out .exit)) ⌝ }
 {
     if text.len() == 0 {
         return Split::Refused(1);
     }
-    if text.len() > 2048 {
+    if text.len() > limits::TEXT {
         return Split::Refused(1);
     }
     let mut count: usize = 0;
@@ -328,7 +279,7 @@ pub fn split_text(text: &[u8], out: &mut [u32]) -> Split
         if c == SPACE {
             i += 1;
         } else {
-            if count == 240 {
+            if count == limits::WORDS {
                 return Split::Refused(4);
             }
             let token = word_at(text, i, c);
@@ -369,14 +320,14 @@ pub fn is_op(w: u32) -> bool
 pub fn is_signal(w: u32) -> bool
     ensures { λ r. ⌜ r ≡ isSignal w ⌝ }
 {
-    is_within(SIGNAL, SIGNAL + 63, w)
+    is_within(SIGNAL, SIGNAL + LAST_SIGNAL, w)
 }
 
 // A parameter or a literal.
 pub fn is_num(w: u32) -> bool
     ensures { λ r. ⌜ r ≡ isNum w ⌝ }
 {
-    if is_within(PARAMETER, PARAMETER + 7, w) {
+    if is_within(PARAMETER, PARAMETER + LAST_PARAMETER, w) {
         return true;
     }
     w >= LITERAL

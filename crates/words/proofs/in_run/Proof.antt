@@ -3,7 +3,7 @@ use mathlib.Core.Path.{sym}
 use native.Mathlib.Omega.{arith}
 use borrow.Author.Tests.{eq-eqb}
 use Rattle.words.specs.Split.{RUN}
-use Rattle.words.proofs.Classes.{below, above, letter, digit, no-run}
+use Rattle.words.proofs.Classes.{within-below, within-above, letter, digit, no-run}
 use Rattle.words.proofs.in_run.Statement.{statement}
 use Rattle.words.proofs.in_run.Tie as tie
 
@@ -22,17 +22,17 @@ returns-2 c =
 returns-3 : tie.Need-returns-3
 returns-3 c =
     let b = c .before .args .b in
-    sym (no-run b (below 97 122 b (omega arith)) (below 48 57 b (c .if1 .taken)))
+    sym (no-run b (within-below 97 122 b (omega arith)) (within-below 48 57 b (c .if1 .taken)))
 
 returns-4 : tie.Need-returns-4
 returns-4 c =
     let b = c .before .before .before .args .b in
-    sym (no-run b (below 97 122 b (c .if3 .taken)) (above 48 57 b (c .before .if2 .left)))
+    sym (no-run b (within-below 97 122 b (c .if3 .taken)) (within-above 48 57 b (c .before .if2 .left)))
 
 returns-5 : tie.Need-returns-5
 returns-5 c =
     let b = c .before .before .before .before .args .b in
-    sym (no-run b (above 97 122 b (c .if4 .left)) (above 48 57 b (c .before .before .if2 .left)))
+    sym (no-run b (within-above 97 122 b (c .if4 .left)) (within-above 48 57 b (c .before .before .if2 .left)))
 
 pub in-run-spec : {M : Type 1} → statement M
 in-run-spec = tie.close (tie.spec returns returns-2 returns-3 returns-4 returns-5)
