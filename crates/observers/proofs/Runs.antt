@@ -20,7 +20,8 @@ use Rattle.flows.specs.Run.{Call, answers}
 use Rattle.flows.specs.declared.Stepped.{Stepped}
 use Rattle.flows.specs.declared.Stepped.the-variants.{Verdict, Refused}
 use Rattle.scheme.specs.Emit.{numbersOf}
-use Rattle.words.specs.Split.{classOf, run, keywordAmong, keywordOf, digits as areDigits, decimal, numberOf, runOf}
+use Rattle.lists.specs.Decimal.{isDigit, digitsAfter, numeral}
+use Rattle.words.specs.Split.{classOf, run, keywordAmong, keywordOf, numberOf, runOf}
 use Rattle.words.specs.Split.{wordOf, words, splitOf}
 use Rattle.words.specs.Word.{isOp, isSignal, isNum, isBit, isTest, isCount}
 use Rattle.grammar.specs.Fragment.{names}
@@ -48,5 +49,5 @@ answersOf es r =
     answers standardCap t n (freshened t n (replicate n 7) .state) (callsOf n (ticksOf (digits (r .starts)) signals))
 
 pub runs : map (λ r. answersOf (equationsOf (ruleOf (bytes (r .text)))) r) rows ≡ map (λ r. map Verdict (digits (r .verdicts))) rows
-unfolding ruleOf splitOf words wordOf runOf run classOf keywordOf keywordAmong numberOf areDigits decimal treeOf read parse isOp isSignal isNum isBit isTest isCount names deep counted tally answers freshened freshChecked stepped stepChecked afterTick parameterFits cellFits increased valueOf flows isMemory written initial inRange kindOf shapeOf sameSort isFlow operandFits shapeFits lengthFits equationsFit all checked
+unfolding ruleOf splitOf words wordOf runOf run classOf keywordOf keywordAmong numberOf isDigit digitsAfter numeral treeOf read parse isOp isSignal isNum isBit isTest isCount names deep counted tally answers freshened freshChecked stepped stepChecked afterTick parameterFits cellFits increased valueOf flows isMemory written initial inRange kindOf shapeOf sameSort isFlow operandFits shapeFits lengthFits equationsFit all checked
 runs = refl

@@ -13,7 +13,8 @@ use Rattle.lists.specs.Same.{same}
 use Rattle.lists.proofs.Same.{same→eq}
 use Rattle.formulas.specs.Formula.{Formula}
 use Rattle.formulas.specs.Tree.{Tree, nodes, formulaOf}
-use Rattle.words.specs.Split.{classOf, run, keywordAmong, keywordOf, digits as areDigits, decimal, numberOf, runOf}
+use Rattle.lists.specs.Decimal.{isDigit, digitsAfter, numeral}
+use Rattle.words.specs.Split.{classOf, run, keywordAmong, keywordOf, numberOf, runOf}
 use Rattle.words.specs.Split.{wordOf, words, splitOf}
 use Rattle.words.specs.Word.{isOp, isSignal, isNum, isBit, isTest, isCount}
 use Rattle.grammar.specs.Fragment.{names}
@@ -38,7 +39,7 @@ every (r ∷ rs) = testOutcome r (ruleOf (bytes (r .text))) && every rs
 
 -- The test of all rows, computed.
 all-rows : T (every rows)
-unfolding ruleOf splitOf words wordOf runOf run classOf keywordOf keywordAmong numberOf areDigits decimal treeOf read parse isOp isSignal isNum isBit isTest isCount names deep counted tally
+unfolding ruleOf splitOf words wordOf runOf run classOf keywordOf keywordAmong numberOf isDigit digitsAfter numeral treeOf read parse isOp isSignal isNum isBit isTest isCount names deep counted tally
 all-rows = tt
 
 -- A row that passes the test holds.
