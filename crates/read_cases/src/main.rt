@@ -1,17 +1,18 @@
-// Reads each line of standard input as a rule text and prints what reading it answers. The lines of `stdin` and `stdout`
-// are written by hand from document 01: its "Run only" list, P1 to P13, and texts for each refusal and their order.
+// Reads each line of standard input as a rule text and prints what reading it answers. The lines of `stdin` and
+// `stdout` are written by hand from document 01: its "Run only" list, P1 to P13, and texts for each refusal and their
+// order.
 use libc::STDIN_FILENO;
 use libc::STDOUT_FILENO;
-use rules::Answer;
+use rules::Read;
 
 // Prints the answer for a text, and the text.
 fn show(text: &[u8]) {
     match rules::read_rule(text) {
-        Answer::Rule(n) => {
+        Read::Rule(n) => {
             io::write_all(STDOUT_FILENO, b"nodes=");
             io::print_decimal(STDOUT_FILENO, n as u64);
         }
-        Answer::Refused(n) => {
+        Read::Refused(n) => {
             io::write_all(STDOUT_FILENO, b"refused=");
             io::print_decimal(STDOUT_FILENO, n as u64);
         }

@@ -2,6 +2,8 @@
 pub mod Runs
 pub mod Theorems
 pub mod SameRule
-mod Passes
-mod Join
+pub mod Laid
 pub mod Sameness
+mod Decided
+mod Passes
+mod Outcomes

@@ -1,5 +1,5 @@
--- The functions on word lists that the limits and the fragment are defined by, one word at a time, and what is known while
--- a loop passes the words. Assumes nothing.
+-- The functions on word lists that the limits and the fragment are defined by, one word at a time, and what is known
+-- while a loop passes the words. Assumes nothing.
 use mathlib.Core.Bool.{Bool, true, false, not, _&&_, _||_, cond, or-false}
 use mathlib.Core.Path.{_≡_, refl, sym, ap, _∙_}
 use mathlib.Core.List.{List, _∷_}
@@ -13,7 +13,7 @@ use lib.Seq.{drop-cons}
 use borrow.Author.Tests.{lt-ltb, le-ltb}
 use Rattle.words.specs.Word.{CHOP, EXISTS}
 use Rattle.grammar.specs.Fragment.{names, beyond}
-use Rattle.rules.specs.Limits.{opened, deep, counted, tally, over}
+use Rattle.rules.specs.Limits.{bracketLimit, operatorLimit, opened, deep, counted, tally, over}
 
 or-eq-false-left : (a b : Bool) → (a || b) ≡ false → a ≡ false
 or-eq-false-left true b e = e
@@ -48,13 +48,14 @@ module _ (ws : List ℕ) (i : ℕ) where
 -- ---- round brackets open, d before position i
 
 module _ (d : ℕ) (ws : List ℕ) (i : ℕ) where
-  deep-here : i < length ws → 16 < opened d (getD ws i 0) → deep d (drop i ws) ≡ true
+  deep-here : i < length ws → bracketLimit < opened d (getD ws i 0) → deep d (drop i ws) ≡ true
   unfolding deep
   deep-here h l =
       ap (deep d) (words-at ws i h)
       ∙ ap (λ (b : Bool). b || deep (opened d (getD ws i 0)) (drop (i + 1) ws)) (lt-ltb _ _ l)
 
-  deep-later : i < length ws → opened d (getD ws i 0) ≤ 16 → deep d (drop i ws) ≡ deep (opened d (getD ws i 0)) (drop (i + 1) ws)
+  deep-later : i < length ws → opened d (getD ws i 0) ≤ bracketLimit
+      → deep d (drop i ws) ≡ deep (opened d (getD ws i 0)) (drop (i + 1) ws)
   unfolding deep
   deep-later h l =
       ap (deep d) (words-at ws i h)
@@ -83,7 +84,7 @@ module _ (ws : List ℕ) (i : ℕ) where
 -- Before position i: `depth` round brackets are open, n words were counted, and b tells of `chop` and `exists`.
 pub record Passed (ws : List ℕ) (depth n : ℕ) (b : Bool) (i : ℕ) : Type 0 where
   pub in-words : i ≤ length ws
-  pub low : depth ≤ 16
+  pub low : depth ≤ bracketLimit
   pub few : n ≤ i
   pub deep-left : deep depth (drop i ws) ≡ deep 0 ws
   pub tally-left : n + tally (drop i ws) ≡ tally ws
@@ -102,7 +103,7 @@ passed-none ws =
 
 module _ {ws : List ℕ} {depth n : ℕ} {b : Bool} {i : ℕ} (h : Passed ws depth n b i) where
   -- The word at i opens one bracket too many.
-  pub passed-deep : i < length ws → 16 < opened depth (getD ws i 0) → deep 0 ws ≡ true
+  pub passed-deep : i < length ws → bracketLimit < opened depth (getD ws i 0) → deep 0 ws ≡ true
   passed-deep l m = sym (h .deep-left) ∙ deep-here depth ws i l m
 
   counts : (x : Bool) (n′ : ℕ) → i < length ws → counted (getD ws i 0) ≡ x → n′ ≡ cond x (suc n) n
@@ -112,7 +113,7 @@ module _ {ws : List ℕ} {depth n : ℕ} {b : Bool} {i : ℕ} (h : Passed ws dep
 
   -- The word at i.
   pub passed-one : (x : Bool) {depth′ n′ : ℕ} {b′ : Bool} → i < length ws → depth′ ≡ opened depth (getD ws i 0)
-      → depth′ ≤ 16 → counted (getD ws i 0) ≡ x → n′ ≡ cond x (suc n) n
+      → depth′ ≤ bracketLimit → counted (getD ws i 0) ≡ x → n′ ≡ cond x (suc n) n
       → b′ ≡ (b || (eqb (getD ws i 0) CHOP || eqb (getD ws i 0) EXISTS)) → Passed ws depth′ n′ b′ (i + 1)
   passed-one x {depth′} {n′} {b′} l d m e c g =
       let more = counts x n′ l e c in
@@ -132,7 +133,7 @@ module _ {ws : List ℕ} {depth n : ℕ} {b : Bool} {i : ℕ} (h : Passed ws dep
     not-deep : deep 0 ws ≡ false
     not-deep = sym (h .deep-left) ∙ deep-never depth ws i l
 
-    pub passed-over : ltb 32 n ≡ over ws
+    pub passed-over : ltb operatorLimit n ≡ over ws
     passed-over =
         let all : n ≡ tally ws = omega (arith, h .tally-left, tally-end ws i l) in
         rw (all, not-deep)
@@ -142,4 +143,6 @@ module _ {ws : List ℕ} {depth n : ℕ} {b : Bool} {i : ℕ} (h : Passed ws dep
 
 -- What the pass tells of `chop` and `exists` where no limit is passed.
 pub beyond-told : (ws : List ℕ) {r : Bool} → over ws ≡ false → r ≡ (not (deep 0 ws) && beyond ws) → beyond ws ≡ r
-beyond-told ws o e = let no-deep : deep 0 ws ≡ false = or-eq-false-left (deep 0 ws) (ltb 32 (tally ws)) o in sym (e ∙ rw no-deep)
+beyond-told ws o e =
+    let no-deep : deep 0 ws ≡ false = or-eq-false-left (deep 0 ws) (ltb operatorLimit (tally ws)) o in
+    sym (e ∙ rw no-deep)

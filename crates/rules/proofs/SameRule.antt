@@ -2,7 +2,7 @@
 -- same meaning on every interval. Assumes nothing.
 use mathlib.Core.Path.{_≡_, refl, sym, ap, _∙_}
 use mathlib.Core.List.{List}
-use mathlib.Core.Option.{Option, some}
+use mathlib.Core.Option.{some}
 use Prim.Native.Nat.{ℕ}
 use native.Mathlib.Omega.{arith}
 use Rattle.traces.specs.Trace.{Trace}
@@ -10,29 +10,36 @@ use Rattle.formulas.specs.Formula.{Formula}
 use Rattle.formulas.specs.Tree.{Tree, formulaOf}
 use Rattle.formulas.specs.Meaning.{meaning, verdict}
 use Rattle.rules.specs.Reading.{Outcome, ruleOf}
-use Rattle.rules.specs.Reading.Outcome.{refused, rule}
-use Rattle.rules.specs.Same.{Compared}
-use Rattle.rules.specs.Same.Compared.{first-refused, second-refused, one-tree, two-trees}
+use Rattle.rules.specs.Reading.Outcome.{rule}
+use Rattle.rules.specs.Same.{SameAnswer}
+use Rattle.rules.specs.Same.SameAnswer.{first-refused, second-refused, one-tree, two-trees}
 use Rattle.rules.specs.declared.Same.{Same}
 use Rattle.rules.specs.declared.Same.the-variants.{Yes, No, Refused}
 
--- The two outcomes are one tree, "exactly if" in both directions.
-pub yes-tree : {x y : Outcome} {r : Same} → Compared x y r → r ≡ Yes → (t : Tree) × (x ≡ rule t) × (y ≡ rule t)
-yes-tree (first-refused e) q = absurd (let z : _≡_ {A = ℕ} 0 1 = cc in omega arith)
-yes-tree (second-refused e f) q = absurd (let z : _≡_ {A = ℕ} 0 1 = cc in omega arith)
-yes-tree (one-tree {t} e f) q = (t, e, f)
-yes-tree (two-trees e f n) q = absurd (let z : _≡_ {A = ℕ} 0 1 = cc in omega arith)
+-- The other answers are not yes.
+refused-yes : {n : ℕ} → Refused n ≡ Yes → ⊥
+refused-yes q = let z : _≡_ {A = ℕ} 0 1 = cc in omega arith
 
-pub tree-yes : {x y : Outcome} {r : Same} (t : Tree) → x ≡ rule t → y ≡ rule t → Compared x y r → r ≡ Yes
-tree-yes t p q (first-refused e) = absurd (let z : _≡_ {A = ℕ} 0 1 = cc in omega arith)
-tree-yes t p q (second-refused e f) = absurd (let z : _≡_ {A = ℕ} 0 1 = cc in omega arith)
+no-yes : No ≡ Yes → ⊥
+no-yes q = let z : _≡_ {A = ℕ} 0 1 = cc in omega arith
+
+-- The two outcomes are one tree, "exactly if" in both directions.
+pub yes-tree : {x y : Outcome} {r : Same} → SameAnswer x y r → r ≡ Yes → (t : Tree) × (x ≡ rule t) × (y ≡ rule t)
+yes-tree (first-refused e) q = absurd (refused-yes q)
+yes-tree (second-refused e f) q = absurd (refused-yes q)
+yes-tree (one-tree {t} e f) q = (t, e, f)
+yes-tree (two-trees e f n) q = absurd (no-yes q)
+
+pub tree-yes : {x y : Outcome} {r : Same} (t : Tree) → x ≡ rule t → y ≡ rule t → SameAnswer x y r → r ≡ Yes
+tree-yes t p q (first-refused e) = cc
+tree-yes t p q (second-refused e f) = cc
 tree-yes t p q (one-tree e f) = refl
-tree-yes t p q (two-trees {t = u} {u = v} e f n) = absurd (n (let l : u ≡ t = cc in let r : v ≡ t = cc in l ∙ sym r))
+tree-yes t p q (two-trees {t = u} {u = v} e f n) = absurd (n (let same : u ≡ v = cc in same))
 
 -- ---- an equivalence on texts that are rules
 
 abbrev pub SameRule : List ℕ → List ℕ → Type 0
-SameRule a b = Compared (ruleOf a) (ruleOf b) Yes
+SameRule a b = SameAnswer (ruleOf a) (ruleOf b) Yes
 
 pub reflexive : (a : List ℕ) (t : Tree) → ruleOf a ≡ rule t → SameRule a a
 reflexive a t e = one-tree e e
@@ -50,7 +57,8 @@ transitive a b c h k =
 -- ---- one meaning
 
 -- Texts that are the same rule have one formula,
-pub same-formula : (a b : List ℕ) → SameRule a b → (t u : Tree) → ruleOf a ≡ rule t → ruleOf b ≡ rule u → formulaOf t ≡ formulaOf u
+pub same-formula : (a b : List ℕ) → SameRule a b → (t u : Tree) → ruleOf a ≡ rule t → ruleOf b ≡ rule u
+    → formulaOf t ≡ formulaOf u
 same-formula a b h t u e f =
     let s = yes-tree h refl in
     let p = s .1 in

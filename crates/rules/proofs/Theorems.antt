@@ -1,5 +1,5 @@
--- Reading a rule as document 01 states it (specs/Reading.antt: `Reads`) and as it is computed (`ruleOf`) are the same:
--- every text has an outcome, it has one, and it is a rule exactly if limits, grammar and fragment have it.
+-- Reading a rule as document 01 states it (specs/Reading.antt: `HasOutcome`) and as it is computed (`ruleOf`) are the
+-- same: every text has an outcome, it has one, and it is a rule exactly if limits, grammar and fragment have it.
 -- Assumes nothing.
 use mathlib.Core.Bool.{Bool, true, false, cond}
 use mathlib.Core.Path.{_≡_, refl, sym, ap, _∙_, subst}
@@ -7,7 +7,6 @@ use mathlib.Core.List.{List}
 use mathlib.Core.Logic.{_↔_}
 use mathlib.Core.Option.{Option, none, some}
 use Prim.Native.Nat.{ℕ}
-use native.Mathlib.Omega.{arith}
 use Rattle.words.specs.Split.{Out, splitOf}
 use Rattle.words.specs.Split.Out.{made}
 use Rattle.formulas.specs.Formula.{Formula}
@@ -17,40 +16,44 @@ use Rattle.grammar.specs.Fragment.{beyond}
 use Rattle.grammar.specs.Parse.{treeOf}
 use Rattle.grammar.proofs.Theorems.{tree-rule, rule-tree, no-tree, rule-formula}
 use Rattle.rules.specs.Limits.{over}
-use Rattle.rules.specs.Reading.{Outcome, Reads, ruleOf, ofWords, ofTree}
+use Rattle.rules.specs.Reading.{Outcome, HasOutcome, ruleOf, ofWords, ofTree}
 use Rattle.rules.specs.Reading.Outcome.{refused, rule}
-use Rattle.rules.specs.Reading.Reads.{no-words, over-limits, no-rule, outside, no-lead, is-rule}
+use Rattle.rules.specs.Reading.HasOutcome.{no-words, over-limits, no-grammar, outside, no-lead, is-rule}
 use Rattle.rules.specs.Admitted.{Admitted}
+use Rattle.rules.specs.Contract.{Told, answerOf}
+use Rattle.rules.specs.declared.Read.{Read}
+use Rattle.rules.proofs.Decided.{refused-rule, over-words, tree-words, beyond-words, lead-words}
 
 -- ---- every text has the outcome that is computed
 
 module _ {text : List ℕ} where
   of-lead : {ws : List ℕ} {t : Tree} → splitOf text ≡ made ws → over ws ≡ false → Rule ws t → beyond ws ≡ false
-      → (b : Bool) → leads t ≡ b → Reads text (cond b (rule t) (refused 8))
+      → (b : Bool) → leads t ≡ b → HasOutcome text (cond b (rule t) (refused 8))
   of-lead e o r f true l = is-rule e o r f l
   of-lead e o r f false l = no-lead e o r f l
 
   of-fragment : {ws : List ℕ} {t : Tree} → splitOf text ≡ made ws → over ws ≡ false → Rule ws t
-      → (b : Bool) → beyond ws ≡ b → Reads text (cond b (refused 7) (cond (leads t) (rule t) (refused 8)))
+      → (b : Bool) → beyond ws ≡ b → HasOutcome text (cond b (refused 7) (cond (leads t) (rule t) (refused 8)))
   of-fragment e o r true f = outside e o r f
   of-fragment {t = t} e o r false f = of-lead e o r f (leads t) refl
 
-  of-tree : {ws : List ℕ} → splitOf text ≡ made ws → over ws ≡ false → (x : Option Tree) → treeOf ws ≡ x → Reads text (ofTree ws x)
-  of-tree {ws} e o none g = no-rule e o (no-tree ws g)
+  of-tree : {ws : List ℕ} → splitOf text ≡ made ws → over ws ≡ false → (x : Option Tree) → treeOf ws ≡ x
+      → HasOutcome text (ofTree ws x)
+  of-tree {ws} e o none g = no-grammar e o (no-tree ws g)
   of-tree {ws} e o (some t) g = of-fragment e o (tree-rule ws t g) (beyond ws) refl
 
   of-limits : {ws : List ℕ} → splitOf text ≡ made ws → (b : Bool) → over ws ≡ b
-      → Reads text (cond b (refused 5) (ofTree ws (treeOf ws)))
+      → HasOutcome text (cond b (refused 5) (ofTree ws (treeOf ws)))
   of-limits e true o = over-limits e o
   of-limits {ws} e false o = of-tree e o (treeOf ws) refl
 
-  of-words : (x : Out) → splitOf text ≡ x → Reads text (ofWords x)
+  of-words : (x : Out) → splitOf text ≡ x → HasOutcome text (ofWords x)
   of-words (Out.refused n) e = no-words e
   of-words (made ws) e = of-limits e (over ws) refl
 
-pub reads : (text : List ℕ) → Reads text (ruleOf text)
+pub has-outcome : (text : List ℕ) → HasOutcome text (ruleOf text)
 unfolding ruleOf
-reads text = of-words (splitOf text) refl
+has-outcome text = of-words (splitOf text) refl
 
 -- ---- and no other
 
@@ -63,40 +66,32 @@ none-of ws h = go (treeOf ws) refl
     go (some t) g = absurd (h t (tree-rule ws t g))
 
 module _ (text : List ℕ) where
-  -- within the limits, what is computed from the words
-  within : {ws : List ℕ} {x : Option Tree} → splitOf text ≡ made ws → over ws ≡ false → treeOf ws ≡ x → ruleOf text ≡ ofTree ws x
-  unfolding ruleOf
-  within {ws} e o g =
-      ap ofWords e ∙ ap (λ (b : Bool). cond b (refused 5) (ofTree ws (treeOf ws))) o ∙ ap (ofTree ws) g
-
-  -- and, of a derived tree, from the fragment
-  derived : {ws : List ℕ} {t : Tree} → splitOf text ≡ made ws → over ws ≡ false → Rule ws t
-      → (b : Bool) → beyond ws ≡ b → ruleOf text ≡ cond b (refused 7) (cond (leads t) (rule t) (refused 8))
-  derived {ws} {t} e o r b f =
-      within e o (rule-tree ws t r) ∙ ap (λ (x : Bool). cond x (refused 7) (cond (leads t) (rule t) (refused 8))) f
-
-  pub computed : {x : Outcome} → Reads text x → ruleOf text ≡ x
+  pub computed : {x : Outcome} → HasOutcome text x → ruleOf text ≡ x
   unfolding ruleOf
   computed (no-words e) = ap ofWords e
-  computed (over-limits {ws} e o) = ap ofWords e ∙ ap (λ (b : Bool). cond b (refused 5) (ofTree ws (treeOf ws))) o
-  computed (no-rule {ws} e o h) = within e o (none-of ws h)
-  computed (outside e o r f) = derived e o r true f
-  computed (no-lead {t = t} e o r f l) = derived e o r false f ∙ ap (λ (b : Bool). cond b (rule t) (refused 8)) l
-  computed (is-rule {t = t} e o r f l) = derived e o r false f ∙ ap (λ (b : Bool). cond b (rule t) (refused 8)) l
+  computed (over-limits {ws} e o) = ap ofWords e ∙ over-words ws o
+  computed (no-grammar {ws} e o h) = ap ofWords e ∙ tree-words ws o (none-of ws h)
+  computed (outside {ws} {t} e o r f) = ap ofWords e ∙ beyond-words ws o (rule-tree ws t r) f
+  computed (no-lead {ws} {t} e o r f l) = ap ofWords e ∙ lead-words ws o (rule-tree ws t r) f l
+  computed (is-rule {ws} {t} e o r f l) = ap ofWords e ∙ lead-words ws o (rule-tree ws t r) f l
 
 -- A text has one outcome.
-pub one-outcome : (text : List ℕ) (x y : Outcome) → Reads text x → Reads text y → x ≡ y
+pub one-outcome : (text : List ℕ) (x y : Outcome) → HasOutcome text x → HasOutcome text y → x ≡ y
 one-outcome text x y p q = sym (computed text p) ∙ computed text q
+
+-- An answer that is computed is the one that document 01 tells.
+pub told : (text : List ℕ) (r : Read) → r ≡ answerOf (ruleOf text) → Told text r
+told text r e = record { outcome = ruleOf text; has = has-outcome text; answer = e }
 
 -- ---- demand 2
 
 -- A text is read as a rule exactly if limits, grammar and fragment have it.
-rule-parts : (text : List ℕ) (x : Outcome) (t : Tree) → Reads text x → x ≡ rule t → Admitted text t
-rule-parts text x t (no-words e) q = absurd (let z : _≡_ {A = ℕ} 0 1 = cc in omega arith)
-rule-parts text x t (over-limits e o) q = absurd (let z : _≡_ {A = ℕ} 0 1 = cc in omega arith)
-rule-parts text x t (no-rule e o h) q = absurd (let z : _≡_ {A = ℕ} 0 1 = cc in omega arith)
-rule-parts text x t (outside e o r f) q = absurd (let z : _≡_ {A = ℕ} 0 1 = cc in omega arith)
-rule-parts text x t (no-lead e o r f l) q = absurd (let z : _≡_ {A = ℕ} 0 1 = cc in omega arith)
+rule-parts : (text : List ℕ) (x : Outcome) (t : Tree) → HasOutcome text x → x ≡ rule t → Admitted text t
+rule-parts text x t (no-words e) q = absurd (refused-rule q)
+rule-parts text x t (over-limits e o) q = absurd (refused-rule q)
+rule-parts text x t (no-grammar e o h) q = absurd (refused-rule q)
+rule-parts text x t (outside e o r f) q = absurd (refused-rule q)
+rule-parts text x t (no-lead e o r f l) q = absurd (refused-rule q)
 rule-parts text x t (is-rule {ws} {t = u} e o r f l) q =
     let same : u ≡ t = cc in
     record {
@@ -110,7 +105,7 @@ rule-parts text x t (is-rule {ws} {t = u} e o r f l) q =
 
 pub accepted : (text : List ℕ) (t : Tree) → (ruleOf text ≡ rule t) ↔ Admitted text t
 accepted text t = (
-  λ e. rule-parts text (ruleOf text) t (reads text) e,
+  λ e. rule-parts text (ruleOf text) t (has-outcome text) e,
   λ a. computed text (is-rule (a .words) (a .limits) (a .grammar) (a .fragment) (a .lead)),
 )
 

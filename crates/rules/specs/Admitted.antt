@@ -1,10 +1,10 @@
 -- Which texts are rules (demand 2: "A text is a rule exactly when document 01's limits, grammar and fragment have it").
 -- Definitions only.
-use mathlib.Core.Bool.{Bool, true, false}
+use mathlib.Core.Bool.{true, false}
 use mathlib.Core.Path.{_≡_}
 use mathlib.Core.List.{List}
 use Prim.Native.Nat.{ℕ}
-use Rattle.words.specs.Split.{Out, splitOf}
+use Rattle.words.specs.Split.{splitOf}
 use Rattle.words.specs.Split.Out.{made}
 use Rattle.formulas.specs.Tree.{Tree, leads}
 use Rattle.grammar.specs.Grammar.{Rule}

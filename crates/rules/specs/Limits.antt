@@ -1,5 +1,5 @@
 -- Refusal 5 (document 01, "Read a rule"). Definitions only.
-use mathlib.Core.Bool.{Bool, true, false, _||_, cond}
+use mathlib.Core.Bool.{Bool, false, _||_, cond}
 use mathlib.Core.List.{List, [], _∷_}
 use Prim.Native.Nat.{ℕ, suc, pred}
 use lib.Dec.{eqb, ltb}
@@ -10,9 +10,12 @@ abbrev pub opened : ℕ → ℕ → ℕ
 opened d w = cond (eqb w ROUND) (suc d) (cond (eqb w ROUND-END) (pred d) d)
 
 -- "more than 16 round brackets open at some word"
+abbrev pub bracketLimit : ℕ
+bracketLimit = 16
+
 unfoldable pub deep : ℕ → List ℕ → Bool
 deep d [] = false
-deep d (w ∷ ws) = ltb 16 (opened d w) || deep (opened d w) ws
+deep d (w ∷ ws) = ltb bracketLimit (opened d w) || deep (opened d w) ws
 
 -- `!`, `then`, `chop`, `exists`
 unfoldable pub counted : ℕ → Bool
@@ -23,6 +26,10 @@ unfoldable pub tally : List ℕ → ℕ
 tally [] = 0
 tally (w ∷ ws) = cond (counted w) (suc (tally ws)) (tally ws)
 
+-- "more than 32 of `!`, `then`, `chop`, `exists` together"
+abbrev pub operatorLimit : ℕ
+operatorLimit = 32
+
 -- "5: more than 16 round brackets open at some word .., or more than 32 of `!`, `then`, `chop`, `exists` together."
 abbrev pub over : List ℕ → Bool
-over ws = deep 0 ws || ltb 32 (tally ws)
+over ws = deep 0 ws || ltb operatorLimit (tally ws)

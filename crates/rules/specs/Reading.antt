@@ -1,5 +1,5 @@
 -- What reading a rule text gives (document 01, "Read a rule": "The first that applies counts"). Definitions only.
-use mathlib.Core.Bool.{Bool, true, false, cond}
+use mathlib.Core.Bool.{true, false, cond}
 use mathlib.Core.Path.{_≡_}
 use mathlib.Core.List.{List}
 use mathlib.Core.Option.{Option, none, some}
@@ -17,24 +17,24 @@ pub data Outcome : Type 0 where
   refused : ℕ → Outcome
   rule : Tree → Outcome
 
--- Document 01's reading of a text, with its grammar as a relation.
-pub data Reads (text : List ℕ) : Outcome → Type 0 where
+-- The outcome that a text has by document 01, with its grammar as a relation.
+pub data HasOutcome (text : List ℕ) : Outcome → Type 0 where
   -- "1: the text is empty or over 2,048 bytes. Then word by word, whichever word is earliest: 4 ..; 2 ..; 3 .."
-  no-words : {n : ℕ} → splitOf text ≡ Out.refused n → Reads text (refused n)
+  no-words : {n : ℕ} → splitOf text ≡ Out.refused n → HasOutcome text (refused n)
   -- "5: more than 16 round brackets open at some word .."
-  over-limits : {ws : List ℕ} → splitOf text ≡ made ws → over ws ≡ true → Reads text (refused 5)
+  over-limits : {ws : List ℕ} → splitOf text ≡ made ws → over ws ≡ true → HasOutcome text (refused 5)
   -- "6: not the grammar."
-  no-rule : {ws : List ℕ} → splitOf text ≡ made ws
-      → over ws ≡ false → ((t : Tree) → Rule ws t → ⊥) → Reads text (refused 6)
+  no-grammar : {ws : List ℕ} → splitOf text ≡ made ws
+      → over ws ≡ false → ((t : Tree) → Rule ws t → ⊥) → HasOutcome text (refused 6)
   -- "7: `chop` or `exists` stands in it."
   outside : {ws : List ℕ} {t : Tree} → splitOf text ≡ made ws
-      → over ws ≡ false → Rule ws t → beyond ws ≡ true → Reads text (refused 7)
+      → over ws ≡ false → Rule ws t → beyond ws ≡ true → HasOutcome text (refused 7)
   -- "8: the left of some `then` is no lead."
   no-lead : {ws : List ℕ} {t : Tree} → splitOf text ≡ made ws
-      → over ws ≡ false → Rule ws t → beyond ws ≡ false → leads t ≡ false → Reads text (refused 8)
+      → over ws ≡ false → Rule ws t → beyond ws ≡ false → leads t ≡ false → HasOutcome text (refused 8)
   -- Else the text is a rule.
   is-rule : {ws : List ℕ} {t : Tree} → splitOf text ≡ made ws
-      → over ws ≡ false → Rule ws t → beyond ws ≡ false → leads t ≡ true → Reads text (rule t)
+      → over ws ≡ false → Rule ws t → beyond ws ≡ false → leads t ≡ true → HasOutcome text (rule t)
 
 -- The same as a computation, by the parser of `grammar`. That the two agree is shown in proofs/Theorems.antt.
 abbrev pub ofTree : List ℕ → Option Tree → Outcome

@@ -1,18 +1,17 @@
 -- The trial runs P1 to P13 (document 01, "Trial runs") as rows of one table. Definitions only.
-use mathlib.Core.Bool.{Bool, true, false}
 use mathlib.Core.Path.{_≡_}
 use mathlib.Core.List.{List, [], _∷_, map}
-use mathlib.Core.Option.{Option, some}
+use mathlib.Core.Option.{some}
 use Prim.Native.Nat.{ℕ, zero, suc, _-_}
 use Prim.Native.String.{String}
-use lib.ListN.{length, replicate}
+use lib.ListN.{replicate}
 use Rattle.lists.specs.Text.{bytes}
 use Rattle.traces.specs.declared.Tick.{Tick}
 use Rattle.traces.specs.Trace.{Trace, traceOf}
 use Rattle.formulas.specs.Formula.{Formula}
 use Rattle.formulas.specs.Tree.{Tree, nodes, formulaOf}
 use Rattle.formulas.specs.Meaning.{verdict}
-use Rattle.rules.specs.Reading.{Outcome, ruleOf}
+use Rattle.rules.specs.Reading.{ruleOf}
 use Rattle.rules.specs.Reading.Outcome.{rule}
 
 -- A rule's text, its node count, and the start and the verdict at each of the five ticks.

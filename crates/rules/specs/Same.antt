@@ -1,5 +1,5 @@
--- Same rule, two texts (document 01: "1 to 8 for the first, then for the second; otherwise yes exactly if both read to one
--- tree"). Definitions only.
+-- Same rule, two texts (document 01: "1 to 8 for the first, then for the second; otherwise yes exactly if both read to
+-- one tree"). Definitions only.
 use mathlib.Core.Path.{_≡_}
 use Prim.Native.Nat.{ℕ}
 use Rattle.formulas.specs.Tree.{Tree}
@@ -9,13 +9,13 @@ use Rattle.rules.specs.declared.Same.{Same}
 use Rattle.rules.specs.declared.Same.the-variants.{Yes, No, Refused}
 
 -- The answer for two texts that read to the outcomes x and y.
-pub data Compared (x y : Outcome) : Same → Type 0 where
+pub data SameAnswer (x y : Outcome) : Same → Type 0 where
   -- "1 to 8 for the first, then for the second"
-  first-refused : {n : ℕ} → x ≡ refused n → Compared x y (Refused n)
-  second-refused : {t : Tree} {n : ℕ} → x ≡ rule t → y ≡ refused n → Compared x y (Refused n)
+  first-refused : {n : ℕ} → x ≡ refused n → SameAnswer x y (Refused n)
+  second-refused : {t : Tree} {n : ℕ} → x ≡ rule t → y ≡ refused n → SameAnswer x y (Refused n)
   -- "otherwise yes exactly if both read to one tree"
-  one-tree : {t : Tree} → x ≡ rule t → y ≡ rule t → Compared x y Yes
-  two-trees : {t u : Tree} → x ≡ rule t → y ≡ rule u → (t ≡ u → ⊥) → Compared x y No
+  one-tree : {t : Tree} → x ≡ rule t → y ≡ rule t → SameAnswer x y Yes
+  two-trees : {t u : Tree} → x ≡ rule t → y ≡ rule u → (t ≡ u → ⊥) → SameAnswer x y No
 
 -- Document 01's numbers for an answer: 1 for yes and 0 for no; "A refusal gives its number and no other result".
 abbrev pub refusalOf : Same → ℕ

@@ -3,19 +3,20 @@ use grammar::Parsed;
 use words::Split;
 ghost use mathlib.Core.Bool.{Bool, not, _&&_, _||_};
 ghost use mathlib.Core.Path.{_≡_};
-ghost use Prim.Native.Nat.{_≤_, _<_};
+ghost use Prim.Native.Nat.{_≤_};
 ghost use lib.Dec.{eqb};
 ghost use lib.ListN.{length};
+ghost use Rattle.limits.specs.Limits.{wordLimit, arenaLimit};
 ghost use Rattle.grammar.specs.Fragment.{beyond};
 ghost use Rattle.words.specs.Word.{CHOP, EXISTS};
 ghost use Rattle.words.specs.Split.Out.{made};
-ghost use Rattle.rules.specs.Limits.{opened, deep, counted, over};
+ghost use Rattle.rules.specs.Limits.{bracketLimit, opened, deep, counted, over};
 ghost use Rattle.rules.specs.Reading.{ruleOf, ofWords};
-ghost use Rattle.rules.specs.Same.{Compared};
-ghost use Rattle.rules.specs.Answer.{answerOf, Told, Laid, splitRefusal, recordsRefusal};
+ghost use Rattle.rules.specs.Same.{SameAnswer};
+ghost use Rattle.rules.specs.Contract.{answerOf, Told, Laid, splitRefusal, recordsRefusal};
 
 // What reading a rule answers: its node count, or the refusal's number.
-pub enum Answer {
+pub enum Read {
     Rule(u32),
     Refused(u32),
 }
@@ -33,9 +34,14 @@ pub enum Same {
     Refused(u32),
 }
 
+// Refusal 5: "more than 16 round brackets open at some word", "more than 32 of `!`, `then`, `chop`, `exists`".
+const BRACKETS: usize = 16;
+
+const OPERATORS: usize = 32;
+
 // How many round brackets are open after a word.
 fn open_after(depth: usize, w: u32) -> usize
-    requires { ⌜ depth < 1000 ⌝ }
+    requires { ⌜ depth ≤ bracketLimit ⌝ }
     ensures { λ r. ⌜ r ≡ opened depth w ⌝ }
 {
     if w == words::ROUND {
@@ -79,8 +85,8 @@ fn beyond_after(beyond: bool, w: u32) -> bool
     beyond
 }
 
-// What one pass over the words tells. Refusal 5: "more than 16 round brackets open at some word", or more than 32 of the
-// counted words. Refusal 7: `chop` or `exists` stands among them; too many brackets end the pass before this is known.
+// What one pass over the words tells: refusal 5, and refusal 7: `chop` or `exists` stands among them; too many brackets
+// end the pass before this is known.
 struct Limits {
     pub over: bool,
     pub beyond: bool,
@@ -97,7 +103,7 @@ fn limits_of(ws: &[u32]) -> Limits
     while i < ws.len() {
         let w = ws[i];
         depth = open_after(depth, w);
-        if 16 < depth {
+        if BRACKETS < depth {
             return Limits {
                 over: true,
                 beyond: false,
@@ -110,7 +116,7 @@ fn limits_of(ws: &[u32]) -> Limits
         i += 1;
     }
     Limits {
-        over: 32 < n,
+        over: OPERATORS < n,
         beyond,
     }
 }
@@ -127,7 +133,7 @@ fn split_refusal(s: Split) -> u32
 
 // The tree of a rule's words: refusals 5 to 8, or its records in the arena.
 fn read_words(ws: &[u32], arena: &mut [u32]) -> Records
-    requires { ⌜ (length (now ws) ≤ 240) × (1920 ≤ length (now arena)) ⌝ }
+    requires { ⌜ (length (now ws) ≤ wordLimit) × (arenaLimit ≤ length (now arena)) ⌝ }
     ensures { λ r. ⌜ Laid (ofWords (made (now (ws .entry)))) (now (arena .entry)) r (now (arena .exit)) ⌝ }
 {
     let limits = limits_of(ws);
@@ -154,10 +160,10 @@ fn read_words(ws: &[u32], arena: &mut [u32]) -> Records
 
 // The tree of a rule text, for the operations that go on with it: refusals 1 to 8, or its records in the arena.
 pub fn read_tree(text: &[u8], arena: &mut [u32]) -> Records
-    requires { ⌜ 1920 ≤ length (now arena) ⌝ }
+    requires { ⌜ arenaLimit ≤ length (now arena) ⌝ }
     ensures { λ r. ⌜ Laid (ruleOf (now (text .entry))) (now (arena .entry)) r (now (arena .exit)) ⌝ }
 {
-    let mut ws = [0u32; 240];
+    let mut ws = [0u32; limits::WORDS];
     let split = words::split_text(text, &mut ws);
     let Split::Words(n) = split else {
         return Records::Refused(split_refusal(split));
@@ -176,28 +182,29 @@ pub fn records_refusal(r: Records) -> u32
 }
 
 // Read a rule: its node count, or refusals 1 to 8, the first that applies.
-pub fn read_rule(text: &[u8]) -> Answer
+pub fn read_rule(text: &[u8]) -> Read
     ensures { λ r. ⌜ r ≡ answerOf (ruleOf (now (text .entry))) ⌝ }
     ensures { λ r. ⌜ Told (now (text .entry)) r ⌝ }
 {
-    let mut arena = [0u32; 1920];
+    let mut arena = [0u32; limits::ARENA];
     let records = read_tree(text, &mut arena);
     let Records::Rule(_, nodes) = records else {
-        return Answer::Refused(records_refusal(records));
+        return Read::Refused(records_refusal(records));
     };
-    Answer::Rule(nodes)
+    Read::Rule(nodes)
 }
 
-// Same rule, two texts: refusals 1 to 8 of the first, then of the second; otherwise yes exactly if both read to one tree.
+// Same rule, two texts: refusals 1 to 8 of the first, then of the second; otherwise yes exactly if both read to one
+// tree.
 pub fn same_rule(first: &[u8], second: &[u8]) -> Same
-    ensures { λ r. ⌜ Compared (ruleOf (now (first .entry))) (ruleOf (now (second .entry))) r ⌝ }
+    ensures { λ r. ⌜ SameAnswer (ruleOf (now (first .entry))) (ruleOf (now (second .entry))) r ⌝ }
 {
-    let mut arena = [0u32; 1920];
+    let mut arena = [0u32; limits::ARENA];
     let records = read_tree(first, &mut arena);
     let Records::Rule(n, _) = records else {
         return Same::Refused(records_refusal(records));
     };
-    let mut other = [0u32; 1920];
+    let mut other = [0u32; limits::ARENA];
     let others = read_tree(second, &mut other);
     let Records::Rule(m, _) = others else {
         return Same::Refused(records_refusal(others));

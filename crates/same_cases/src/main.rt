@@ -1,5 +1,5 @@
-// Reads pairs of lines of standard input as two rule texts and prints whether they are the same rule. The lines of `stdin`
-// and `stdout` are written by hand from document 01.
+// Reads pairs of lines of standard input as two rule texts and prints whether they are the same rule. The lines of
+// `stdin` and `stdout` are written by hand from document 01.
 use libc::STDIN_FILENO;
 use libc::STDOUT_FILENO;
 use rules::Same;

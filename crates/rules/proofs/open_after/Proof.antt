@@ -1,6 +1,6 @@
 -- `rules::open_after` meets its contract: the tests decide. Assumes nothing.
-use mathlib.Core.Path.{_≡_, refl, sym, ap, _∙_}
-use Prim.Native.Nat.{ℕ, pred}
+use mathlib.Core.Path.{sym, ap}
+use Prim.Native.Nat.{pred}
 use native.Mathlib.Numerals.{add-one, sub-one}
 use borrow.Author.Needs.{needs}
 use borrow.Author.Tests.{eq-eqb, ne-eqb}

@@ -1,50 +1,55 @@
 -- `rules::read_tree` meets its contract: the splitter's words are the outcome's, and `read_words` goes on with them.
 -- Assumes nothing.
-use mathlib.Core.Path.{_≡_, refl, sym, ap, _∙_, subst}
 use mathlib.Core.List.{List}
-use Prim.Native.Nat.{ℕ, _≤_}
+use mathlib.Core.Path.{_≡_, sym, subst}
+use Prim.Native.Nat.{ℕ}
 use native.Mathlib.Omega.{arith}
 use borrow.Author.Needs.{needs}
 use lib.ListN.{length, take, replicate}
 use lib.Seq.{length-take-le}
+use Rattle.limits.specs.Limits.{wordLimit}
 use Rattle.rules.specs.Reading.{Outcome}
-use Rattle.rules.specs.Answer.{Laid}
-use Rattle.rules.proofs.Join.{Made, made-of, refused-of, laid-refused, long, of-front}
+use Rattle.rules.specs.Contract.{Laid}
+use Rattle.rules.proofs.Laid.{laid-refused}
+use Rattle.rules.proofs.Outcomes.{Made, made-of, refused-of, long, of-front}
 use Rattle.rules.proofs.read_tree.Statement.{statement}
 use Rattle.rules.proofs.read_tree.Tie as tie
 
-slice-aggregate-split-text : tie.Need-slice-aggregate-split-text
-slice-aggregate-split-text c = search needs
+-- The places: the start; the call of the splitter, where it made words; the call of `read_words`.
+abbrev start : tie.After-split-text → tie.Start
+start c = c .before .before .before .before
 
-split-text-requires : tie.Need-split-text-requires
-split-text-requires c κs = search needs
+abbrev call : tie.After-known-told → tie.After-split-text
+call c = c .before .before .before .before
 
-enum-known-split : tie.Need-enum-known-split
-enum-known-split c = search needs
+abbrev made : tie.After-read-words → tie.After-known-told
+made c = c .before .before .before
 
-enum-told : tie.Need-enum-told
-enum-told c = search needs
+-- How many words there are, and the buffer with them.
+abbrev count : tie.After-known-told → ℕ
+count c = c .before .split .given .0 .0
 
-split-refusal-requires : tie.Need-split-refusal-requires
-split-refusal-requires c κs = search needs
+abbrev buffer : tie.After-known-told → List ℕ
+buffer c = call c .split-text .last .1 .0
 
+-- A text without words.
 returns : tie.Need-returns
 returns c =
     let told = c .before .enum-told .given in
+    let at-call = c .before .before .before .before in
     laid-refused (c .split-refusal .result)
-    (refused-of (c .before .before .before .before .split-text .ensures) (told .0 .0) (c .split-refusal .result) (told .1) (c .split-refusal .ensures))
+    (refused-of (at-call .split-text .ensures) (told .1) (c .split-refusal .ensures))
 
 -- The words that the splitter made, at the front of the buffer.
 words : (c : tie.After-known-told) →
-    Made (c .before .before .before .before .before .before .before .before .args .text .now) (replicate 240 0) (c .before .split .given .0 .0) (c .before .before .before .before .split-text .last .1 .0)
-words c = made-of (c .before .before .before .before .split-text .ensures) (c .before .split .given .0 .0) (c .before .split .given .1)
+    Made (start (call c) .args .text .now) (replicate wordLimit 0) (count c) (buffer c)
+words c = made-of (call c .split-text .ensures) (c .before .split .given .1)
 
 array-share-prefix-ws : tie.Need-array-share-prefix-ws
 array-share-prefix-ws c = let h = words c in omega (arith, h .few, long h (omega arith))
 
 -- The part that is lent has as many words as were made.
-part-length : (c : tie.After-known-told) →
-    length (take (c .before .split .given .0 .0) (c .before .before .before .before .split-text .last .1 .0)) ≡ c .before .split .given .0 .0
+part-length : (c : tie.After-known-told) → length (take (count c) (buffer c)) ≡ count c
 part-length c = let h = words c in length-take-le _ _ (omega (arith, h .few, long h (omega arith)))
 
 slice-aggregate-read-words : tie.Need-slice-aggregate-read-words
@@ -52,32 +57,23 @@ slice-aggregate-read-words c = sym (part-length (c .before))
 
 read-words-requires : tie.Need-read-words-requires
 read-words-requires c κs =
-    let h = words (c .before .before) in
-    let l = part-length (c .before .before) in
-    (omega (arith, h .few), c .before .before .before .before .before .before .before .before .before .before .pre)
+    let here = c .before .before in
+    let h = words here in
+    let l = part-length here in
+    (omega (arith, h .few), start (call here) .pre)
 
-same-length : tie.Need-same-length
-same-length c = search needs
-
+-- What `read_words` says of these words is said of the text.
 returns-2 : tie.Need-returns-2
 returns-2 c =
-    let after = c .before .before .read-words in
-    let before = c .before .before .before .before .before .before .before .before .before .before .before .before .before .args .arena .now in
-    subst (λ (o : Outcome). Laid o before (after .result) (after .last .1 .0))
-    (of-front (words (c .before .before .before .before .before)) (omega arith)) (after .ensures)
+    let reading = c .before .before in
+    let here = made reading in
+    let r = reading .read-words in
+    subst (λ (o : Outcome). Laid o (start (call here) .args .arena .now) (r .result) (r .last .1 .0))
+    (of-front (words here) (omega arith)) (r .ensures)
 
 pub read-tree-spec : {M : Type 1} → statement M
 read-tree-spec =
     tie.close
     (tie.spec
-    slice-aggregate-split-text
-    split-text-requires
-    enum-known-split
-    enum-told
-    split-refusal-requires
-    returns
-    array-share-prefix-ws
-    slice-aggregate-read-words
-    read-words-requires
-    same-length
-    returns-2)
+    (λ c. search needs) (λ c κs. search needs) (λ c. search needs) (λ c. search needs) (λ c κs. search needs)
+    returns array-share-prefix-ws slice-aggregate-read-words read-words-requires (λ c. search needs) returns-2)
