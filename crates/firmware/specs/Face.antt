@@ -15,8 +15,8 @@ use Rattle.observers.specs.declared.Compiled.{Compiled}
 use Rattle.observers.specs.declared.Compiled.the-variants.{Equations, Refused}
 use Rattle.observers.specs.Compile as compile-specs
 use Rattle.observers.specs.Compile.{AfterCompile}
-use Rattle.lustre.specs.Write.{AfterWrite, writtenAnswer}
-use Rattle.lustre.specs.Read.{AfterRead, loadedAnswer}
+use Rattle.lustre.specs.Write.{AfterWrite, writeReply}
+use Rattle.lustre.specs.Read.{AfterRead, loadReply}
 use Rattle.lustre.specs.declared.Written.{Written}
 use Rattle.lustre.specs.declared.Written.the-variants.{Length, Refused as No-text}
 use Rattle.lustre.specs.declared.Loaded.{Loaded}
@@ -79,13 +79,13 @@ small (Refused k) = Unit {0}
 
 -- The answers of writing and reading Lustre text.
 abbrev pub writeAnswer : Written → Answer
-writeAnswer x = answer (writtenAnswer x)
+writeAnswer x = answer (writeReply x)
 
 abbrev pub write : AfterWrite → Left
 write x = left (writeAnswer (x .answer)) (x .buffer)
 
 abbrev pub loadAnswer : Loaded → Answer
-loadAnswer x = answer (loadedAnswer x)
+loadAnswer x = answer (loadReply x)
 
 -- The answer of the reading that document 01 has for the text, and the table that it leaves.
 pub record LoadTold (text before : List ℕ) (r : Answer) (after : List ℕ) : Type 0 where

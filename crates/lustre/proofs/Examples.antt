@@ -5,7 +5,7 @@ use mathlib.Core.Path.{_≡_, refl}
 use Prim.Native.Nat.{ℕ}
 use Rattle.lists.specs.Text.{bytes}
 use Rattle.tables.specs.Table.{kindOf}
-use Rattle.lustre.specs.Decimal.{digits, numeral}
+use Rattle.lustre.specs.Decimal.{digits, numberText}
 use Rattle.lustre.specs.Text.{valueText, lineEnd, lineText, lines, foot, textOf}
 
 -- What follows `fN=` for an equation of these four numbers.
@@ -28,7 +28,7 @@ record Column : Type 0 where
   kind11 : endOf 11 9 0 3 ≡ bytes "f9<=k3"
 
 column : Column
-unfolding valueText kindOf digits numeral
+unfolding valueText kindOf digits numberText
 column =
     record {
       kind0 = refl;
@@ -47,5 +47,5 @@ column =
 
 -- "the line `let`, a line per equation as `f0=b;`, then `a=fN;` with the last N, then `tel`"
 whole : textOf (1 ∷ 0 ∷ 0 ∷ 0 ∷ 3 ∷ 0 ∷ 0 ∷ 0 ∷ []) 2 ≡ bytes "let\nf0=b;\nf1=not f0;\na=f1;\ntel\n"
-unfolding textOf lines lineText lineEnd foot valueText kindOf digits numeral
+unfolding textOf lines lineText lineEnd foot valueText kindOf digits numberText
 whole = refl

@@ -12,15 +12,18 @@ use native.Mathlib.Decide.{ℕ-discrete, decLt}
 use lib.Dec.{ltb, leb, eqb}
 use lib.ListN.{length}
 use borrow.Author.Tests.{ltb-true, leb-true, eqb-true, ne-eqb}
+use Rattle.lists.specs.Decimal.{isDigit}
+use Rattle.tables.specs.Kind.{SIGNAL, START, CONSTANT, NOT, AND, OR, BOOLEAN-PRE, COUNT-PRE, CAPPED, IF}
+use Rattle.tables.specs.Kind.{COMPARE-LITERAL, COMPARE-PARAMETER, kindCount}
 use Rattle.tables.specs.Table.{all, Equation, kinds, kindOf, shapeOf, isFlow, operandFits, shapeFits}
-use Rattle.limits.specs.Limits.{equationLimit}
+use Rattle.limits.specs.Limits.{equationLimit, literalCount, parameterCount, truthCount, opCount}
 use Rattle.tables.specs.declared.Operand.{Operand}
 use Rattle.tables.specs.declared.Operand.the-variants.{Unused, Earlier, Anywhere, Below}
 use Rattle.tables.proofs.Tests.{and-true, all-at}
 use Rattle.tables.proofs.Numbers.{kind-beyond}
 use Rattle.lustre.specs.Text.{valueText, lineEnd}
 use Rattle.lustre.specs.Form.{equation, equationOf, Letter, isA, isB, isC, slot, render, absent}
-use Rattle.lustre.specs.Form.{Agree, digitLimit, Small, padded, formWidth, forms, formCount, formAt}
+use Rattle.lustre.specs.Form.{Agree, highest, Small, padded, formWidth, forms, formCount, formAt}
 use Rattle.lustre.specs.Form.{formText, Fits, formNumber, formOf, Plain}
 use Rattle.lustre.specs.Scan.{scanned, scan}
 use Rattle.lustre.specs.declared.Form.{Form}
@@ -49,7 +52,7 @@ formFine f =
     && (closed (formText (formAt f)) && (once (formText (formAt f)) && settles (formAt f .settled))))
 
 forms-fine : all formFine formCount ≡ true
-unfolding all formAt forms padded closed once absent
+unfolding all formAt forms padded closed once absent isDigit
 forms-fine = refl
 
 pub record Fine (f : Form) : Type 0 where
@@ -88,7 +91,7 @@ abbrev apartFrom : ℕ → ℕ → Bool
 apartFrom f g = cond (eqb f g) true (apart (formText (formAt f)) (formText (formAt g)))
 
 no-sharing : all (λ f. all (apartFrom f) formCount) formCount ≡ true
-unfolding all formAt forms padded apart
+unfolding all formAt forms padded apart isDigit
 no-sharing = refl
 
 forms-apart : (f g : ℕ) → f < formCount → g < formCount → (f ≡ g → ⊥)
@@ -119,7 +122,7 @@ module _ {e e₀ : Equation} {f : List ℕ} (w : Agree e e₀ f) where
 of-form : (f : ℕ) → Gives f → Gives f
 of-form f p = p
 
--- In the order of the forms. Those of kinds 2, 6, 10 and 11 are told apart by a number that they settle.
+-- In the order of the forms. Forms of one kind are told apart by a number that they settle.
 each-gives : Each Gives formCount 0
 unfolding formAt forms padded absent kindOf formNumber lineEnd valueText render
 each-gives =
@@ -163,20 +166,6 @@ end-form e w = gives (formOf e) (w .known) e (w .fits .agrees) .text
 pub end-as : (f : ℕ) (e : Equation) → f < formCount → Fits (formAt f) e → lineEnd e ≡ render e (formText (formAt f))
 end-as f e h w = gives f h e (w .agrees) .text
 
--- The form r that was fetched for an equation.
-module _ (e : Equation) (f : ℕ) (r : Form) (w : Plain e) (ef : f ≡ formOf e) (er : r ≡ formAt f) where
-  pub fetched-known : f < formCount
-  fetched-known = rw ef (w .known)
-
-  pub fetched-room : r .len ≤ length (r .text)
-  fetched-room = rw er (form-room f fetched-known)
-
-  pub fetched-short : r .len ≤ formWidth
-  fetched-short = rw er (form-fine f fetched-known .room)
-
-  pub fetched-text : render e (formText r) ≡ lineEnd e
-  fetched-text = rw (er, ef) (sym (end-form e w))
-
 -- What a kind's row says of a number, without the table.
 abbrev Told : Operand → ℕ → Type 0
 Told Unused x = x ≡ 0
@@ -209,7 +198,7 @@ having : (f k a b c : ℕ) → formOf (equation k a b c) ≡ f → k ≡ formAt 
     → Keeps (absent 65 (formText (formAt f))) a (formAt f .settled .a)
     → Keeps (absent 66 (formText (formAt f))) b (formAt f .settled .b)
     → Keeps (absent 67 (formText (formAt f))) c (formAt f .settled .c)
-    → (f < formCount) × (a < digitLimit) × (b < digitLimit) × (c < digitLimit) → Plain (equation k a b c)
+    → (f < formCount) × (a ≤ highest) × (b ≤ highest) × (c ≤ highest) → Plain (equation k a b c)
 having f k a b c n hk ka kb kc h = form-plain f (equation k a b c) (h .0) (record {
   agrees = record { kinds = hk; others = λ x i. others x i };
   small = small k a b c (h .1) (h .2) (h .3);
@@ -230,55 +219,55 @@ Formed k =
 of-kind : (k : ℕ) → Formed k → Formed k
 of-kind k p = p
 
--- Kinds 2 and 6 have two forms, kinds 10 and 11 have five.
-constants : (b c : ℕ) → b ≡ 0 → c ≡ 0 → Each (λ a. Plain (equation 2 a b c)) 2 0
+-- A constant and a boolean memory have two forms, a comparison has five.
+constants : (b c : ℕ) → b ≡ 0 → c ≡ 0 → Each (λ a. Plain (equation CONSTANT a b c)) truthCount 0
 unfolding formAt forms padded absent kindOf formNumber
 constants b c q r =
-    having 2 2 0 b c refl refl refl q r (omega arith) also having 3 2 1 b c refl refl refl q r (omega arith) also end
+    having 2 CONSTANT 0 b c refl refl refl q r (omega arith) also having 3 CONSTANT 1 b c refl refl refl q r (omega arith) also end
 
-pres : (a b : ℕ) → a < equationLimit → b ≡ 0 → Each (λ c. Plain (equation 6 a b c)) 2 0
+pres : (a b : ℕ) → a < equationLimit → b ≡ 0 → Each (λ c. Plain (equation BOOLEAN-PRE a b c)) truthCount 0
 unfolding formAt forms padded absent kindOf formNumber
 pres a b p q =
-    having 7 6 a b 0 refl refl tt q refl (omega arith) also having 8 6 a b 1 refl refl tt q refl (omega arith) also end
+    having 7 BOOLEAN-PRE a b 0 refl refl tt q refl (omega arith) also having 8 BOOLEAN-PRE a b 1 refl refl tt q refl (omega arith) also end
 
-literals : (a c : ℕ) → a < equationLimit → c < 1000000 → Each (λ b. Plain (equation 10 a b c)) 5 0
+literals : (a c : ℕ) → a < equationLimit → c < literalCount → Each (λ b. Plain (equation COMPARE-LITERAL a b c)) opCount 0
 unfolding formAt forms padded absent kindOf formNumber
 literals a c p r =
-    having 12 10 a 0 c refl refl tt refl tt (omega arith)
-    also having 13 10 a 1 c refl refl tt refl tt (omega arith)
-    also having 14 10 a 2 c refl refl tt refl tt (omega arith)
-    also having 15 10 a 3 c refl refl tt refl tt (omega arith)
-    also having 16 10 a 4 c refl refl tt refl tt (omega arith)
+    having 12 COMPARE-LITERAL a 0 c refl refl tt refl tt (omega arith)
+    also having 13 COMPARE-LITERAL a 1 c refl refl tt refl tt (omega arith)
+    also having 14 COMPARE-LITERAL a 2 c refl refl tt refl tt (omega arith)
+    also having 15 COMPARE-LITERAL a 3 c refl refl tt refl tt (omega arith)
+    also having 16 COMPARE-LITERAL a 4 c refl refl tt refl tt (omega arith)
     also end
 
-parameters : (a c : ℕ) → a < equationLimit → c < 8 → Each (λ b. Plain (equation 11 a b c)) 5 0
+parameters : (a c : ℕ) → a < equationLimit → c < parameterCount → Each (λ b. Plain (equation COMPARE-PARAMETER a b c)) opCount 0
 unfolding formAt forms padded absent kindOf formNumber
 parameters a c p r =
-    having 17 11 a 0 c refl refl tt refl tt (omega arith)
-    also having 18 11 a 1 c refl refl tt refl tt (omega arith)
-    also having 19 11 a 2 c refl refl tt refl tt (omega arith)
-    also having 20 11 a 3 c refl refl tt refl tt (omega arith)
-    also having 21 11 a 4 c refl refl tt refl tt (omega arith)
+    having 17 COMPARE-PARAMETER a 0 c refl refl tt refl tt (omega arith)
+    also having 18 COMPARE-PARAMETER a 1 c refl refl tt refl tt (omega arith)
+    also having 19 COMPARE-PARAMETER a 2 c refl refl tt refl tt (omega arith)
+    also having 20 COMPARE-PARAMETER a 3 c refl refl tt refl tt (omega arith)
+    also having 21 COMPARE-PARAMETER a 4 c refl refl tt refl tt (omega arith)
     also end
 
-each-formed : Each Formed 12 0
+each-formed : Each Formed kindCount 0
 unfolding formAt forms padded absent kindOf formNumber shapeOf
 each-formed =
-    of-kind 0 (λ a b c p q r. having 0 0 a b c refl refl tt q r (omega arith))
-    also of-kind 1 (λ a b c p q r. having 1 1 a b c refl refl p q r (omega arith))
-    also of-kind 2 (λ a b c p q r. each (constants b c q r) a (omega arith) p)
-    also of-kind 3 (λ a b c p q r. having 4 3 a b c refl refl tt q r (omega arith))
-    also of-kind 4 (λ a b c p q r. having 5 4 a b c refl refl tt tt r (omega arith))
-    also of-kind 5 (λ a b c p q r. having 6 5 a b c refl refl tt tt r (omega arith))
-    also of-kind 6 (λ a b c p q r. each (pres a b p q) c (omega arith) r)
-    also of-kind 7 (λ a b c p q r. having 9 7 a b c refl refl tt q r (omega arith))
-    also of-kind 8 (λ a b c p q r. having 10 8 a b c refl refl tt tt r (omega arith))
-    also of-kind 9 (λ a b c p q r. having 11 9 a b c refl refl tt tt r (omega arith))
-    also of-kind 10 (λ a b c p q r. each (literals a c p r) b (omega arith) q)
-    also of-kind 11 (λ a b c p q r. each (parameters a c p r) b (omega arith) q)
+    of-kind SIGNAL (λ a b c p q r. having 0 SIGNAL a b c refl refl tt q r (omega arith))
+    also of-kind START (λ a b c p q r. having 1 START a b c refl refl p q r (omega arith))
+    also of-kind CONSTANT (λ a b c p q r. each (constants b c q r) a (omega arith) p)
+    also of-kind NOT (λ a b c p q r. having 4 NOT a b c refl refl tt q r (omega arith))
+    also of-kind AND (λ a b c p q r. having 5 AND a b c refl refl tt tt r (omega arith))
+    also of-kind OR (λ a b c p q r. having 6 OR a b c refl refl tt tt r (omega arith))
+    also of-kind BOOLEAN-PRE (λ a b c p q r. each (pres a b p q) c (omega arith) r)
+    also of-kind COUNT-PRE (λ a b c p q r. having 9 COUNT-PRE a b c refl refl tt q r (omega arith))
+    also of-kind CAPPED (λ a b c p q r. having 10 CAPPED a b c refl refl tt tt r (omega arith))
+    also of-kind IF (λ a b c p q r. having 11 IF a b c refl refl tt tt r (omega arith))
+    also of-kind COMPARE-LITERAL (λ a b c p q r. each (literals a c p r) b (omega arith) q)
+    also of-kind COMPARE-PARAMETER (λ a b c p q r. each (parameters a c p r) b (omega arith) q)
     also end
 
-no-kind : (k a : ℕ) → 12 ≤ k → Told (shapeOf (kindOf k) .a) a → ⊥
+no-kind : (k a : ℕ) → kindCount ≤ k → Told (shapeOf (kindOf k) .a) a → ⊥
 unfolding shapeOf
 no-kind k a h p = let z = rw (kind-beyond k h) at p in omega (arith, z)
 
@@ -292,7 +281,7 @@ fitting-plain t n i e hn hi h =
     let a = told t n i (s .a) (e .a) hn hi (p .0) in
     let b = told t n i (s .b) (e .b) hn hi (q .0) in
     let c = told t n i (s .c) (e .c) hn hi (q .1) in
-    elim (decLt (e .kind) 12) [
+    elim (decLt (e .kind) kindCount) [
       | yes k ↦ each each-formed (e .kind) (omega arith) k (e .a) (e .b) (e .c) a b c
       | no k ↦ absurd (no-kind (e .kind) (e .a) (omega arith) a)
     ]

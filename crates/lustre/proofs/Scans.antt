@@ -3,18 +3,19 @@
 use mathlib.Core.Path.{_≡_, refl, _∙_, sym, ap}
 use mathlib.Core.Bool.{Bool, true, false, cond, not, _&&_}
 use mathlib.Core.List.{List, [], _∷_, _++_, append-assoc}
-use Prim.Native.Nat.{ℕ, _<_}
+use Prim.Native.Nat.{ℕ, _≤_, _<_}
 use native.Mathlib.Omega.{arith}
 use lib.Dec.{ltb, eqb}
 use borrow.Author.Tests.{ltb-true, eq-eqb, eqb-true, eqb-false, not-true}
+use Rattle.lists.specs.Decimal.{Numeral, isDigit, numeral}
+use Rattle.lists.specs.Decimal.Numeral.{is, above, missing}
 use Rattle.tables.specs.Table.{Equation}
 use Rattle.tables.proofs.Tests.{and-true}
-use Rattle.lustre.specs.Decimal.{numeral}
+use Rattle.lustre.specs.Decimal.{numberText}
 use Rattle.lustre.specs.Form.{equation, letter?, Letter, isA, isB, isC, slot, put, render, absent, Agree}
-use Rattle.lustre.specs.Form.{digitLimit, Small}
-use Rattle.lustre.specs.Scan.{digit?, Taken, missing, taken, numberIn}
+use Rattle.lustre.specs.Form.{highest, Small}
 use Rattle.lustre.specs.Scan.{Scanned, unlike, scanned, afterNumber, afterByte, scan}
-use Rattle.lustre.proofs.Decimals.{stops, takes-written, Stood, nothing, stood, taken-stood}
+use Rattle.lustre.proofs.Decimals.{stops, reads-back, Stood, stood, higher, nothing, number-stood}
 use Rattle.lustre.proofs.Decimals.{same-number, no-clash}
 
 -- The letters.
@@ -64,15 +65,15 @@ equations-same e e′ k h =
     let p : equation (e .kind) (e .a) (e .b) (e .c) ≡ equation (e′ .kind) (e′ .a) (e′ .b) (e′ .c) = rw (k, a, b, c) in
     p
 
-pub small : (k a b c : ℕ) → a < digitLimit → b < digitLimit → c < digitLimit → Small (equation k a b c)
+pub small : (k a b c : ℕ) → a ≤ highest → b ≤ highest → c ≤ highest → Small (equation k a b c)
 small k a b c ha hb hc x = go (eqb x 65) (eqb x 66)
   where
-    go : (p q : Bool) → cond p a (cond q b c) < digitLimit
+    go : (p q : Bool) → cond p a (cond q b c) ≤ highest
     go true q = ha
     go false true = hb
     go false false = hc
 
-small-put : (e : Equation) {x : ℕ} (v : ℕ) → Letter x → v < digitLimit → Small e → Small (put e x v)
+small-put : (e : Equation) {x : ℕ} (v : ℕ) → Letter x → v ≤ highest → Small e → Small (put e x v)
 small-put e v isA h s = small (e .kind) v (e .b) (e .c) h (s 66) (s 67)
 small-put e v isB h s = small (e .kind) (e .a) v (e .c) (s 65) h (s 67)
 small-put e v isC h s = small (e .kind) (e .a) (e .b) v (s 65) (s 66) h
@@ -80,7 +81,7 @@ small-put e v isC h s = small (e .kind) (e .a) (e .b) v (s 65) (s 66) h
 -- A form's text begins with a byte that ends a number.
 abbrev pub opens : List ℕ → Bool
 opens [] = false
-opens (x ∷ f) = not (letter? x) && not (digit? x)
+opens (x ∷ f) = not (letter? x) && not (isDigit x)
 
 -- After each letter stands a byte that ends a number.
 unfoldable pub closed : List ℕ → Bool
@@ -150,7 +151,7 @@ scans e s (x ∷ f) l e₀ h a =
         → (letter? x ≡ false → scan f (render e f ++ l) e₀ ≡ scanned e l)
         → scan (x ∷ f) (render e (x ∷ f) ++ l) e₀ ≡ scanned e l
     go true p q k m =
-        rw (p, append-assoc, takes-written (slot e x) (render e f ++ l) (s x) (opens-stops e f l q)) (k (letter x p))
+        rw (p, append-assoc, reads-back highest (slot e x) (render e f ++ l) (s x) (opens-stops e f l q)) (k (letter x p))
     go false p q k m = rw (p, eq-eqb x x refl) (m p)
 
 -- What is scanned was written, and agrees with what the scan began with.
@@ -164,14 +165,14 @@ agree-refl e f = record { kinds = refl; others = λ x i h. refl }
 
 -- A number, and then a text that was scanned.
 seen-number : (x v : ℕ) (f l r : List ℕ) (e₀ : Equation) (c : Scanned) → letter? x ≡ true → absent x f ≡ true
-    → v < digitLimit → l ≡ numeral v ++ r → Seen f r (put e₀ x v) c → Seen (x ∷ f) l e₀ c
+    → v ≤ highest → l ≡ numberText v ++ r → Seen f r (put e₀ x v) c → Seen (x ∷ f) l e₀ c
 unfolding render absent
 seen-number x v f l r e₀ unlike h s b w unseen = unseen
 seen-number x v f l r e₀ (scanned e z) h s b w (seen m o g) =
     let i = letter x h in
     let same : slot e x ≡ v = o .others x i s ∙ put-same e₀ v i in
     seen {e = e} {r = z}
-    (w ∙ rw (h, same, append-assoc) (ap (λ (k : List ℕ). numeral v ++ k) m))
+    (w ∙ rw (h, same, append-assoc) (ap (λ (k : List ℕ). numberText v ++ k) m))
     (record {
       kinds = o .kinds ∙ put-kind e₀ v i;
       others = λ y j a.
@@ -191,11 +192,12 @@ seen-byte x f r e₀ (scanned e z) h (seen m o g) =
     (record { kinds = o .kinds; others = λ y j a. o .others y j (and-true (not (eqb y x)) _ a .1) })
     g
 
-after-number : (x : ℕ) (f l : List ℕ) (e₀ : Equation) (n : Taken) → letter? x ≡ true → absent x f ≡ true → Stood l n
+after-number : (x : ℕ) (f l : List ℕ) (e₀ : Equation) (n : Numeral) → letter? x ≡ true → absent x f ≡ true → Stood highest l n
     → ((r : List ℕ) (v : ℕ) → Seen f r (put e₀ x v) (scan f r (put e₀ x v)))
     → Seen (x ∷ f) l e₀ (afterNumber n (λ v r. scan f r (put e₀ x v)))
 after-number x f l e₀ missing p s nothing k = unseen
-after-number x f l e₀ (taken v r) p s (stood w t b) k =
+after-number x f l e₀ (above r) p s higher k = unseen
+after-number x f l e₀ (is v r) p s (stood w b) k =
     seen-number x v f l r e₀ (scan f r (put e₀ x v)) p s b w (k r v)
 
 after-byte : (x : ℕ) (f l : List ℕ) (e₀ : Equation) → letter? x ≡ false → ((r : List ℕ) → Seen f r e₀ (scan f r e₀))
@@ -218,8 +220,8 @@ sees (x ∷ f) l e₀ h =
         → ((r : List ℕ) (v : ℕ) → Seen f r (put e₀ x v) (scan f r (put e₀ x v)))
         → ((r : List ℕ) → Seen f r e₀ (scan f r e₀))
         → Seen (x ∷ f) l e₀
-        (cond b (afterNumber (numberIn l) (λ v r. scan f r (put e₀ x v))) (afterByte x l (λ r. scan f r e₀)))
-    go true p q k m = after-number x f l e₀ (numberIn l) p q (taken-stood l) k
+        (cond b (afterNumber (numeral highest l) (λ v r. scan f r (put e₀ x v))) (afterByte x l (λ r. scan f r e₀)))
+    go true p q k m = after-number x f l e₀ (numeral highest l) p q (number-stood highest l) k
     go false p q k m = after-byte x f l e₀ p m
 
 -- Two forms that share no text: the first place where they differ shows it.
@@ -227,8 +229,8 @@ unfoldable pub apart : List ℕ → List ℕ → Bool
 apart [] g = false
 apart (x ∷ f) [] = false
 apart (x ∷ f) (y ∷ g) =
-    cond (letter? x) (cond (letter? y) (apart f g) (not (digit? y)))
-    (cond (letter? y) (not (digit? x)) (cond (eqb x y) (apart f g) true))
+    cond (letter? x) (cond (letter? y) (apart f g) (not (isDigit y)))
+    (cond (letter? y) (not (isDigit x)) (cond (eqb x y) (apart f g) true))
 
 pub never : (e e′ : Equation) → Small e → Small e′ → (f g l r : List ℕ) → closed f ≡ true → closed g ≡ true
     → apart f g ≡ true → render e f ++ l ≡ render e′ g ++ r → ⊥
@@ -241,19 +243,19 @@ never e e′ s s′ (x ∷ f) (y ∷ g) l r p q a m =
     go (letter? x) (letter? y) (eqb x y) refl (p′ .0) (q′ .0) a m (never e e′ s s′ f g l r (p′ .1) (q′ .1))
   where
     go : (b c d : Bool) → eqb x y ≡ d → cond b (opens f) true ≡ true → cond c (opens g) true ≡ true
-        → cond b (cond c (apart f g) (not (digit? y))) (cond c (not (digit? x)) (cond d (apart f g) true)) ≡ true
-        → (cond b (numeral (slot e x)) (x ∷ []) ++ render e f) ++ l
-        ≡ (cond c (numeral (slot e′ y)) (y ∷ []) ++ render e′ g) ++ r
+        → cond b (cond c (apart f g) (not (isDigit y))) (cond c (not (isDigit x)) (cond d (apart f g) true)) ≡ true
+        → (cond b (numberText (slot e x)) (x ∷ []) ++ render e f) ++ l
+        ≡ (cond c (numberText (slot e′ y)) (y ∷ []) ++ render e′ g) ++ r
         → (apart f g ≡ true → render e f ++ l ≡ render e′ g ++ r → ⊥) → ⊥
     go true true d j o o′ k m′ n =
         n k
-        (same-number (slot e x) (slot e′ y) (render e f ++ l) (render e′ g ++ r) (s x) (s′ y)
+        (same-number highest (slot e x) (slot e′ y) (render e f ++ l) (render e′ g ++ r) (s x) (s′ y)
         (opens-stops e f l o) (opens-stops e′ g r o′) (simp append-assoc at m′) .1)
     go true false d j o o′ k m′ n =
-        no-clash (slot e x) (render e f ++ l) y (render e′ g ++ r) (s x) (opens-stops e f l o) k
+        no-clash highest (slot e x) (render e f ++ l) y (render e′ g ++ r) (s x) (opens-stops e f l o) k
         (simp append-assoc at m′)
     go false true d j o o′ k m′ n =
-        no-clash (slot e′ y) (render e′ g ++ r) x (render e f ++ l) (s′ y) (opens-stops e′ g r o′) k
+        no-clash highest (slot e′ y) (render e′ g ++ r) x (render e f ++ l) (s′ y) (opens-stops e′ g r o′) k
         (sym (simp append-assoc at m′))
     go false false true j o o′ k m′ n = n k (cc)
     go false false false j o o′ k m′ n = eqb-false x y j (cc)

@@ -17,7 +17,7 @@ use Rattle.tables.specs.declared.Checked.{Checked}
 use Rattle.tables.specs.declared.Checked.the-variants.{Passed, Refused as Failed}
 use Rattle.lustre.specs.Write.{writeEffect, effectIf, writeChecked, afterText}
 use Rattle.lustre.specs.declared.Written.the-variants.{Length, Refused}
-use Rattle.lustre.proofs.Decimals.{numeral-short}
+use Rattle.lustre.proofs.Decimals.{digits-short}
 use Rattle.lustre.proofs.Theorems.{text-written}
 use Rattle.lustre.specs.Text.{flow, truthText, opText, valueText, lineEnd, lineText, lines, foot, textOf}
 
@@ -40,21 +40,21 @@ truth-few false = omega arith
 
 value-few : (q : Kind) (e : Equation) → Words e → length (valueText q e) ≤ 60
 unfolding valueText
-value-few signal e w = simp length-append (omega (arith, numeral-short (e .a) (w .a)))
+value-few signal e w = simp length-append (omega (arith, digits-short (e .a) (w .a)))
 value-few start e w = omega arith
 value-few constant e w = omega (arith, truth-few (nonzero (e .a)))
-value-few negation e w = simp length-append (omega (arith, numeral-short (e .a) (w .a)))
-value-few conjunction e w = simp length-append (omega (arith, numeral-short (e .a) (w .a), numeral-short (e .b) (w .b)))
-value-few disjunction e w = simp length-append (omega (arith, numeral-short (e .a) (w .a), numeral-short (e .b) (w .b)))
+value-few negation e w = simp length-append (omega (arith, digits-short (e .a) (w .a)))
+value-few conjunction e w = simp length-append (omega (arith, digits-short (e .a) (w .a), digits-short (e .b) (w .b)))
+value-few disjunction e w = simp length-append (omega (arith, digits-short (e .a) (w .a), digits-short (e .b) (w .b)))
 value-few booleanPre e w =
-    simp length-append (omega (arith, numeral-short (e .a) (w .a), truth-few (nonzero (e .c))))
-value-few countPre e w = simp length-append (omega (arith, numeral-short (e .a) (w .a)))
-value-few capped e w = simp length-append (omega (arith, numeral-short (e .a) (w .a), numeral-short (e .b) (w .b)))
-value-few ifElse e w = simp length-append (omega (arith, numeral-short (e .a) (w .a), numeral-short (e .b) (w .b)))
+    simp length-append (omega (arith, digits-short (e .a) (w .a), truth-few (nonzero (e .c))))
+value-few countPre e w = simp length-append (omega (arith, digits-short (e .a) (w .a)))
+value-few capped e w = simp length-append (omega (arith, digits-short (e .a) (w .a), digits-short (e .b) (w .b)))
+value-few ifElse e w = simp length-append (omega (arith, digits-short (e .a) (w .a), digits-short (e .b) (w .b)))
 value-few compareLiteral e w =
-    simp length-append (omega (arith, numeral-short (e .a) (w .a), op-few (opOf (e .b)), numeral-short (e .c) (w .c)))
+    simp length-append (omega (arith, digits-short (e .a) (w .a), op-few (opOf (e .b)), digits-short (e .c) (w .c)))
 value-few compareParameter e w =
-    simp length-append (omega (arith, numeral-short (e .a) (w .a), op-few (opOf (e .b)), numeral-short (e .c) (w .c)))
+    simp length-append (omega (arith, digits-short (e .a) (w .a), op-few (opOf (e .b)), digits-short (e .c) (w .c)))
 value-few unknown e w = omega arith
 
 module _ (t : List ℕ) (small : (i : ℕ) → getD t i 0 < 4294967296) where
@@ -63,7 +63,7 @@ module _ (t : List ℕ) (small : (i : ℕ) → getD t i 0 < 4294967296) where
   line-few i h =
       let e = equationAt t i in
       let value = value-few (kindOf (e .kind)) e (record { a = small _; b = small _; c = small _ }) in
-      simp length-append (omega (arith, numeral-short i h, value))
+      simp length-append (omega (arith, digits-short i h, value))
 
   lines-few : (n : ℕ) → n ≤ equationLimit → length (lines t n) ≤ 100 * n
   unfolding lines
@@ -73,7 +73,7 @@ module _ (t : List ℕ) (small : (i : ℕ) → getD t i 0 < 4294967296) where
   -- The whole text.
   pub text-few : (n : ℕ) → n ≤ equationLimit → length (textOf t n) ≤ 409700
   unfolding textOf foot
-  text-few n h = simp length-append (omega (arith, lines-few n h, numeral-short (n - 1) (omega arith)))
+  text-few n h = simp length-append (omega (arith, lines-few n h, digits-short (n - 1) (omega arith)))
 
   -- What a call wrote.
   pub written-few : (n l : ℕ) (buffer : List ℕ) → writeEffect t n buffer .answer ≡ Length l → l ≤ 409700

@@ -11,6 +11,7 @@ use lib.ListN.{length, take}
 use lib.Seq.{getD-take, length-take-le, ext-getD}
 use borrow.Author.Tests.{ltb-true}
 use Rattle.lists.specs.Text.{bytes}
+use Rattle.lists.specs.Decimal.{isDigit}
 use Rattle.tables.specs.Table.{numberAt, all, Equation, equationAt, kindOf, kindAt, shapeOf, isFlow}
 use Rattle.tables.specs.Table.{operandFits, shapeFits, equationFits, equationsFit, checked}
 use Rattle.limits.specs.Limits.{equationLimit}
@@ -21,9 +22,9 @@ use Rattle.tables.specs.declared.Operand.the-variants.{Unused, Earlier, Anywher
 use Rattle.tables.specs.declared.Checked.the-variants.{Passed}
 use Rattle.tables.proofs.Tests.{and-true, all-at, all-of}
 use Rattle.tables.proofs.Checks.{checked-fitting, passed-both, long-enough}
-use Rattle.lustre.specs.Decimal.{numeral}
+use Rattle.lustre.specs.Decimal.{numberText}
 use Rattle.lustre.specs.Text.{lineEnd, lineText, lines, foot, textOf}
-use Rattle.lustre.specs.Form.{digitLimit, Plain, PlainTable, NoLine}
+use Rattle.lustre.specs.Form.{highest, Plain, PlainTable, NoLine}
 use Rattle.lustre.proofs.Decimals.{same-number}
 use Rattle.lustre.proofs.Forms.{fitting-plain, one-end}
 
@@ -41,17 +42,18 @@ well-plain t n e =
 
 -- A line begins with `f`, its number and `=`.
 line-shape : (i : ℕ) (e : Equation) (l : List ℕ)
-    → lineText i e ++ l ≡ bytes "f" ++ (numeral i ++ (bytes "=" ++ (lineEnd e ++ l)))
+    → lineText i e ++ l ≡ bytes "f" ++ (numberText i ++ (bytes "=" ++ (lineEnd e ++ l)))
 unfolding lineText
 line-shape i e l = rw (append-assoc, append-assoc)
 
 -- Two lines with the same number at the front of one text are of the same equation.
-one-line : (i : ℕ) (e e′ : Equation) (l r : List ℕ) → i < digitLimit → Plain e → Plain e′
+one-line : (i : ℕ) (e e′ : Equation) (l r : List ℕ) → i ≤ highest → Plain e → Plain e′
     → lineText i e ++ l ≡ lineText i e′ ++ r → (e ≡ e′) × (l ≡ r)
+unfolding isDigit
 one-line i e e′ l r h w w′ q =
     let a = sym (line-shape i e l) ∙ q ∙ line-shape i e′ r in
-    let b : numeral i ++ (bytes "=" ++ (lineEnd e ++ l)) ≡ numeral i ++ (bytes "=" ++ (lineEnd e′ ++ r)) = cc in
-    let c = same-number i i _ _ h h refl refl b .1 in
+    let b : numberText i ++ (bytes "=" ++ (lineEnd e ++ l)) ≡ numberText i ++ (bytes "=" ++ (lineEnd e′ ++ r)) = cc in
+    let c = same-number highest i i _ _ h h refl refl b .1 in
     one-end e e′ l r w w′ (cc)
 
 -- No line stands where the last lines do.

@@ -14,5 +14,5 @@ digits zero x = digit x ∷ []
 digits (suc k) x = let more = digits k (x / 10) ++ (digit (x % 10) ∷ []) in cond (ltb x 10) (digit x ∷ []) more
 
 -- "Numerals are decimal"; "Numbers have no needless 0."
-unfoldable pub numeral : ℕ → List ℕ
-numeral x = digits x x
+unfoldable pub numberText : ℕ → List ℕ
+numberText x = digits x x

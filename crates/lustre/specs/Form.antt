@@ -3,18 +3,18 @@
 use mathlib.Core.Bool.{Bool, true, false, not, _&&_, cond}
 use mathlib.Core.List.{List, [], _∷_, _++_}
 use mathlib.Core.Path.{_≡_}
-use Prim.Native.Nat.{ℕ, zero, suc, _+_, _≤_, _<_}
+use Prim.Native.Nat.{ℕ, zero, suc, _+_, _-_, _≤_, _<_}
 use lib.Dec.{ltb, eqb}
 use lib.ListN.{length, getD, take}
 use Prim.Native.String.{String}
 use Rattle.lists.specs.Text.{bytes}
-use Rattle.limits.specs.Limits.{equationLimit}
+use Rattle.limits.specs.Limits.{equationLimit, literalCount}
 use Rattle.tables.specs.Kind.{SIGNAL, START, CONSTANT, NOT, AND, OR, BOOLEAN-PRE, COUNT-PRE, CAPPED, IF}
 use Rattle.tables.specs.Kind.{COMPARE-LITERAL, COMPARE-PARAMETER}
 use Rattle.tables.specs.Table.{Equation, equationAt, Kind, kindOf}
 use Rattle.tables.specs.Table.Kind.{signal, start, constant, negation, conjunction, disjunction, booleanPre}
 use Rattle.tables.specs.Table.Kind.{countPre, capped, ifElse, compareLiteral, compareParameter, unknown}
-use Rattle.lustre.specs.Decimal.{numeral}
+use Rattle.lustre.specs.Decimal.{numberText}
 use Rattle.lustre.specs.Text.{lineText}
 use Rattle.lustre.specs.declared.Numbers.{Numbers}
 use Rattle.lustre.specs.declared.Form.{Form}
@@ -51,7 +51,7 @@ put e x v =
 
 -- The text of one byte of a form.
 abbrev pub piece : Equation → ℕ → List ℕ
-piece e x = cond (letter? x) (numeral (slot e x)) (x ∷ [])
+piece e x = cond (letter? x) (numberText (slot e x)) (x ∷ [])
 
 -- The text of a form.
 unfoldable pub render : Equation → List ℕ → List ℕ
@@ -68,12 +68,12 @@ pub record Agree (e e₀ : Equation) (f : List ℕ) : Type 0 where
   pub kinds : e .kind ≡ e₀ .kind
   pub others : (x : ℕ) → Letter x → absent x f ≡ true → slot e x ≡ slot e₀ x
 
--- At most nine digits, as the number reader takes them.
-abbrev pub digitLimit : ℕ
-digitLimit = 1000000000
+-- The highest number in the text of a well-formed table: a literal.
+abbrev pub highest : ℕ
+highest = literalCount - 1
 
 abbrev pub Small : Equation → Type 0
-Small e = (x : ℕ) → slot e x < digitLimit
+Small e = (x : ℕ) → slot e x ≤ highest
 
 -- A form in 22 bytes, filled up with spaces.
 unfoldable pub padded : ℕ → List ℕ → List ℕ
@@ -131,7 +131,7 @@ formAt f = getD forms f noForm
 abbrev pub formText : Form → List ℕ
 formText f = take (f .len) (f .text)
 
--- The equation fits the form: it has the numbers that the form settles, and the others have at most nine digits.
+-- The equation fits the form: it has the numbers that the form settles, and no number above the highest literal.
 pub record Fits (f : Form) (e : Equation) : Type 0 where
   pub agrees : Agree e (equationOf (f .settled)) (formText f)
   pub small : Small e

@@ -6,16 +6,16 @@ use Prim.Native.Nat.{ℕ, _*_, _≤_, _<_}
 use lib.ListN.{length, take, drop}
 use Rattle.limits.specs.Limits.{tableRoom}
 use Rattle.tables.specs.Table.{checked}
-use Rattle.flows.specs.Step.{Answer, refused, gives}
+use Rattle.tables.specs.Reply.{Reply, refused, gives}
 use Rattle.tables.specs.declared.Checked.the-variants.{Passed}
 use Rattle.lustre.specs.Text.{textOf}
 use Rattle.lustre.specs.declared.Loaded.{Loaded}
 use Rattle.lustre.specs.declared.Loaded.the-variants.{Equations, Refused}
 
 -- "compiling and reading Lustre text give n"
-abbrev pub loadedAnswer : Loaded → Answer
-loadedAnswer (Equations n) = gives n
-loadedAnswer (Refused r) = refused r
+abbrev pub loadReply : Loaded → Reply
+loadReply (Equations n) = gives n
+loadReply (Refused r) = refused r
 
 -- The table t of n equations is well formed, and writes exactly these bytes.
 pub record Writes (t : List ℕ) (n : ℕ) (text : List ℕ) : Type 0 where

@@ -9,11 +9,11 @@ use Rattle.traces.specs.Compare.Op.{le, lt, eq, gt, ge}
 use Rattle.tables.specs.Table.{Equation, equationAt, Kind, kindOf}
 use Rattle.tables.specs.Table.Kind.{signal, start, constant, negation, conjunction, disjunction, booleanPre}
 use Rattle.tables.specs.Table.Kind.{countPre, capped, ifElse, compareLiteral, compareParameter, unknown}
-use Rattle.lustre.specs.Decimal.{numeral}
+use Rattle.lustre.specs.Decimal.{numberText}
 
 -- The name of the flow of equation x.
 abbrev pub flow : ℕ → List ℕ
-flow x = bytes "f" ++ numeral x
+flow x = bytes "f" ++ numberText x
 
 -- "In kinds 2 and 6 a 0 is written `false` and a 1 `true`."
 abbrev pub truthText : Bool → List ℕ
@@ -30,7 +30,7 @@ opText ge = bytes ">="
 
 -- The table of kinds, column "text after `fN=`". No number is that of an unknown kind in a well-formed table.
 unfoldable pub valueText : Kind → Equation → List ℕ
-valueText signal e = bytes "s" ++ numeral (e .a)
+valueText signal e = bytes "s" ++ numberText (e .a)
 valueText start e = bytes "b"
 valueText constant e = truthText (nonzero (e .a))
 valueText negation e = bytes "not " ++ flow (e .a)
@@ -40,8 +40,8 @@ valueText booleanPre e = truthText (nonzero (e .c)) ++ bytes "->pre(" ++ flow (e
 valueText countPre e = bytes "0->pre(" ++ flow (e .a) ++ bytes ")"
 valueText capped e = bytes "cap(" ++ flow (e .a) ++ bytes "," ++ flow (e .b) ++ bytes ")"
 valueText ifElse e = bytes "if " ++ flow (e .a) ++ bytes " then " ++ flow (e .b) ++ bytes " else 0"
-valueText compareLiteral e = flow (e .a) ++ opText (opOf (e .b)) ++ numeral (e .c)
-valueText compareParameter e = flow (e .a) ++ opText (opOf (e .b)) ++ bytes "k" ++ numeral (e .c)
+valueText compareLiteral e = flow (e .a) ++ opText (opOf (e .b)) ++ numberText (e .c)
+valueText compareParameter e = flow (e .a) ++ opText (opOf (e .b)) ++ bytes "k" ++ numberText (e .c)
 valueText unknown e = []
 
 -- What follows `fN=` in the line of an equation; "each line ends in byte 10".

@@ -5,7 +5,7 @@ use Prim.Native.Nat.{ℕ}
 use lib.Dec.{leb}
 use lib.ListN.{length, drop}
 use Rattle.tables.specs.Table.{Test, test, firstFailed, tableTests}
-use Rattle.flows.specs.Step.{Answer, refused, gives}
+use Rattle.tables.specs.Reply.{Reply, refused, gives}
 use Rattle.tables.specs.declared.Checked.{Checked}
 use Rattle.tables.specs.declared.Checked.the-variants.{Passed, Refused as Failed}
 use Rattle.lustre.specs.Text.{textOf}
@@ -13,9 +13,9 @@ use Rattle.lustre.specs.declared.Written.{Written}
 use Rattle.lustre.specs.declared.Written.the-variants.{Length, Refused}
 
 -- "writing gives the length in bytes"
-abbrev pub writtenAnswer : Written → Answer
-writtenAnswer (Length l) = gives l
-writtenAnswer (Refused r) = refused r
+abbrev pub writeReply : Written → Reply
+writeReply (Length l) = gives l
+writeReply (Refused r) = refused r
 
 -- "Write as Lustre text. 10, 11; 15: the buffer is shorter than that text."
 abbrev pub writeTests : List ℕ → ℕ → List ℕ → List Test

@@ -3,10 +3,9 @@ use mathlib.Core.Path.{_≡_, _∙_, sym, ap}
 use mathlib.Core.List.{List, _++_}
 use Prim.Native.Nat.{ℕ, _+_, _*_, _≤_, _<_}
 use native.Mathlib.Omega.{arith}
-use native.Mathlib.Nat.{zero-add}
-use native.Mathlib.Numerals.{add-one}
-use lib.ListN.{length, getD, take, drop, set}
-use lib.Seq.{paste, paste-suc}
+use lib.ListN.{length, take}
+use lib.Seq.{sets}
+use Rattle.lists.proofs.Buffers.{sets-front}
 use Rattle.limits.specs.Limits.{equationLimit, tableRoom}
 use Rattle.tables.specs.Table.{checked}
 use Rattle.tables.specs.declared.Checked.the-variants.{Passed, Refused as Failed}
@@ -19,13 +18,13 @@ use Rattle.lustre_read.specs.declared.Proposal.{Proposal}
 use Rattle.lustre_read.specs.declared.Proposal.the-variants.{Nothing, Table}
 use Rattle.lustre.proofs.Tables.{well-plain, same-equations, same-check}
 
--- What parsing answers, by its cases.
-pub none-parsed : (text u : List ℕ) (r : Proposal) → r ≡ Nothing → proposalSeen text u r
+-- What a proposal says, by its cases.
+pub none-proposed : (text u : List ℕ) (r : Proposal) → r ≡ Nothing → proposalSeen text u r
     → (t : List ℕ) (n : ℕ) → Writes t n text → ⊥
-none-parsed text u r h w = rw h at w
+none-proposed text u r h w = rw h at w
 
-pub some-parsed : (text u : List ℕ) (r : Proposal) (n : ℕ) → r ≡ Table n → proposalSeen text u r → Proposed text u n
-some-parsed text u r n h w = rw h at w
+pub some-proposed : (text u : List ℕ) (r : Proposal) (n : ℕ) → r ≡ Table n → proposalSeen text u r → Proposed text u n
+some-proposed text u r n h w = rw h at w
 
 -- The text proposes a table that breaks the rules: then no well-formed table writes it.
 pub ill-formed : {text u : List ℕ} {n : ℕ} (r : ℕ) → Proposed text u n → tableRoom ≤ length u → Failed r ≡ checked u n
@@ -48,20 +47,12 @@ none-read text u r h w = rw h at w
 pub some-read : (text u : List ℕ) (r : Proposal) (n : ℕ) → r ≡ Table n → tableSeen text u r → Writes u n text
 some-read text u r n h w = rw h at w
 
-pub few : {t text : List ℕ} {n : ℕ} → Writes t n text → n ≤ equationLimit
-few {t} {text} {n} w = checked-fitting t n (w .well-formed) .few
+pub few-equations : {t text : List ℕ} {n : ℕ} → Writes t n text → n ≤ equationLimit
+few-equations {t} {text} {n} w = checked-fitting t n (w .well-formed) .few
 
 -- The equations are copied.
 pub copied : {text u : List ℕ} {n : ℕ} (b a : List ℕ) → Writes u n text → tableRoom ≤ length b
-    → a ≡ paste b 0 u (4 * n) → AfterRead text b (Equations n) a
+    → a ≡ sets b 0 (take (4 * n) u) → AfterRead text b (Equations n) a
 copied {text} {u} {n} b a w l h =
-    let z : a ≡ take (4 * n) u ++ drop (4 * n) b = h ∙ rw zero-add in
-    rw z (read w l)
-
--- A turn of the copy.
-pub copied-more : (d s l : List ℕ) (i : ℕ) → i < length d → i < length s → l ≡ paste d 0 s i
-    → set l i (getD s i 0) ≡ paste d 0 s (i + 1)
-copied-more d s l i hd hs e =
-    let z : 0 + i ≡ i = zero-add i in
-    rw (e, add-one i)
-    (ap (λ (k : ℕ). set (paste d 0 s i) k (getD s i 0)) (sym z) ∙ paste-suc d 0 s i 0 (omega arith) hs)
+    let fit = checked-fitting u n (w .well-formed) in
+    rw (h, sets-front b u (4 * n) (fit .whole) (omega (arith, fit .few))) (read w l)

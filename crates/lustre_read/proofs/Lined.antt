@@ -10,12 +10,13 @@ use native.Mathlib.Numerals.{add-one}
 use lib.ListN.{length, getD, drop, set, length-set}
 use lib.Seq.{sets, length-sets, getD-set-same, getD-set-other}
 use Rattle.lists.specs.Text.{bytes}
+use Rattle.lists.specs.Decimal.{isDigit}
 use Rattle.tables.specs.Table.{numberAt, Equation, equationAt}
 use Rattle.limits.specs.Limits.{equationLimit, tableRoom}
 use Rattle.lustre.specs.Text.{lineEnd, lineText, lines}
 use Rattle.lustre.specs.Form.{equation, equationOf, own, Letter, slot, render, absent}
 use Rattle.lustre.specs.Form.Letter.{isA, isB, isC}
-use Rattle.lustre.specs.Form.{Agree, digitLimit, Small, formCount, formAt, formText, formOf, Fits, Plain, NoLine}
+use Rattle.lustre.specs.Form.{Agree, highest, Small, formCount, formAt, formText, formOf, Fits, Plain, NoLine}
 use Rattle.lustre.specs.Scan.{Scanned, scan}
 use Rattle.lustre.specs.Scan.Scanned.{unlike, scanned}
 use Rattle.lustre_read.specs.Inner.{NoEnd, EndAt, endSeen, LineAt, lineSeen}
@@ -82,7 +83,7 @@ scanned-text f l r e₀ e o h = go (scan f l e₀) h (sees f l e₀ o)
     go unlike h unseen = absurd (let z : _≡_ {A = ℕ} 0 1 = cc in omega arith)
     go (scanned m z) h (seen b _ _) = let p : m ≡ e = cc in let q : z ≡ r = cc in b ∙ rw (p, q)
 
-pub own-small : (i : ℕ) → i < digitLimit → Small (own i)
+pub own-small : (i : ℕ) → i ≤ highest → Small (own i)
 own-small i h = small 0 i 0 0 h (omega arith) (omega arith)
 
 pub own-agrees : (i : ℕ) (f : List ℕ) → absent 65 f ≡ false → Agree (own i) (own 0) f
@@ -93,9 +94,9 @@ own-agrees i f n = record { kinds = refl; others = others }
     others x isB e = refl
     others x isC e = refl
 
-line-scans : (i : ℕ) (e : Equation) (r : List ℕ) → i < digitLimit
+line-scans : (i : ℕ) (e : Equation) (r : List ℕ) → i ≤ highest
     → scan (bytes "fA=") (lineText i e ++ r) (own 0) ≡ scanned (own i) (lineEnd e ++ r)
-unfolding closed absent
+unfolding closed absent isDigit
 line-scans i e r h =
     rw (← line-text i e, append-assoc)
     (scans (own i) (own-small i h) (bytes "fA=") (lineEnd e ++ r) (own 0) refl (own-agrees i (bytes "fA=") refl))

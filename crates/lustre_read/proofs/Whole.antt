@@ -4,6 +4,7 @@ use mathlib.Core.List.{List, [], _++_, append-nil}
 use Prim.Native.Nat.{ℕ, _+_, _-_, _≤_, _<_}
 use native.Mathlib.Omega.{arith}
 use lib.ListN.{length, drop, length-drop, drop-of-length-le}
+use Rattle.lists.specs.Decimal.{isDigit}
 use Rattle.tables.specs.Table.{Equation}
 use Rattle.lustre.specs.Text.{lines, foot, textOf}
 use Rattle.lustre.specs.Read.{Writes}
@@ -50,7 +51,7 @@ module _ {text u : List ℕ} {p n q : ℕ} (start : text ≡ opening ++ drop p t
 
   last-scans : (t : List ℕ) (m : ℕ) → Writes t m text
       → scan closing (drop q text) (own 0) ≡ scanned (own (m - 1)) []
-  unfolding closed absent
+  unfolding closed absent isDigit
   last-scans t m s =
       let v = well-plain t m (s .well-formed) in
       let a : drop q text ≡ render (own (m - 1)) closing ++ [] =

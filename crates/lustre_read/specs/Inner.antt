@@ -6,16 +6,14 @@ use Prim.Native.Nat.{ℕ, _*_, _≤_, _<_}
 use lib.ListN.{drop}
 use lib.Seq.{sets}
 use Rattle.limits.specs.Limits.{equationLimit}
+use Rattle.lists.specs.Decimal.{numeral}
 use Rattle.tables.specs.Table.{Equation, equationAt}
 use Rattle.lustre.specs.Text.{lineEnd, lineText, lines, textOf}
 use Rattle.lustre.specs.Read.{Writes}
-use Rattle.lustre.specs.Form.{letter?, put, Plain, PlainTable, NoLine, equationOf}
-use Rattle.lustre.specs.Scan.{Taken, Scanned, numberIn, afterNumber, afterByte}
-use Rattle.lustre.specs.Scan.Taken.{missing, taken}
+use Rattle.lustre.specs.Form.{letter?, put, highest, Plain, PlainTable, NoLine, equationOf}
+use Rattle.lustre.specs.Scan.{Scanned, afterNumber, afterByte}
 use Rattle.lustre.specs.Scan.Scanned.{unlike, scanned}
 use Rattle.lustre.specs.declared.Numbers.{Numbers}
-use Rattle.lustre_read.specs.declared.NumberRead.{NumberRead}
-use Rattle.lustre_read.specs.declared.NumberRead.the-variants.{Missing, Value}
 use Rattle.lustre_read.specs.declared.Scan.{Scan}
 use Rattle.lustre_read.specs.declared.Scan.the-variants.{Unlike, Found}
 use Rattle.lustre_read.specs.declared.Proposal.{Proposal}
@@ -24,13 +22,9 @@ use Rattle.lustre_read.specs.declared.Proposal.the-variants.{Nothing, Ta
 -- One byte of a form.
 unfoldable pub scanPiece : ℕ → List ℕ → Equation → Scanned
 scanPiece x l e =
-    cond (letter? x) (afterNumber (numberIn l) (λ v r. scanned (put e x v) r)) (afterByte x l (λ r. scanned e r))
+    cond (letter? x) (afterNumber (numeral highest l) (λ v r. scanned (put e x v) r)) (afterByte x l (λ r. scanned e r))
 
--- What the answers of the number reader and of the form scanner say of the text.
-abbrev pub numberSeen : List ℕ → NumberRead → Taken
-numberSeen text Missing = missing
-numberSeen text (Value v p) = taken v (drop p text)
-
+-- What the form scanner's answer says of the text.
 abbrev pub scanSeen : List ℕ → Scan → Scanned
 scanSeen text Unlike = unlike
 scanSeen text (Found e p) = scanned (equationOf e) (drop p text)

@@ -1,5 +1,7 @@
 // Read Lustre text into a table (document 01, "Read Lustre text"; refusals 16 and 9). Which texts are read, and what reading
 // does, stand in crate `lustre`, specs/Text.antt and specs/Read.antt.
+use lists::Decimal;
+use lists::read_decimal;
 use lustre::FORM_COUNT;
 use lustre::Loaded;
 use lustre::Numbers;
@@ -11,68 +13,15 @@ use tables::check_table;
 ghost use mathlib.Core.Path.{_≡_};
 ghost use Prim.Native.Nat.{_+_, _*_, _≤_, _<_};
 ghost use lib.ListN.{length, drop};
-ghost use lib.Seq.{paste};
 ghost use Rattle.limits.specs.Limits.{equationLimit, tableRoom};
 ghost use Rattle.lustre.specs.Read.{AfterRead};
-ghost use Rattle.lustre.specs.Form.{equationOf, put, digitLimit};
-ghost use Rattle.lustre.specs.Scan.{digit?, room?, further, numberIn, scan};
-ghost use Rattle.lustre_read.specs.Inner.{scanPiece, numberSeen, scanSeen, endSeen, lineSeen, stored, AllLinesAt};
+ghost use Rattle.lustre.specs.Form.{equationOf, put};
+ghost use Rattle.lustre.specs.Scan.{scan};
+ghost use Rattle.lustre_read.specs.Inner.{scanPiece, scanSeen, endSeen, lineSeen, stored, AllLinesAt};
 ghost use Rattle.lustre_read.specs.Inner.{proposalSeen, tableSeen};
 
-// A number that was read, and where it ends.
-enum NumberRead {
-    Missing,
-    Value { value: u32, next: usize },
-}
-
-// The digits 0 to 9 are the bytes 48 to 57.
-fn is_digit(d: u8) -> bool
-    ensures { λ r. ⌜ r ≡ digit? d ⌝ }
-{
-    if d < 58 { 47 < d } else { false }
-}
-
-// Whether a digit may follow x: no needless 0 stands before it, and nine digits are enough.
-fn has_room(x: u32) -> bool
-    ensures { λ r. ⌜ r ≡ room? x ⌝ }
-{
-    if 0 < x { x < 100000000 } else { false }
-}
-
-// The digits at p, after those of x.
-fn read_further(text: &[u8], x: u32, p: usize) -> NumberRead
-    requires { ⌜ x < digitLimit ⌝ }
-    ensures { λ r. ⌜ numberSeen (now (text .entry)) r ≡ further x (drop p (now (text .entry))) ⌝ }
-{
-    let mut value = x;
-    let mut next = p;
-    while next < text.len() {
-        let d = text[next];
-        if !is_digit(d) {
-            return NumberRead::Value { value, next };
-        }
-        if !has_room(value) {
-            return NumberRead::Missing;
-        }
-        value = 10 * value + (d - b'0') as u32;
-        next += 1;
-    }
-    NumberRead::Value { value, next }
-}
-
-// The number at p.
-fn read_number(text: &[u8], p: usize) -> NumberRead
-    ensures { λ r. ⌜ numberSeen (now (text .entry)) r ≡ numberIn (drop p (now (text .entry))) ⌝ }
-{
-    if text.len() <= p {
-        return NumberRead::Missing;
-    }
-    let d = text[p];
-    if !is_digit(d) {
-        return NumberRead::Missing;
-    }
-    read_further(text, (d - b'0') as u32, p + 1)
-}
+// The highest number in the text of a well-formed table: a literal.
+const HIGHEST: u32 = limits::LITERALS - 1;
 
 // Whether a form stands in the text, with which numbers, and where it ends.
 enum Scan {
@@ -111,12 +60,14 @@ fn scan_piece(x: u8, text: &[u8], p: usize, e: Numbers) -> Scan
     ensures { λ r. ⌜ scanSeen (now (text .entry)) r ≡ scanPiece x (drop p (now (text .entry))) (equationOf e) ⌝ }
 {
     if is_letter(x) {
-        let NumberRead::Value { value, next } = read_number(text, p) else {
-            return Scan::Unlike;
-        };
-        return Scan::Found {
-            numbers: put_in(e, x, value),
-            next,
+        let number = read_decimal(text, p, HIGHEST);
+        return match number {
+            Decimal::Is { value, next } => Scan::Found {
+                numbers: put_in(e, x, value),
+                next,
+            },
+            Decimal::Above { next: _ } => Scan::Unlike,
+            Decimal::Missing => Scan::Unlike,
         };
     }
     if text.len() <= p {
@@ -278,18 +229,6 @@ fn read_table(text: &[u8], table: &mut [u32]) -> Proposal
     Proposal::Table(n)
 }
 
-// The first k numbers.
-fn copy(from: &[u32], k: usize, to: &mut [u32])
-    requires { ⌜ (k ≤ length (now from)) × (k ≤ length (now to)) ⌝ }
-    ensures { λ r. ⌜ now (to .exit) ≡ paste (now (to .entry)) 0 (now (from .entry)) k ⌝ }
-{
-    let mut i = 0;
-    while i < k {
-        to[i] = from[i];
-        i += 1;
-    }
-}
-
 // Read Lustre text into a table. The text is read into a table of its own first, so that a refusal changes nothing.
 pub fn read_lustre(text: &[u8], table: &mut [u32]) -> Loaded
     ensures { λ r. ⌜ AfterRead (now (text .entry)) (now (table .entry)) r (now (table .exit)) ⌝ }
@@ -302,6 +241,6 @@ pub fn read_lustre(text: &[u8], table: &mut [u32]) -> Loaded
     if table.len() < limits::TABLE {
         return Loaded::Refused(9);
     }
-    copy(&own, 4 * n, table);
+    lists::copy(&own, 4 * n, table);
     Loaded::Equations(n)
 }

@@ -1,29 +1,23 @@
 -- Texts placed in a buffer, one after the other, each in the unfilled tail that the one before left. Assumes nothing.
 use mathlib.Core.Path.{_≡_, refl, _∙_, sym, ap}
-use mathlib.Core.Bool.{Bool, true, false, cond}
+use mathlib.Core.Bool.{true, false}
 use mathlib.Core.List.{List, [], _∷_, _++_, append-assoc, append-nil}
-use Prim.Native.Nat.{ℕ, suc, _+_, _*_, _-_, _/_, _%_, _≤_, _<_}
+use Prim.Native.Nat.{ℕ, suc, _+_, _*_, _-_, _/_, _%_, _≤_, _<_, min}
 use native.Mathlib.Omega.{arith}
 use native.Mathlib.Nat.{add-zero, zero-add, suc-add}
 use native.Mathlib.Numerals.{add-one}
-use lib.Dec.{leb}
+use native.Mathlib.Decide.{decLe}
 use lib.ListN.{length, take, drop, set, getD, length-append, length-set, take-append-drop}
-use lib.Seq.{sets, set-out, length-sets, take-suc, take-length, drop-length, length-take-le, take-all}
+use lib.Seq.{sets, length-sets, take-suc, take-length, drop-length, length-take-le, take-all}
 use borrow.Rule.Slice.PartAt.{part-to-end}
 use borrow.Rule.Slice.PartMut.{post-is}
-use borrow.Author.Tests.{leb-true, leb-false}
-use Rattle.lists.proofs.Buffers.{sets-append}
+use Rattle.lists.proofs.Buffers.{sets-append, sets-out}
 use Rattle.tables.specs.Table.{Equation, equationAt}
-use Rattle.lustre.specs.Decimal.{digit, numeral}
+use Rattle.lustre.specs.Decimal.{digit, numberText}
 use Rattle.lustre.specs.Text.{lineText, lines}
 use Rattle.lustre.specs.Form.{letter?, slot, piece, render, formWidth}
 use Rattle.lustre_write.specs.Placed.{Placed}
-use Rattle.lustre.proofs.Decimals.{numeral-one, numeral-more, numeral-short}
-
--- Where there is no room nothing is stored.
-pub sets-out : (xs l : List ℕ) (i : ℕ) → length l ≤ i → sets l i xs ≡ l
-sets-out [] l i h = refl
-sets-out (x ∷ xs) l i h = rw (set-out l i x h) (sets-out xs l (suc i) (omega arith))
+use Rattle.lustre.proofs.Decimals.{digits-one, digits-more, digits-short}
 
 -- What stands before is kept.
 sets-cons : (p : ℕ) (xs l : List ℕ) (i : ℕ) → sets (p ∷ l) (suc i) xs ≡ p ∷ sets l i xs
@@ -37,31 +31,17 @@ sets-after (p ∷ ps) xs l i =
     ∙ sets-cons p xs (ps ++ l) (length ps + i)
     ∙ ap (λ (k : List ℕ). p ∷ k) (sets-after ps xs l i)
 
--- Where the unfilled tail begins.
-abbrev pub cut : ℕ → ℕ → ℕ
-cut p n = cond (leb p n) p n
-
-pub cut-least : (p n : ℕ) → cut p n ≤ n
-cut-least p n = go (leb p n) refl
-  where
-    go : (b : Bool) → leb p n ≡ b → cond b p n ≤ n
-    go true e = leb-true p n e
-    go false e = omega arith
-
--- A text stored in the unfilled tail.
-tail-sets : (l xs : List ℕ) (p : ℕ)
-    → take (cut p (length l)) l ++ sets (drop (cut p (length l)) l) 0 xs ≡ sets l p xs
-tail-sets l xs p = go (leb p (length l)) refl
-  where
-    go : (b : Bool) → leb p (length l) ≡ b
-        → take (cond b p (length l)) l ++ sets (drop (cond b p (length l)) l) 0 xs ≡ sets l p xs
-    go true e =
-        let h : p ≤ length l = leb-true p (length l) e in
-        let n : length (take p l) + 0 ≡ p = add-zero (length (take p l)) ∙ length-take-le p l h in
-        sym (sets-after (take p l) xs (drop p l) 0) ∙ rw (n, take-append-drop)
-    go false e =
-        let h = leb-false p (length l) e in
-        rw (take-length, drop-length, sets-out xs [] 0 (omega arith), append-nil) (sym (sets-out xs l p (omega arith)))
+-- A text stored in the unfilled tail, which begins at q.
+tail-sets : (l xs : List ℕ) (p q : ℕ) → q ≡ min p (length l) → take q l ++ sets (drop q l) 0 xs ≡ sets l p xs
+tail-sets l xs p q e =
+    elim (decLe p (length l)) [
+      | yes h ↦ (let z : q ≡ p = omega arith in
+          let n : length (take p l) + 0 ≡ p = add-zero (length (take p l)) ∙ length-take-le p l h in
+          rw z (sym (sets-after (take p l) xs (drop p l) 0) ∙ rw (n, take-append-drop)))
+      | no h ↦ (let z : q ≡ length l = omega arith in
+          rw (z, take-length, drop-length, sets-out [] 0 xs (omega arith), append-nil)
+          (sym (sets-out l p xs (omega arith))))
+    ]
 
 -- The unfilled tail of m from q on, as it is lent, and the whole when it has come back as p.
 abbrev pub lent : List ℕ → ℕ → List ℕ
@@ -70,17 +50,17 @@ lent m q = take (length m - q) (drop q m)
 abbrev pub back : List ℕ → ℕ → List ℕ → List ℕ
 back m q p = take q m ++ (p ++ drop (length m - q) (drop q m))
 
-after-text : (xs ys b m p : List ℕ) (r q : ℕ) → r ≡ length xs → m ≡ sets b 0 xs → q ≡ cut r (length m)
+after-text : (xs ys b m p : List ℕ) (r q : ℕ) → r ≡ length xs → m ≡ sets b 0 xs → q ≡ min r (length m)
     → p ≡ sets (lent m q) 0 ys → back m q p ≡ sets b 0 (xs ++ ys)
 after-text xs ys b m p r q er em eq ep =
-    let h : q ≤ length m = rw eq (cut-least r (length m)) in
+    let h : q ≤ length m = omega arith in
     let n : p ≡ sets (drop q m) 0 ys = rw (← part-to-end m q) ep in
     let l : drop (length m - q) (drop q m) ≡ [] = post-is q (length m) m h ∙ drop-length m in
-    rw (l, append-nil, n, eq, tail-sets m ys r)
+    rw (l, append-nil, n, tail-sets m ys r q eq)
     (rw (em, er) (ap (λ (k : ℕ). sets (sets b 0 xs) k ys) (sym (zero-add (length xs))) ∙ sets-append b 0 xs ys))
 
 -- A text, and then another in the tail that is left.
-pub joined : {l l′ : ℕ} {xs ys b m p : List ℕ} {r k : ℕ} (q : ℕ) → Placed l xs b m r → q ≡ cut r (length m)
+pub joined : {l l′ : ℕ} {xs ys b m p : List ℕ} {r k : ℕ} (q : ℕ) → Placed l xs b m r → q ≡ min r (length m)
     → Placed l′ ys (lent m q) p k → Placed (l + l′) (xs ++ ys) b (back m q p) (r + k)
 joined {l} {l′} {xs} {ys} {b} {m} {p} {r} {k} q w eq v = record {
   result = rw (length-append, ← w .result, ← v .result);
@@ -97,20 +77,20 @@ pub placed-length : {l : ℕ} {t b a : List ℕ} {r : ℕ} → Placed l t b a r 
 placed-length {t} {b} w = ap length (w .buffer) ∙ length-sets b 0 t
 
 -- A number of one digit, and one of more.
-pub number-one : (x : ℕ) (b a : List ℕ) → x < 10 → a ≡ set b 0 (digit x) → Placed 10 (numeral x) b a 1
+pub number-one : (x : ℕ) (b a : List ℕ) → x < 10 → a ≡ set b 0 (digit x) → Placed 10 (numberText x) b a 1
 number-one x b a h e =
-    record { result = rw (numeral-one x h); buffer = rw (numeral-one x h) e; short = omega arith }
+    record { result = rw (digits-one x h); buffer = rw (digits-one x h) e; short = omega arith }
 
-pub number-more : (x r : ℕ) (b m a : List ℕ) → 10 ≤ x → x < 4294967296 → Placed 10 (numeral (x / 10)) b m r
-    → a ≡ set m r (digit (x % 10)) → Placed 10 (numeral x) b a (r + 1)
+pub number-more : (x r : ℕ) (b m a : List ℕ) → 10 ≤ x → x < 4294967296 → Placed 10 (numberText (x / 10)) b m r
+    → a ≡ set m r (digit (x % 10)) → Placed 10 (numberText x) b a (r + 1)
 number-more x r b m a h g w e =
-    let n : r + 1 ≡ length (numeral x) = rw (numeral-more x h, length-append) (omega (arith, w .result)) in
-    let more : sets b 0 (numeral (x / 10) ++ (digit (x % 10) ∷ [])) ≡ set m r (digit (x % 10)) =
-    sym (sets-append b 0 (numeral (x / 10)) (digit (x % 10) ∷ [])) ∙ rw (← w .buffer, ← w .result, zero-add) in
+    let n : r + 1 ≡ length (numberText x) = rw (digits-more x h, length-append) (omega (arith, w .result)) in
+    let more : sets b 0 (numberText (x / 10) ++ (digit (x % 10) ∷ [])) ≡ set m r (digit (x % 10)) =
+    sym (sets-append b 0 (numberText (x / 10)) (digit (x % 10) ∷ [])) ∙ rw (← w .buffer, ← w .result, zero-add) in
     record {
       result = n;
-      buffer = e ∙ rw (numeral-more x h) (sym more);
-      short = omega (arith, n, numeral-short x g);
+      buffer = e ∙ rw (digits-more x h) (sym more);
+      short = omega (arith, n, digits-short x g);
     }
 
 pub number-length : {l : ℕ} {t b m : List ℕ} {r : ℕ} (a : List ℕ) (i v : ℕ) → Placed l t b m r → a ≡ set m i v
@@ -119,7 +99,7 @@ number-length {t} {b} {m} a i v w f = ap length f ∙ length-set m i v ∙ place
 
 -- One byte of a form: the number of a letter, or the byte itself.
 pub piece-letter : (e : Equation) (x s : ℕ) {b a : List ℕ} {r : ℕ} → letter? x ≡ true → s ≡ slot e x
-    → Placed 10 (numeral s) b a r → Placed 10 (piece e x) b a r
+    → Placed 10 (numberText s) b a r → Placed 10 (piece e x) b a r
 piece-letter e x s h es w = rw (h, ← es) w
 
 pub piece-byte : (e : Equation) (x : ℕ) (b a : List ℕ) → letter? x ≡ false → a ≡ set b 0 x
@@ -142,7 +122,7 @@ unfolding render
 render-more e f j h = rw (add-one j, take-suc f j 0 h, render-append, append-nil)
 
 pub form-more : (f : List ℕ) (e : Equation) (x q : ℕ) {b m p : List ℕ} {r j k : ℕ}
-    → Placed (10 * j) (render e (take j f)) b m r → j < length f → x ≡ getD f j 0 → q ≡ cut r (length m)
+    → Placed (10 * j) (render e (take j f)) b m r → j < length f → x ≡ getD f j 0 → q ≡ min r (length m)
     → Placed 10 (piece e x) (lent m q) p k → Placed (10 * (j + 1)) (render e (take (j + 1) f)) b (back m q p) (r + k)
 form-more f e x q {b} {m} {p} {r} {j} {k} w h ex eq v =
     let n : 10 * j + 10 ≡ 10 * (j + 1) = omega arith in
@@ -160,7 +140,7 @@ unfolding lines
 lines-none t b = record { result = refl; buffer = refl; short = omega arith }
 
 pub lines-more : (t : List ℕ) (i q : ℕ) {b m p : List ℕ} {r k : ℕ} → Placed (440 * i) (lines t i) b m r
-    → q ≡ cut r (length m) → Placed 440 (lineText i (equationAt t i)) (lent m q) p k
+    → q ≡ min r (length m) → Placed 440 (lineText i (equationAt t i)) (lent m q) p k
     → Placed (440 * (i + 1)) (lines t (i + 1)) b (back m q p) (r + k)
 unfolding lines
 lines-more t i q w eq v =

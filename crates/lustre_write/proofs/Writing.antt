@@ -1,36 +1,53 @@
 -- What writing leaves: a line and the whole text placed part by part, and the cases of the operation. Assumes nothing.
 use mathlib.Core.Path.{_≡_, refl, _∙_, sym, ap}
 use mathlib.Core.List.{List, [], _++_}
-use Prim.Native.Nat.{ℕ, _+_, _-_, _≤_, _<_}
+use Prim.Native.Nat.{ℕ, _+_, _-_, _≤_, _<_, min}
 use native.Mathlib.Omega.{arith}
 use native.Mathlib.Nat.{zero-add}
 use lib.ListN.{length, drop}
 use lib.Seq.{sets-eq}
 use borrow.Author.Tests.{lt-leb}
 use Rattle.lists.specs.Text.{bytes}
+use Rattle.lists.proofs.Buffers.{sets-out}
 use Rattle.tables.specs.Table.{Equation, checked}
 use Rattle.tables.specs.declared.Checked.the-variants.{Passed, Refused as Failed}
 use Rattle.tables.proofs.Checks.{passed-both, refused-table}
 use Rattle.lustre.specs.Text.{lineEnd, lineText, lines, foot, textOf}
 use Rattle.lustre.specs.Write.{writeChecked, afterWrite, afterText, writeEffect}
-use Rattle.lustre.specs.Form.{own, render}
+use Rattle.lustre.specs.Form.{own, render, formWidth, formCount, formAt, formText, formOf, Plain}
+use Rattle.lustre.specs.declared.Form.{Form}
 use Rattle.lustre.specs.declared.Written.the-variants.{Length, Refused}
+use Rattle.lustre.proofs.Forms.{form-fine, form-room, end-form}
 use Rattle.lustre.proofs.Parts.{opening, closing, opening-text, foot-text, line-text}
 use Rattle.lustre.proofs.Theorems.{write-passed}
 use Rattle.lustre_write.specs.Placed.{Placed}
-use Rattle.lustre_write.proofs.Placing.{cut, lent, back, joined, placed-as, sets-out}
+use Rattle.lustre_write.proofs.Placing.{lent, back, joined, placed-as}
+
+-- The form r that was fetched for an equation.
+module _ (e : Equation) (f : ℕ) (r : Form) (w : Plain e) (ef : f ≡ formOf e) (er : r ≡ formAt f) where
+  pub fetched-known : f < formCount
+  fetched-known = rw ef (w .known)
+
+  pub fetched-room : r .len ≤ length (r .text)
+  fetched-room = rw er (form-room f fetched-known)
+
+  pub fetched-short : r .len ≤ formWidth
+  fetched-short = rw er (form-fine f fetched-known .room)
+
+  pub fetched-text : render e (formText r) ≡ lineEnd e
+  fetched-text = rw (er, ef) (sym (end-form e w))
 
 -- A line in its two parts, and the text in its three.
 pub line-placed : (i q : ℕ) (d e e′ : Equation) {l l′ : ℕ} {b m p : List ℕ} {r k : ℕ} → d ≡ own i → e ≡ e′
-    → Placed l (render d (bytes "fA=")) b m r → q ≡ cut r (length m) → Placed l′ (lineEnd e) (lent m q) p k
+    → Placed l (render d (bytes "fA=")) b m r → q ≡ min r (length m) → Placed l′ (lineEnd e) (lent m q) p k
     → Placed (l + l′) (lineText i e′) b (back m q p) (r + k)
 line-placed i q d e e′ h g w c v =
     placed-as (line-text i e ∙ ap (lineText i) g)
     (joined q (placed-as (ap (λ (x : Equation). render x (bytes "fA=")) h) w) c v)
 
 pub text-placed : (t : List ℕ) (n q u : ℕ) (d f : Equation) {l : ℕ} {b m p s : List ℕ} {r k j : ℕ}
-    → Placed 220 (render d opening) b m r → q ≡ cut r (length m) → Placed l (lines t n) (lent m q) p k
-    → u ≡ cut (r + k) (length (back m q p)) → f ≡ own (n - 1)
+    → Placed 220 (render d opening) b m r → q ≡ min r (length m) → Placed l (lines t n) (lent m q) p k
+    → u ≡ min (r + k) (length (back m q p)) → f ≡ own (n - 1)
     → Placed 220 (render f closing) (lent (back m q p) u) s j
     → Placed (220 + l + 220) (textOf t n) b (back (back m q p) u s) (r + k + j)
 unfolding textOf
@@ -45,7 +62,7 @@ write-refused t b n r e = rw (refused-table t n r _ e)
 
 -- the buffer is too short,
 nothing-placed : {l : ℕ} {text z : List ℕ} {r : ℕ} → Placed l text [] z r → z ≡ []
-nothing-placed {l} {text} w = w .buffer ∙ sets-out text [] 0 (omega arith)
+nothing-placed {l} {text} w = w .buffer ∙ sets-out [] 0 text (omega arith)
 
 pub write-short : (t b : List ℕ) (n : ℕ) {l : ℕ} {z : List ℕ} {r : ℕ} → checked t n ≡ Passed
     → Placed l (textOf t n) [] z r → length b < r → afterWrite (Refused 15) (z ++ b) ≡ writeEffect t n b

@@ -1,5 +1,6 @@
 // Write a table as Lustre text (document 01, "Write as Lustre text"; refusal 15). What the text of a table is, and what
 // writing does, stand in crate `lustre`, specs/Text.antt and specs/Write.antt.
+use lists::number_at;
 use lustre::Numbers;
 use lustre::Written;
 use lustre::form_at;
@@ -8,13 +9,11 @@ use lustre::only;
 use tables::Checked;
 use tables::check_table;
 ghost use mathlib.Core.Path.{_≡_};
-ghost use mathlib.Core.Bool.{cond};
-ghost use Prim.Native.Nat.{_+_, _*_, _≤_, _<_};
-ghost use lib.Dec.{leb};
-ghost use lib.ListN.{length, getD, set};
+ghost use Prim.Native.Nat.{_+_, _*_, _≤_, _<_, min};
+ghost use lib.ListN.{length, set};
 ghost use Rattle.limits.specs.Limits.{equationLimit};
 ghost use Rattle.tables.specs.Table.{equationAt, checked};
-ghost use Rattle.lustre.specs.Decimal.{numeral};
+ghost use Rattle.lustre.specs.Decimal.{numberText};
 ghost use Rattle.lustre.specs.Text.{lineEnd, lineText, lines, textOf};
 ghost use Rattle.lustre.specs.Write.{afterWrite, writeEffect};
 ghost use Rattle.lustre.specs.Form.{equationOf, slot, piece, render, formWidth, formOf, Plain, PlainTable};
@@ -31,7 +30,7 @@ fn store(out: &mut [u8], i: usize, x: u8)
 
 // The smaller of two numbers.
 fn least(x: usize, y: usize) -> usize
-    ensures { λ r. ⌜ r ≡ cond (leb x y) x y ⌝ }
+    ensures { λ r. ⌜ r ≡ min x y ⌝ }
 {
     if x <= y { x } else { y }
 }
@@ -49,7 +48,7 @@ fn number_of(e: Numbers, x: u8) -> u32
 
 // The decimal digits of x. This and every writer below stores what has room and returns the length of the whole text.
 fn write_number(x: u32, out: &mut [u8]) -> usize
-    ensures { λ r. ⌜ Placed 10 (numeral x) (now (out .entry)) (now (out .exit)) r ⌝ }
+    ensures { λ r. ⌜ Placed 10 (numberText x) (now (out .entry)) (now (out .exit)) r ⌝ }
 {
     if x < 10 {
         store(out, 0, b'0' + x as u8);
@@ -84,13 +83,6 @@ fn write_form(form: &[u8], e: Numbers, out: &mut [u8]) -> usize
         j += 1;
     }
     at
-}
-
-// Number i of the table, or 0 past its end.
-fn number_at(table: &[u32], i: usize) -> u32
-    ensures { λ r. ⌜ r ≡ getD (now (table .entry)) i 0 ⌝ }
-{
-    if i < table.len() { table[i] } else { 0 }
 }
 
 // Equation i of the table.

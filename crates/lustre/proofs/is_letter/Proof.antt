@@ -4,14 +4,10 @@ use Rattle.lustre.proofs.is_letter.Statement.{statement}
 use Rattle.lustre.proofs.is_letter.Tie as tie
 
 returns : tie.Need-returns
-returns c =
-    let the-if1 = c .if1 in
-    rw (lt-ltb 64 _ (the-if1 .taken))
+returns c = rw (lt-ltb 64 _ (c .if1 .taken))
 
 returns-2 : tie.Need-returns-2
-returns-2 c =
-    let the-if1 = c .if1 in
-    rw (le-ltb 64 _ (the-if1 .left))
+returns-2 c = rw (le-ltb 64 _ (c .if1 .left))
 
 pub is-letter-spec : {M : Type 1} → statement M
 is-letter-spec =

@@ -4,19 +4,13 @@ use Rattle.lustre_read.proofs.put_in.Statement.{statement}
 use Rattle.lustre_read.proofs.put_in.Tie as tie
 
 returns : tie.Need-returns
-returns c =
-    let the-match = c .match in
-    rw (the-match .keys1)
+returns c = rw (c .match .keys1)
 
 returns-2 : tie.Need-returns-2
-returns-2 c =
-    let the-match = c .match in
-    rw (the-match .keys2)
+returns-2 c = rw (c .match .keys2)
 
 returns-3 : tie.Need-returns-3
-returns-3 c =
-    let the-match = c .match in
-    rw (ne-eqb _ _ (the-match .rest .0 .1), ne-eqb _ _ (the-match .rest .1))
+returns-3 c = rw (ne-eqb _ _ (c .match .rest .0 .1), ne-eqb _ _ (c .match .rest .1))
 
 pub put-in-spec : {M : Type 1} → statement M
 put-in-spec =

@@ -1,4 +1,5 @@
--- `lustre_read::read_line` meets its contract. Assumes nothing.
+-- `lustre_read::read_line` meets its contract: `fN=` is scanned, its N is compared with the line's, and an equation's text
+-- is read after it. Assumes nothing.
 use borrow.Author.Needs.{needs}
 use mathlib.Core.Path.{_≡_, _∙_, ap}
 use lib.ListN.{drop}
@@ -11,51 +12,52 @@ use Rattle.lustre_read.proofs.Lined.{line-absent, line-other, end-told}
 use Rattle.lustre_read.proofs.read_line.Statement.{statement}
 use Rattle.lustre_read.proofs.read_line.Tie as tie
 
-begun : (c : tie.After-known-told) →
-    let the-s = c .before .s in
-    let the-args = c .before .before .before .before .before .before .before .args in
-    scanned (equationOf (the-s .given .0 .0)) (drop (the-s .given .0 .1 .0) (the-args .text .now))
-    ≡ scan (bytes "fA=") (drop (the-args .p) (the-args .text .now)) (own 0)
-begun c =
-    let the-args = c .before .before .before .before .before .before .before .args in
-    let the-scan-form = c .before .before .before .scan-form in
-    let the-s = c .before .s in
-    let the-only = c .before .before .before .before .only in
-    found-told (the-args .text .now) (the-scan-form .result) (the-s .given .0 .0) (the-s .given .0 .1 .0)
-    (the-s .given .1) (the-scan-form .ensures)
-    ∙ ap (scan (bytes "fA=") (drop (the-args .p) (the-args .text .now))) (the-only .ensures)
+-- The places: the start; `fN=` is scanned, and found.
+abbrev start : tie.After-scan-form → tie.Start
+start c = c .before .before .before .before
 
+abbrev begin : tie.After-known-told → tie.After-scan-form
+begin c = c .before .before .before
+
+-- `fN=` stands there,
+begun : (c : tie.After-known-told) →
+    let found = c .before .s .given in
+    let args = start (begin c) .args in
+    scanned (equationOf (found .0 .0)) (drop (found .0 .1 .0) (args .text .now))
+    ≡ scan (bytes "fA=") (drop (args .p) (args .text .now)) (own 0)
+begun c =
+    let here = begin c in
+    let args = start here .args in
+    let found = c .before .s .given in
+    found-told (args .text .now) (here .scan-form .result) (found .0 .0) (found .0 .1 .0) (found .1)
+    (here .scan-form .ensures)
+    ∙ ap (scan (bytes "fA=") (drop (args .p) (args .text .now))) (here .before .only .ensures)
+
+-- or it does not,
 returns : tie.Need-returns
 returns c =
-    let the-args = c .before .before .before .before .before .before .args in
-    let the-pre = c .before .before .before .before .before .before .pre in
-    let the-scan-form = c .before .before .scan-form in
-    let the-enum-told = c .enum-told in
-    let the-only = c .before .before .before .only in
-    line-absent (the-args .text .now) (the-args .p) (the-args .i) (the-pre)
-    (unlike-told (the-args .text .now) (the-scan-form .result) (the-enum-told .given .1) (the-scan-form .ensures)
-    ∙ ap (scan (bytes "fA=") (drop (the-args .p) (the-args .text .now))) (the-only .ensures))
+    let here = c .before .before in
+    let args = start here .args in
+    line-absent (args .text .now) (args .p) (args .i) (start here .pre)
+    (unlike-told (args .text .now) (here .scan-form .result) (c .enum-told .given .1) (here .scan-form .ensures)
+    ∙ ap (scan (bytes "fA=") (drop (args .p) (args .text .now))) (here .before .only .ensures))
 
+-- or N is another number.
 returns-2 : tie.Need-returns-2
 returns-2 c =
-    let at-after-known-told = c .before .before in
-    let the-args = c .before .before .before .before .before .before .before .before .before .args in
-    let the-pre = c .before .before .before .before .before .before .before .before .before .pre in
-    let the-s = c .before .before .before .s in
-    let the-if1 = c .if1 in
-    line-other (the-args .text .now) (the-args .p) (the-args .i) (the-pre) (equationOf (the-s .given .0 .0))
-    (the-s .given .0 .1 .0) (begun at-after-known-told) (the-if1 .taken)
+    let told = c .before .before in
+    let entry = start (begin told) in
+    let found = told .before .s .given in
+    line-other (entry .args .text .now) (entry .args .p) (entry .args .i) (entry .pre) (equationOf (found .0 .0))
+    (found .0 .1 .0) (begun told) (c .if1 .taken)
 
 returns-3 : tie.Need-returns-3
 returns-3 c =
-    let at-after-known-told = c .before .before .before in
-    let the-args = c .before .before .before .before .before .before .before .before .before .before .args in
-    let the-pre = c .before .before .before .before .before .before .before .before .before .before .pre in
-    let the-s = c .before .before .before .before .s in
-    let the-read-end = c .read-end in
-    let the-if1 = c .before .if1 in
-    end-told (the-args .text .now) (the-args .p) (the-args .i) (the-pre) (equationOf (the-s .given .0 .0))
-    (the-s .given .0 .1 .0) (the-read-end .result) (begun at-after-known-told) (the-if1 .left) (the-read-end .ensures)
+    let told = c .before .before .before in
+    let entry = start (begin told) in
+    let found = told .before .s .given in
+    end-told (entry .args .text .now) (entry .args .p) (entry .args .i) (entry .pre) (equationOf (found .0 .0))
+    (found .0 .1 .0) (c .read-end .result) (begun told) (c .before .if1 .left) (c .read-end .ensures)
 
 pub read-line-spec : {M : Type 1} → statement M
 read-line-spec =

@@ -1,4 +1,5 @@
--- `lustre_read::read_proposal` meets its contract. Assumes nothing.
+-- `lustre_read::read_proposal` meets its contract: the first line, the equations' lines and the last lines stand one after
+-- the other, or no table writes the text. Assumes nothing.
 use borrow.Author.Needs.{needs}
 use mathlib.Core.Path.{_≡_}
 use mathlib.Core.List.{_++_}
@@ -6,111 +7,105 @@ use lib.ListN.{drop}
 use Rattle.lustre.specs.Form.{equationOf}
 use Rattle.lustre.specs.Scan.{scan}
 use Rattle.lustre.specs.Scan.Scanned.{scanned}
-use Rattle.lustre_read.proofs.Reading.{found-told, unlike-told}
-use Rattle.lustre_read.proofs.Whole.{no-opening, opening-found}
 use Rattle.lustre.proofs.Parts.{opening, closing}
-use Rattle.lustre_read.proofs.Whole.{no-closing, bytes-left, other-last, proposes}
+use Rattle.lustre_read.proofs.Reading.{found-told, unlike-told}
+use Rattle.lustre_read.proofs.Whole.{no-opening, opening-found, no-closing, bytes-left, other-last, proposes}
 use Rattle.lustre_read.proofs.read_proposal.Statement.{statement}
 use Rattle.lustre_read.proofs.read_proposal.Tie as tie
 
+-- The places: the start; the first line is scanned, and found; the equations' lines are read; the last lines are scanned,
+-- and found.
+abbrev start : tie.After-scan-form → tie.Start
+start c = c .before .before .before .before .before
+
+abbrev first : tie.After-known-told → tie.After-scan-form
+first c = c .before .before .before
+
+abbrev first-told : tie.After-read-lines → tie.After-known-told
+first-told c = c .before .before
+
+abbrev lines : tie.After-scan-form2 → tie.After-read-lines
+lines c = c .before .before .before .before .before
+
+abbrev last : tie.After-known-told2 → tie.After-scan-form2
+last c = c .before .before .before
+
+abbrev entry : tie.After-scan-form2 → tie.Start
+entry c = start (first (first-told (lines c)))
+
 -- The text begins with the first line,
 opened : (c : tie.After-known-told) →
-    let the-args = c .before .before .before .before .before .before .before .before .args in
-    let the-head = c .before .head in
-    the-args .text .now ≡ opening ++ drop (the-head .given .0 .1 .0) (the-args .text .now)
+    let text = start (first c) .args .text .now in
+    text ≡ opening ++ drop (c .before .head .given .0 .1 .0) text
 opened c =
-    let the-args = c .before .before .before .before .before .before .before .before .args in
-    let the-head = c .before .head in
-    let the-only = c .before .before .before .before .only in
-    let the-scan-form = c .before .before .before .scan-form in
-    opening-found (the-args .text .now) (the-head .given .0 .1 .0) (equationOf (the-only .result))
-    (equationOf (the-head .given .0 .0))
-    (found-told (the-args .text .now) (the-scan-form .result) (the-head .given .0 .0) (the-head .given .0 .1 .0)
-    (the-head .given .1) (the-scan-form .ensures))
+    let here = first c in
+    let text = start here .args .text .now in
+    let found = c .before .head .given in
+    opening-found text (found .0 .1 .0) (equationOf (here .before .only .result)) (equationOf (found .0 .0))
+    (found-told text (here .scan-form .result) (found .0 .0) (found .0 .1 .0) (found .1) (here .scan-form .ensures))
 
 -- and the last lines stand after the equations' lines.
 closed : (c : tie.After-known-told2) →
-    let the-tail = c .before .tail in
-    let the-args =
-    c .before .before .before .before .before .before .before .before .before .before .before .before .before
-    .before .before .before .before .before .args in
-    let the-read-lines = c .before .before .before .before .before .before .before .before .read-lines in
-    let the-only2 = c .before .before .before .before .only2 in
-    scanned (equationOf (the-tail .given .0 .0)) (drop (the-tail .given .0 .1 .0) (the-args .text .now))
-    ≡ scan closing (drop (the-read-lines .result .next) (the-args .text .now)) (equationOf (the-only2 .result))
+    let here = last c in
+    let text = entry here .args .text .now in
+    let found = c .before .tail .given in
+    scanned (equationOf (found .0 .0)) (drop (found .0 .1 .0) text)
+    ≡ scan closing (drop (lines here .read-lines .result .next) text) (equationOf (here .before .only2 .result))
 closed c =
-    let the-args =
-    c .before .before .before .before .before .before .before .before .before .before .before .before .before
-    .before .before .before .before .before .args in
-    let the-scan-form2 = c .before .before .before .scan-form2 in
-    let the-tail = c .before .tail in
-    found-told (the-args .text .now) (the-scan-form2 .result) (the-tail .given .0 .0) (the-tail .given .0 .1 .0)
-    (the-tail .given .1) (the-scan-form2 .ensures)
+    let here = last c in
+    let found = c .before .tail .given in
+    found-told (entry here .args .text .now) (here .scan-form2 .result) (found .0 .0) (found .0 .1 .0) (found .1)
+    (here .scan-form2 .ensures)
 
+-- The first line is not there.
 returns : tie.Need-returns
 returns c =
-    let the-args = c .before .before .before .before .before .before .before .args in
-    let the-only = c .before .before .before .only in
-    let the-scan-form = c .before .before .scan-form in
-    let the-enum-told = c .enum-told in
-    no-opening (the-args .text .now) (equationOf (the-only .result)) (the-only .ensures)
-    (unlike-told (the-args .text .now) (the-scan-form .result) (the-enum-told .given .1) (the-scan-form .ensures))
+    let here = c .before .before in
+    let text = start here .args .text .now in
+    let number = here .before .only in
+    no-opening text (equationOf (number .result)) (number .ensures)
+    (unlike-told text (here .scan-form .result) (c .enum-told .given .1) (here .scan-form .ensures))
 
+-- The last lines are not there.
 returns-2 : tie.Need-returns-2
 returns-2 c =
-    let at-after-known-told = c .before .before .before .before .before .before .before .before .before in
-    let the-read-lines = c .before .before .before .before .before .before .before .read-lines in
-    let the-only2 = c .before .before .before .only2 in
-    let the-args =
-    c .before .before .before .before .before .before .before .before .before .before .before .before .before
-    .before .before .before .before .args in
-    let the-scan-form2 = c .before .before .scan-form2 in
-    let the-enum-told2 = c .enum-told2 in
-    no-closing (opened at-after-known-told) (the-read-lines .ensures) (equationOf (the-only2 .result))
-    (the-only2 .ensures)
-    (unlike-told (the-args .text .now) (the-scan-form2 .result) (the-enum-told2 .given .1) (the-scan-form2 .ensures))
+    let here = c .before .before in
+    let read = lines here in
+    let number = here .before .only2 in
+    no-closing (opened (first-told read)) (read .read-lines .ensures) (equationOf (number .result)) (number .ensures)
+    (unlike-told (entry here .args .text .now) (here .scan-form2 .result) (c .enum-told2 .given .1)
+    (here .scan-form2 .ensures))
 
+-- Bytes follow them.
 returns-3 : tie.Need-returns-3
 returns-3 c =
-    let at-after-known-told =
-    c .before .before .before .before .before .before .before .before .before .before .before in
-    let at-after-known-told2 = c .before in
-    let the-read-lines = c .before .before .before .before .before .before .before .before .before .read-lines in
-    let the-only2 = c .before .before .before .before .before .only2 in
-    let the-tail = c .before .before .tail in
-    let the-if1 = c .if1 in
-    bytes-left (opened at-after-known-told) (the-read-lines .ensures) (equationOf (the-only2 .result))
-    (equationOf (the-tail .given .0 .0)) (the-tail .given .0 .1 .0) (the-only2 .ensures) (closed at-after-known-told2)
-    (the-if1 .taken)
+    let here = last (c .before) in
+    let read = lines here in
+    let number = here .before .only2 in
+    let found = c .before .before .tail .given in
+    bytes-left (opened (first-told read)) (read .read-lines .ensures) (equationOf (number .result))
+    (equationOf (found .0 .0)) (found .0 .1 .0) (number .ensures) (closed (c .before)) (c .if1 .taken)
 
+-- They name another equation than the last.
 returns-4 : tie.Need-returns-4
 returns-4 c =
-    let at-after-known-told =
-    c .before .before .before .before .before .before .before .before .before .before .before .before .before in
-    let at-after-known-told2 = c .before .before .before in
-    let the-read-lines =
-    c .before .before .before .before .before .before .before .before .before .before .before .read-lines in
-    let the-only2 = c .before .before .before .before .before .before .before .only2 in
-    let the-tail = c .before .before .before .before .tail in
-    let the-if2 = c .if2 in
-    other-last (opened at-after-known-told) (the-read-lines .ensures) (equationOf (the-only2 .result))
-    (equationOf (the-tail .given .0 .0)) (the-tail .given .0 .1 .0) (the-only2 .ensures) (closed at-after-known-told2)
-    (the-if2 .taken)
+    let told = c .before .before .before in
+    let here = last told in
+    let read = lines here in
+    let number = here .before .only2 in
+    let found = told .before .tail .given in
+    other-last (opened (first-told read)) (read .read-lines .ensures) (equationOf (number .result))
+    (equationOf (found .0 .0)) (found .0 .1 .0) (number .ensures) (closed told) (c .if2 .taken)
 
+-- The text proposes the equations.
 returns-5 : tie.Need-returns-5
 returns-5 c =
-    let at-after-known-told =
-    c .before .before .before .before .before .before .before .before .before .before .before .before .before in
-    let at-after-known-told2 = c .before .before .before in
-    let the-read-lines =
-    c .before .before .before .before .before .before .before .before .before .before .before .read-lines in
-    let the-only2 = c .before .before .before .before .before .before .before .only2 in
-    let the-tail = c .before .before .before .before .tail in
-    let the-if1 = c .before .before .if1 in
-    let the-if2 = c .if2 in
-    proposes (opened at-after-known-told) (the-read-lines .ensures) (equationOf (the-only2 .result))
-    (equationOf (the-tail .given .0 .0)) (the-tail .given .0 .1 .0) (closed at-after-known-told2) (the-if1 .left)
-    (the-if2 .left)
+    let told = c .before .before .before in
+    let here = last told in
+    let read = lines here in
+    let found = told .before .tail .given in
+    proposes (opened (first-told read)) (read .read-lines .ensures) (equationOf (here .before .only2 .result))
+    (equationOf (found .0 .0)) (found .0 .1 .0) (closed told) (c .before .before .if1 .left) (c .if2 .left)
 
 pub read-proposal-spec : {M : Type 1} → statement M
 read-proposal-spec =

@@ -1,47 +1,51 @@
--- `lustre_read::read_table` meets its contract. Assumes nothing.
+-- `lustre_read::read_table` meets its contract: a table that the text proposes and that passes its check writes the text;
+-- if it fails, no table does. Assumes nothing.
 use borrow.Author.Needs.{needs}
 use mathlib.Core.Path.{sym, _∙_}
 use native.Mathlib.Omega.{arith}
 use Rattle.lustre_read.specs.Inner.{Proposed}
-use Rattle.lustre_read.proofs.Answers.{none-parsed, some-parsed, ill-formed, well-formed}
+use Rattle.lustre_read.proofs.Answers.{none-proposed, some-proposed, ill-formed, well-formed}
 use Rattle.lustre_read.proofs.read_table.Statement.{statement}
 use Rattle.lustre_read.proofs.read_table.Tie as tie
 
+-- The places: the start; the text is read; a table is proposed; it is checked.
+abbrev start : tie.After-read-proposal → tie.Start
+start c = c .before .before .before .before
+
+abbrev read : tie.After-known-told → tie.After-read-proposal
+read c = c .before .before .before .before .before
+
+abbrev told : tie.After-check-table → tie.After-known-told
+told c = c .before .before
+
 -- What the text proposes.
 proposed : (c : tie.After-known-told) →
-    let the-args = c .before .before .before .before .before .before .before .before .before .args in
-    let the-read-proposal = c .before .before .before .before .before .read-proposal in
-    let the-proposal = c .before .proposal in
-    Proposed (the-args .text .now) (the-read-proposal .last .1 .0) (the-proposal .given .0 .0)
+    let here = read c in
+    Proposed (start here .args .text .now) (here .read-proposal .last .1 .0) (c .before .proposal .given .0 .0)
 proposed c =
-    let the-args = c .before .before .before .before .before .before .before .before .before .args in
-    let the-read-proposal = c .before .before .before .before .before .read-proposal in
-    let the-proposal = c .before .proposal in
-    some-parsed (the-args .text .now) (the-read-proposal .last .1 .0) (the-read-proposal .result) (the-proposal .given .0 .0)
-    (the-proposal .given .1) (the-read-proposal .ensures)
+    let here = read c in
+    let proposal = here .read-proposal in
+    let given = c .before .proposal .given in
+    some-proposed (start here .args .text .now) (proposal .last .1 .0) (proposal .result) (given .0 .0) (given .1)
+    (proposal .ensures)
 
 returns : tie.Need-returns
 returns c =
-    let the-args = c .before .before .before .before .before .before .before .before .args in
-    let the-read-proposal = c .before .before .before .before .read-proposal in
-    let the-enum-told = c .enum-told in
-    none-parsed (the-args .text .now) (the-read-proposal .last .1 .0) (the-read-proposal .result) (the-enum-told .given .1)
-    (the-read-proposal .ensures)
+    let here = c .before .before .before .before in
+    let proposal = here .read-proposal in
+    none-proposed (start here .args .text .now) (proposal .last .1 .0) (proposal .result) (c .enum-told .given .1)
+    (proposal .ensures)
 
 returns-2 : tie.Need-returns-2
 returns-2 c =
-    let at-after-known-told = c .before .before .before .before in
-    let the-enum-told3 = c .enum-told3 in
-    let the-check-table = c .before .before .check-table in
-    ill-formed (the-enum-told3 .given .0 .0) (proposed at-after-known-told) (omega arith)
-    (sym (the-enum-told3 .given .1) ∙ the-check-table .ensures)
+    let check = c .before .before in
+    let failed = c .enum-told3 .given in
+    ill-formed (failed .0 .0) (proposed (told check)) (omega arith) (sym (failed .1) ∙ check .check-table .ensures)
 
 returns-3 : tie.Need-returns-3
 returns-3 c =
-    let at-after-known-told = c .before .before .before .before in
-    let the-check-table = c .before .before .check-table in
-    let the-enum-told2 = c .enum-told2 in
-    well-formed (proposed at-after-known-told) (sym (the-check-table .ensures) ∙ the-enum-told2 .given .1)
+    let check = c .before .before in
+    well-formed (proposed (told check)) (sym (check .check-table .ensures) ∙ c .enum-told2 .given .1)
 
 pub read-table-spec : {M : Type 1} → statement M
 read-table-spec =

@@ -1,4 +1,5 @@
--- `lustre_read::scan_form` meets its contract. Assumes nothing.
+-- `lustre_read::scan_form` meets its contract. The invariant: what is left to scan is what there was to scan. Assumes
+-- nothing.
 use borrow.Author.Needs.{needs}
 use mathlib.Core.Path.{_≡_, refl, _∙_}
 use Prim.Native.Nat.{_-_}
@@ -10,7 +11,6 @@ use Rattle.lustre_read.proofs.Reading.{found-told, unlike-told, scan-go
 use Rattle.lustre_read.proofs.scan_form.Statement.{statement}
 use Rattle.lustre_read.proofs.scan_form.Tie as tie
 
--- What is left to scan is what there was to scan.
 abbrev Inv-loop : tie.InvT-loop
 Inv-loop form text p numbers₀ next₀ j₀ numbers next j =
     scan (drop j form) (drop next text) (equationOf numbers) ≡ scan form (drop next₀ text) (equationOf numbers₀)
@@ -18,42 +18,47 @@ Inv-loop form text p numbers₀ next₀ j₀ numbers next j =
 abbrev μ-loop : tie.MeasureT-loop
 μ-loop form text p numbers₀ next₀ j₀ numbers next j = length form - j
 
+-- The places: a turn in which a byte of the form is scanned; the start.
+abbrev turn : tie.After-scan-piece Inv-loop μ-loop → tie.In-loop Inv-loop μ-loop
+turn c = c .before .before
+
+abbrev start : tie.At-loop Inv-loop μ-loop → tie.Start Inv-loop μ-loop
+start c = c .before .before .before
+
 loop-holds : tie.Need-loop-holds Inv-loop μ-loop
 loop-holds c = refl
 
 returns : tie.Need-returns Inv-loop μ-loop
 returns c =
-    let the-args = c .before .before .before .before .before .before .before .before .args in
-    let the-loop = c .before .before .before .before .before .loop in
-    let the-loop-test = c .before .before .before .before .loop-test in
-    let the-scan-piece = c .before .before .scan-piece in
-    let the-enum-told = c .enum-told in
-    scan-stuck (the-args .form .now) (the-args .text .now) (the-loop .j) (the-loop .next)
-    (equationOf (the-loop .numbers)) (the-loop-test .taken)
-    (unlike-told (the-args .text .now) (the-scan-piece .result) (the-enum-told .given .1) (the-scan-piece .ensures))
-    ∙ the-loop .inv
+    let piece = c .before .before in
+    let here = turn piece in
+    let args = start (here .before) .args in
+    let loop = here .before .loop in
+    scan-stuck (args .form .now) (args .text .now) (loop .j) (loop .next) (equationOf (loop .numbers))
+    (here .loop-test .taken)
+    (unlike-told (args .text .now) (piece .scan-piece .result) (c .enum-told .given .1) (piece .scan-piece .ensures))
+    ∙ loop .inv
 
 loop-again : tie.Need-loop-again Inv-loop μ-loop
 loop-again c =
-    let the-args = c .before .before .before .before .before .before .before .before .before .args in
-    let the-loop = c .before .before .before .before .before .before .loop in
-    let the-m = c .before .m in
-    let the-loop-test = c .before .before .before .before .before .loop-test in
-    let the-scan-piece = c .before .before .before .scan-piece in
-    scan-goes (the-args .form .now) (the-args .text .now) (the-loop .j) (the-loop .next)
-    (equationOf (the-loop .numbers)) (the-m .given .0 .1 .0) (equationOf (the-m .given .0 .0)) (the-loop-test .taken)
-    (found-told (the-args .text .now) (the-scan-piece .result) (the-m .given .0 .0) (the-m .given .0 .1 .0)
-    (the-m .given .1) (the-scan-piece .ensures))
-    ∙ the-loop .inv
+    let piece = c .before .before .before in
+    let here = turn piece in
+    let args = start (here .before) .args in
+    let loop = here .before .loop in
+    let found = c .before .m .given in
+    scan-goes (args .form .now) (args .text .now) (loop .j) (loop .next) (equationOf (loop .numbers)) (found .0 .1 .0)
+    (equationOf (found .0 .0)) (here .loop-test .taken)
+    (found-told (args .text .now) (piece .scan-piece .result) (found .0 .0) (found .0 .1 .0) (found .1)
+    (piece .scan-piece .ensures))
+    ∙ loop .inv
 
 returns-2 : tie.Need-returns-2 Inv-loop μ-loop
 returns-2 c =
-    let the-args = c .before .before .before .before .args in
-    let the-loop = c .before .loop in
-    let the-loop-test = c .loop-test in
-    scan-ends (the-args .form .now) (the-args .text .now) (the-loop .j) (the-loop .next)
-    (equationOf (the-loop .numbers)) (the-loop-test .left)
-    ∙ the-loop .inv
+    let args = start (c .before) .args in
+    let loop = c .before .loop in
+    scan-ends (args .form .now) (args .text .now) (loop .j) (loop .next) (equationOf (loop .numbers))
+    (c .loop-test .left)
+    ∙ loop .inv
 
 pub scan-form-spec : {M : Type 1} → statement M
 scan-form-spec =

@@ -29,9 +29,8 @@ returns : (t : ℕ) → write-number-lts.Need-returns (
   write-number.Post,
 ) (write-number-at t) write-number.Post
 returns t c =
-    let the-if1 = c .before .before .before .before .if1 in
-    let the-store = c .before .before .store in
-    number-one _ _ _ (the-if1 .taken) (the-store .ensures)
+    let digit = c .before .before in
+    number-one _ _ _ (digit .before .before .if1 .taken) (digit .store .ensures)
 
 same-length : (t : ℕ) → write-number-lts.Need-same-length-2 (
   store-reads.Asked,
@@ -40,9 +39,9 @@ same-length : (t : ℕ) → write-number-lts.Need-same-length-2 (
   write-number.Post,
 ) (write-number-at t) write-number.Post
 same-length t c =
-    let the-write-number = c .before .before .before .before .before .before .write-number in
-    let the-store2 = c .before .before .store2 in
-    number-length _ _ _ (the-write-number .ensures) (the-store2 .ensures)
+    let last = c .before .before in
+    let others = last .before .before .before .before in
+    number-length _ _ _ (others .write-number .ensures) (last .store2 .ensures)
 
 returns-more : (t : ℕ) → write-number-lts.Need-returns-2 (
   store-reads.Asked,
@@ -51,11 +50,11 @@ returns-more : (t : ℕ) → write-number-lts.Need-returns-2 (
   write-number.Post,
 ) (write-number-at t) write-number.Post
 returns-more t c =
-    let the-fits = c .before .before .before .before .before .before .before .before .before .before .fits in
-    let the-if1 = c .before .before .before .before .before .before .before .before .if1 in
-    let the-write-number = c .before .before .before .before .before .before .write-number in
-    let the-store2 = c .before .before .store2 in
-    number-more _ _ _ _ _ (the-if1 .left) (the-fits .x .fits) (the-write-number .ensures) (the-store2 .ensures)
+    let last = c .before .before in
+    let others = last .before .before .before .before in
+    let long = others .before .before in
+    number-more _ _ _ _ _ (long .if1 .left) (long .before .before .fits .x .fits) (others .write-number .ensures)
+    (last .store2 .ensures)
 
 pub +write-number-spec : {M : Type 1} → statement M
 +write-number-spec = close μ-write-number λ t. write-number-lts.spec (
@@ -75,6 +74,6 @@ pub +write-number-spec : {M : Type 1} → statement M
     (λ c. omega arith)
     (λ c. omega arith)
     (λ c κs. search needs)
-    (λ c. omega (arith, c .before .before .before .before .before .before .write-number .ensures .short))
+    (λ c. let last = c .before .before in omega (arith, last .before .before .before .before .write-number .ensures .short))
     (same-length t)
     (returns-more t)

@@ -1,34 +1,36 @@
--- `lustre_write::write_checked` meets its contract. Assumes nothing.
+-- `lustre_write::write_checked` meets its contract: written where there is no room, the text shows its length and stores
+-- nothing; then it is refused or written. Assumes nothing.
 use borrow.Author.Needs.{needs}
 use Rattle.lustre.proofs.Tables.{well-plain}
 use Rattle.lustre_write.proofs.Writing.{write-short, write-done}
 use Rattle.lustre_write.proofs.write_checked.Statement.{statement}
 use Rattle.lustre_write.proofs.write_checked.Tie as tie
 
-write-text-requires : tie.Need-write-text-requires
-write-text-requires c κs =
-    let the-pre = c .before .before .before .pre in
-    well-plain _ _ (the-pre)
+-- The places: the start; the text is measured; its length is known.
+abbrev start : tie.After-write-text-arg → tie.Start
+start c = c .before .before .before
+
+abbrev measured : tie.After-slice-known2 → tie.After-write-text
+measured c = c .before .before
+
+abbrev room-known : tie.After-write-text2 → tie.Else1
+room-known c = c .before .before
 
 returns : tie.Need-returns
 returns c =
-    let the-pre = c .before .before .before .before .before .before .before .pre in
-    let the-write-text = c .before .before .before .write-text in
-    let the-if1 = c .if1 in
-    write-short _ _ _ (the-pre) (the-write-text .ensures) (the-if1 .taken)
+    let text = measured (c .before) in
+    write-short _ _ _ (start (text .before) .pre) (text .write-text .ensures) (c .if1 .taken)
 
 write-text-requires-2 : tie.Need-write-text-requires-2
-write-text-requires-2 c κs =
-    let the-pre = c .before .before .before .before .before .before .before .before .pre in
-    well-plain _ _ (the-pre)
+write-text-requires-2 c κs = well-plain _ _ (start (measured (c .before .before) .before) .pre)
 
 returns-2 : tie.Need-returns-2
 returns-2 c =
-    let the-pre = c .before .before .before .before .before .before .before .before .before .before .before .pre in
-    let the-write-text = c .before .before .before .before .before .before .before .write-text in
-    let the-if1 = c .before .before .before .before .if1 in
-    let the-write-text2 = c .before .before .write-text2 in
-    write-done _ _ _ (the-pre) (the-write-text .ensures) (the-if1 .left) (the-write-text2 .ensures)
+    let written = c .before .before in
+    let fits = room-known written in
+    let text = measured (fits .before) in
+    write-done _ _ _ (start (text .before) .pre) (text .write-text .ensures) (fits .if1 .left)
+    (written .write-text2 .ensures)
 
 pub write-checked-spec : {M : Type 1} → statement M
 write-checked-spec =
@@ -36,7 +38,7 @@ write-checked-spec =
     (tie.spec
     (λ c. search needs)
     (λ c. search needs)
-    write-text-requires
+    (λ c κs. well-plain _ _ (start c .pre))
     (λ c. search needs)
     returns
     write-text-requires-2

@@ -1,4 +1,5 @@
--- `lustre_write::write_end` meets its contract. Assumes nothing.
+-- `lustre_write::write_end` meets its contract: the form of the equation's kind and numbers is fetched and written. Assumes
+-- nothing.
 use borrow.Author.Needs.{needs}
 use mathlib.Core.Path.{refl, sym}
 use Prim.Native.Nat.{_≤_}
@@ -6,60 +7,54 @@ use lib.ListN.{length}
 use lib.Seq.{length-take-le}
 use Rattle.lustre.specs.Form.{equationOf}
 use Rattle.lustre_write.proofs.Placing.{placed-as}
-use Rattle.lustre.proofs.Forms.{fetched-known, fetched-room, fetched-short, fetched-text}
+use Rattle.lustre_write.proofs.Writing.{fetched-known, fetched-room, fetched-short, fetched-text}
 use Rattle.lustre_write.proofs.write_end.Statement.{statement}
 use Rattle.lustre_write.proofs.write_end.Tie as tie
 
-room : (c : tie.After-form-at) →
-    let the-form-at = c .form-at in
-    the-form-at .result .len ≤ length (the-form-at .result .text)
-room c =
-    let the-args = c .before .before .before .args in
-    let the-form-of = c .before .form-of in
-    let the-form-at = c .form-at in
-    let the-pre = c .before .before .before .pre in
-    fetched-room (equationOf (the-args .e)) (the-form-of .result) (the-form-at .result) (the-pre)
-    (the-form-of .ensures) (the-form-at .ensures)
+-- The places: the form is fetched; the start.
+abbrev fetched : tie.After-write-form-arg → tie.After-form-at
+fetched c = c .before .before .before
+
+abbrev start : tie.After-form-of → tie.Start
+start c = c .before .before
 
 form-at-requires : tie.Need-form-at-requires
 form-at-requires c κs =
-    let the-args = c .before .before .args in
-    let the-form-of = c .form-of in
-    let the-pre = c .before .before .pre in
-    fetched-known (equationOf (the-args .e)) (the-form-of .result) _ (the-pre) (the-form-of .ensures) refl
+    let entry = start c in
+    fetched-known (equationOf (entry .args .e)) (c .form-of .result) _ (entry .pre) (c .form-of .ensures) refl
 
-array-share-prefix-text : tie.Need-array-share-prefix-text
-array-share-prefix-text c =
-    let at-after-form-at = c .before in
-    room at-after-form-at
+-- The form has room for its text,
+room : (c : tie.After-form-at) → c .form-at .result .len ≤ length (c .form-at .result .text)
+room c =
+    let number = c .before in
+    let entry = start number in
+    fetched-room (equationOf (entry .args .e)) (number .form-of .result) (c .form-at .result) (entry .pre)
+    (number .form-of .ensures) (c .form-at .ensures)
 
 slice-aggregate-write-form : tie.Need-slice-aggregate-write-form
 slice-aggregate-write-form c =
-    let at-after-form-at = c .before .before in
-    let the-form-at = c .before .before .form-at in
-    sym (length-take-le (the-form-at .result .len) (the-form-at .result .text) (room at-after-form-at))
+    let form = c .before .before in
+    sym (length-take-le (form .form-at .result .len) (form .form-at .result .text) (room form))
 
+-- which is no longer than a form can be.
 write-form-requires : tie.Need-write-form-requires
 write-form-requires c κs =
-    let at-after-form-at = c .before .before .before in
-    let the-form-at = c .before .before .before .form-at in
-    let the-args = c .before .before .before .before .before .before .args in
-    let the-form-of = c .before .before .before .before .form-of in
-    let the-pre = c .before .before .before .before .before .before .pre in
-    rw (length-take-le (the-form-at .result .len) (the-form-at .result .text) (room at-after-form-at))
-    (fetched-short (equationOf (the-args .e)) (the-form-of .result) (the-form-at .result) (the-pre)
-    (the-form-of .ensures) (the-form-at .ensures))
+    let form = fetched c in
+    let number = form .before in
+    let entry = start number in
+    rw (length-take-le (form .form-at .result .len) (form .form-at .result .text) (room form))
+    (fetched-short (equationOf (entry .args .e)) (number .form-of .result) (form .form-at .result) (entry .pre)
+    (number .form-of .ensures) (form .form-at .ensures))
 
 returns : tie.Need-returns
 returns c =
-    let the-args = c .before .before .before .before .before .before .before .before .before .args in
-    let the-form-of = c .before .before .before .before .before .before .before .form-of in
-    let the-form-at = c .before .before .before .before .before .before .form-at in
-    let the-pre = c .before .before .before .before .before .before .before .before .before .pre in
-    let the-write-form = c .before .before .write-form in
+    let written = c .before .before in
+    let form = fetched (written .before) in
+    let number = form .before in
+    let entry = start number in
     placed-as
-    (fetched-text (equationOf (the-args .e)) (the-form-of .result) (the-form-at .result) (the-pre)
-    (the-form-of .ensures) (the-form-at .ensures)) (the-write-form .ensures)
+    (fetched-text (equationOf (entry .args .e)) (number .form-of .result) (form .form-at .result) (entry .pre)
+    (number .form-of .ensures) (form .form-at .ensures)) (written .write-form .ensures)
 
 pub write-end-spec : {M : Type 1} → statement M
 write-end-spec =
@@ -67,7 +62,7 @@ write-end-spec =
     (tie.spec
     (λ c κs. search needs)
     form-at-requires
-    array-share-prefix-text
+    (λ c. room (c .before))
     slice-aggregate-write-form
     write-form-requires
     (λ c. search needs)

@@ -1,4 +1,4 @@
--- `lustre_write::write_piece` meets its contract. Assumes nothing.
+-- `lustre_write::write_piece` meets its contract: the number of a letter is written, or the byte itself. Assumes nothing.
 use borrow.Author.Needs.{needs}
 use mathlib.Core.Path.{sym, _∙_}
 use Rattle.lustre.specs.Form.{equationOf}
@@ -6,24 +6,27 @@ use Rattle.lustre_write.proofs.Placing.{piece-letter, piece-byte}
 use Rattle.lustre_write.proofs.write_piece.Statement.{statement}
 use Rattle.lustre_write.proofs.write_piece.Tie as tie
 
+-- The places: the byte's test after the start, and the number that is looked up for a letter.
+abbrev start : tie.After-is-letter → tie.Start
+start c = c .before .before
+
+abbrev looked-up : tie.After-write-number → tie.After-number-of
+looked-up c = c .before .before
+
 returns : tie.Need-returns
 returns c =
-    let the-args = c .before .before .before .before .before .before .before .before .args in
-    let the-is-letter = c .before .before .before .before .before .before .is-letter in
-    let the-if1 = c .before .before .before .before .before .if1 in
-    let the-number-of = c .before .before .before .before .number-of in
-    let the-write-number = c .before .before .write-number in
-    piece-letter (equationOf (the-args .e)) (the-args .x) _ (sym (the-is-letter .ensures) ∙ the-if1 .taken)
-    (the-number-of .ensures) (the-write-number .ensures)
+    let number = looked-up (c .before .before) in
+    let test = number .before .before in
+    let args = start test .args in
+    piece-letter (equationOf (args .e)) (args .x) _ (sym (test .is-letter .ensures) ∙ number .before .if1 .taken)
+    (number .number-of .ensures) (c .before .before .write-number .ensures)
 
 returns-2 : tie.Need-returns-2
 returns-2 c =
-    let the-args = c .before .before .before .before .before .before .before .args in
-    let the-is-letter = c .before .before .before .before .before .is-letter in
-    let the-if1 = c .before .before .before .before .if1 in
-    let the-store = c .before .before .store in
-    piece-byte (equationOf (the-args .e)) (the-args .x) _ _ (sym (the-is-letter .ensures) ∙ the-if1 .left)
-    (the-store .ensures)
+    let byte = c .before .before .before .before in
+    let args = start (byte .before) .args in
+    piece-byte (equationOf (args .e)) (args .x) _ _ (sym (byte .before .is-letter .ensures) ∙ byte .if1 .left)
+    (c .before .before .store .ensures)
 
 pub write-piece-spec : {M : Type 1} → statement M
 write-piece-spec =

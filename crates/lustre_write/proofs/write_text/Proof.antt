@@ -1,107 +1,92 @@
--- `lustre_write::write_text` meets its contract. Assumes nothing.
+-- `lustre_write::write_text` meets its contract: the first line, the equations' lines and the last lines are placed, each in
+-- the tail that the one before leaves. Assumes nothing.
 use borrow.Author.Needs.{needs}
 use native.Mathlib.Omega.{arith}
 use Rattle.lustre.specs.Form.{equationOf}
-use Rattle.lustre_write.proofs.Placing.{cut-least}
 use Rattle.lustre_write.proofs.Writing.{text-placed}
 use Rattle.lustre_write.proofs.write_text.Statement.{statement}
 use Rattle.lustre_write.proofs.write_text.Tie as tie
 
-sub-last : tie.Need-sub-last
-sub-last c =
-    let the-pre = c .before .before .pre in
-    omega (arith, the-pre .some)
+-- The places: the start; the first line; the tail that it leaves; the equations' lines; the tail that they leave; the last
+-- lines.
+abbrev start : tie.After-only → tie.Start
+start c = c .before .before .before .before
 
-sub-write-lines : tie.Need-sub-write-lines
-sub-write-lines c =
-    let the-least = c .least in
-    rw (the-least .ensures) (cut-least _ _)
+abbrev numbers : tie.After-write-form → tie.After-only
+numbers c = c .before .before
 
-part-write-lines-start : tie.Need-part-write-lines-start
-part-write-lines-start c =
-    let the-least = c .least in
-    rw (the-least .ensures) (cut-least _ _)
+abbrev first : tie.After-least → tie.After-write-form
+first c = c .before .before .before
+
+abbrev tail : tie.After-write-lines → tie.After-least
+tail c = c .before .before
+
+abbrev lines : tie.After-least2 → tie.After-write-lines
+lines c = c .before .before .before
+
+abbrev last-tail : tie.After-only2 → tie.After-least2
+last-tail c = c .before .before
+
+abbrev entry : tie.After-write-lines → tie.Start
+entry c = start (numbers (first (tail c)))
 
 add-s : tie.Need-add-s
 add-s c =
-    let the-write-form = c .before .before .before .before .before .before .before .write-form in
-    let the-write-lines = c .before .before .write-lines in
-    let the-pre =
-    c .before .before .before .before .before .before .before .before .before .before .before .before .before
-    .pre in
-    omega (arith, the-write-form .ensures .short, the-write-lines .ensures .short, the-pre .few)
+    let body = c .before .before in
+    omega (
+      arith,
+      first (tail body) .write-form .ensures .short,
+      body .write-lines .ensures .short,
+      entry body .pre .few,
+    )
 
 only-requires-2 : tie.Need-only-requires-2
 only-requires-2 c κs =
-    let the-pre =
-    c .before .before .before .before .before .before .before .before .before .before .before .before .before
-    .before .before .pre in
-    omega (arith, the-pre .some, the-pre .few)
-
-sub-write-form : tie.Need-sub-write-form
-sub-write-form c =
-    let the-least2 = c .before .before .least2 in
-    rw (the-least2 .ensures) (cut-least _ _)
-
-part-write-form-start : tie.Need-part-write-form-start
-part-write-form-start c =
-    let the-least2 = c .before .before .least2 in
-    rw (the-least2 .ensures) (cut-least _ _)
+    let plain = entry (lines (c .before)) .pre in
+    omega (arith, plain .some, plain .few)
 
 add-result : tie.Need-add-result
 add-result c =
-    let the-write-form =
-    c .before .before .before .before .before .before .before .before .before .before .before .before .before
-    .before .write-form in
-    let the-write-lines = c .before .before .before .before .before .before .before .before .before .write-lines in
-    let the-write-form2 = c .before .before .write-form2 in
-    let the-pre =
-    c .before .before .before .before .before .before .before .before .before .before .before .before .before
-    .before .before .before .before .before .before .before .pre in
+    let end = c .before .before in
+    let body = lines (last-tail (end .before .before)) in
     omega (
       arith,
-      the-write-form .ensures .short,
-      the-write-lines .ensures .short,
-      the-write-form2 .ensures .short,
-      the-pre .few,
+      first (tail body) .write-form .ensures .short,
+      body .write-lines .ensures .short,
+      end .write-form2 .ensures .short,
+      entry body .pre .few,
     )
 
 returns : tie.Need-returns
 returns c =
-    let the-only =
-    c .before .before .before .before .before .before .before .before .before .before .before .before .before
-    .before .before .before .only in
-    let the-only2 = c .before .before .before .before .only2 in
-    let the-write-form =
-    c .before .before .before .before .before .before .before .before .before .before .before .before .before
-    .before .write-form in
-    let the-least = c .before .before .before .before .before .before .before .before .before .before .before .least in
-    let the-write-lines = c .before .before .before .before .before .before .before .before .before .write-lines in
-    let the-least2 = c .before .before .before .before .before .before .least2 in
-    let the-write-form2 = c .before .before .write-form2 in
-    text-placed _ _ _ _ (equationOf (the-only .result)) (equationOf (the-only2 .result)) (the-write-form .ensures)
-    (the-least .ensures) (the-write-lines .ensures) (the-least2 .ensures) (the-only2 .ensures)
-    (the-write-form2 .ensures)
+    let end = c .before .before in
+    let last = end .before .before .only2 in
+    let rest = last-tail (end .before .before) in
+    let body = lines rest in
+    let head = first (tail body) in
+    text-placed _ _ _ _ (equationOf (numbers head .only .result)) (equationOf (last .result))
+    (head .write-form .ensures) (tail body .least .ensures) (body .write-lines .ensures) (rest .least2 .ensures)
+    (last .ensures) (end .write-form2 .ensures)
 
 pub write-text-spec : {M : Type 1} → statement M
 write-text-spec =
     tie.close
     (tie.spec
-    sub-last
+    (λ c. omega (arith, c .before .before .pre .some))
     (λ c. search needs)
     (λ c κs. search needs)
     (λ c κs. search needs)
     (λ c κs. search needs)
-    sub-write-lines
-    part-write-lines-start
+    (λ c. omega (arith, c .least .ensures))
+    (λ c. omega (arith, c .least .ensures))
     (λ c. search needs)
     (λ c κs. search needs)
     add-s
     (λ c κs. search needs)
     (λ c. search needs)
     only-requires-2
-    sub-write-form
-    part-write-form-start
+    (λ c. omega (arith, last-tail c .least2 .ensures))
+    (λ c. omega (arith, last-tail c .least2 .ensures))
     (λ c. search needs)
     (λ c κs. search needs)
     add-result
