@@ -48,15 +48,15 @@ module _ {s : List ℕ} {at max : ℕ} where
     numeral-none n e = record { means = rw (drop-cons s at 0 h, ne-eqb _ 48 n, e); within = omega arith }
 
 -- The loop of the reader: the digits from place i on, after those of v, read as the number at `at` does.
-pub record Reading (s : List ℕ) (at max v i : ℕ) : Type 0 where
+pub record DigitsRead (s : List ℕ) (at max v i : ℕ) : Type 0 where
   pub rest : digitsAfter max v (drop i s) ≡ numeral max (drop at s)
   pub within : i ≤ length s
   pub held : v ≤ max * 10 + 9
 
-pub reading-begun : {s : List ℕ} {at max v : ℕ} → at < length s → (getD s at 0 ≡ 48 → ⊥)
-    → isDigit (getD s at 0) ≡ true → v ≡ getD s at 0 - 48 → Reading s at max v (at + 1)
+pub digits-begun : {s : List ℕ} {at max v : ℕ} → at < length s → (getD s at 0 ≡ 48 → ⊥)
+    → isDigit (getD s at 0) ≡ true → v ≡ getD s at 0 - 48 → DigitsRead s at max v (at + 1)
 unfolding numeral
-reading-begun {s} {at} h n e f =
+digits-begun {s} {at} h n e f =
     record {
       rest = rw (f, drop-cons s at 0 h, ne-eqb _ 48 n, e, add-one);
       within = omega arith;
@@ -73,7 +73,7 @@ next-settled : (t : Bool) (v i : ℕ) → nextOf (cond t (Is v i) (Above i)) ≡
 next-settled true v i = refl
 next-settled false v i = refl
 
-module _ {s : List ℕ} {at max v i : ℕ} (h : Reading s at max v i) where
+module _ {s : List ℕ} {at max v i : ℕ} (h : DigitsRead s at max v i) where
   ended : digitsAfter max v (drop i s) ≡ settled max v (drop i s) → DecimalAt s at max (settledAt max v i)
   ended e =
       record {
@@ -81,26 +81,26 @@ module _ {s : List ℕ} {at max v i : ℕ} (h : Reading s at max v i) where
         within = omega (arith, next-settled (leb v max) v i, h .within);
       }
 
-  pub reading-past : length s ≤ i → DecimalAt s at max (settledAt max v i)
+  pub digits-past : length s ≤ i → DecimalAt s at max (settledAt max v i)
   unfolding digitsAfter
-  reading-past p = ended (rw (drop-of-length-le s p))
+  digits-past p = ended (rw (drop-of-length-le s p))
 
   module _ (p : i < length s) where
-    pub reading-stop : isDigit (getD s i 0) ≡ false → DecimalAt s at max (settledAt max v i)
+    pub digits-stop : isDigit (getD s i 0) ≡ false → DecimalAt s at max (settledAt max v i)
     unfolding digitsAfter
-    reading-stop e = ended (rw (drop-cons s i 0 p, e))
+    digits-stop e = ended (rw (drop-cons s i 0 p, e))
 
     module _ (e : isDigit (getD s i 0) ≡ true) where
       digit-read : digitsAfter max (v * 10 + (getD s i 0 - 48)) (drop (i + 1) s) ≡ numeral max (drop at s)
       unfolding digitsAfter
       digit-read = sym (rw (add-one i, drop-cons s i 0 p, e)) ∙ h .rest
 
-      pub reading-more : (w : ℕ) → v ≤ max → w ≡ v * 10 + (getD s i 0 - 48) → Reading s at max w (i + 1)
-      reading-more w q f =
+      pub digits-more : (w : ℕ) → v ≤ max → w ≡ v * 10 + (getD s i 0 - 48) → DigitsRead s at max w (i + 1)
+      digits-more w q f =
           record { rest = rw f digit-read; within = omega arith; held = omega (arith, digit-range _ e) }
 
-      pub reading-held : (w : ℕ) → max < v → w ≡ v → Reading s at max w (i + 1)
-      reading-held w q f =
+      pub digits-held : (w : ℕ) → max < v → w ≡ v → DigitsRead s at max w (i + 1)
+      digits-held w q f =
           record {
             rest = rw f (above-alike max v _ (drop (i + 1) s) q (omega arith) ∙ digit-read);
             within = omega arith;

@@ -41,7 +41,7 @@ line-fits s i h = omega (arith, line-short (drop i s), length-drop i s)
 -- The loop over a line: the line has the bytes passed since `at`, and the line from place i on.
 pub record Lining (s : List ℕ) (at i : ℕ) : Type 0 where
   pub passed : at + length (lineFrom s at) ≡ i + length (lineFrom s i)
-  pub after : at ≤ i
+  pub from : at ≤ i
 
 module _ {s : List ℕ} {at i : ℕ} (h : Lining s at i) where
   pub lining-stop : i < length s → getD s i 0 ≡ lineEnd → i ≡ at + length (lineFrom s at)
@@ -51,4 +51,4 @@ module _ {s : List ℕ} {at i : ℕ} (h : Lining s at i) where
   lining-past p = omega (arith, h .passed, ap length (line-past s i p))
 
   pub lining-more : i < length s → (getD s i 0 ≡ lineEnd → ⊥) → Lining s at (i + 1)
-  lining-more p n = record { passed = omega (arith, h .passed, ap length (line-more s i p n)); after = omega arith }
+  lining-more p n = record { passed = omega (arith, h .passed, ap length (line-more s i p n)); from = omega arith }

@@ -2,9 +2,9 @@
 use mathlib.Core.Bool.{Bool, true, false, _&&_, and-eq-true-iff}
 use mathlib.Core.List.{List, [], _∷_, map}
 use mathlib.Core.Path.{_≡_, refl, sym, ap, _∙_}
-use Prim.Native.Nat.{ℕ, suc, _+_, _<_}
+use Prim.Native.Nat.{ℕ, suc, _+_}
 use native.Mathlib.Omega.{arith}
-use lib.Dec.{eqb}
+use lib.Dec.{T, eqb, ltb, ltb→lt}
 use lib.ListN.{getD}
 use borrow.Author.Tests.{eqb-true, eqb-false}
 use Rattle.lists.specs.Same.{same}
@@ -18,9 +18,9 @@ abbrev pub spelledAs : ℕ → List ℕ → ℕ → ℕ
 spelledAs i r other = spelledOr r (getD keywords i []) (BEGIN + i) other
 
 -- What is right of every run that begins with the byte b, is right of a run whose first byte is b.
-pub by-first : (f : List ℕ → ℕ) (r : List ℕ) (b : ℕ) → getD r 0 0 ≡ b → 0 < b
+pub by-first : (f : List ℕ → ℕ) (r : List ℕ) (b : ℕ) → getD r 0 0 ≡ b → T (ltb 0 b)
     → ((l : List ℕ) → f (b ∷ l) ≡ keywordOf (b ∷ l)) → f r ≡ keywordOf r
-by-first f [] b e z h = absurd (omega arith)
+by-first f [] b e z h = absurd (omega (arith, ltb→lt 0 b z))
 by-first f (x ∷ l) b e z h = rw e (h l)
 
 -- The first bytes of the keywords, each once.

@@ -38,8 +38,8 @@ module _ (text : List ℕ) where
 refused-made : {A : Type 0} {n : ℕ} {ws : List ℕ} → refused n ≡ made ws → A
 refused-made {n = n} {ws} e = let z : _≡_ {A = ℕ} 0 1 = cc in absurd (omega arith)
 
-pub refuses : (text before after : List ℕ) (n : ℕ) → splitOf text ≡ refused n → Splits text before (Refused n) after
-refuses text before after n e =
+pub refuses : (text out₀ out : List ℕ) (n : ℕ) → splitOf text ≡ refused n → Splits text out₀ (Refused n) out
+refuses text out₀ out n e =
     record {
       result = ap answerOf (sym e);
       filled = λ ws m. refused-made (sym e ∙ m);
@@ -47,19 +47,19 @@ refuses text before after n e =
     }
 
 -- At byte i, where no word goes on: the first `count` words are stored, and what is left of the text gives the rest.
-pub record At (text before after : List ℕ) (count i : ℕ) : Type 0 where
+pub record Splitting (text out₀ out : List ℕ) (count i : ℕ) : Type 0 where
   pub ws : List ℕ
   pub rest : words text SPACE [] ≡ words (drop i text) SPACE ws
   pub counted : count ≡ length ws
   pub few : count ≤ wordLimit
-  pub stored : after ≡ sets before 0 ws
+  pub stored : out ≡ sets out₀ 0 ws
 
-pub at-start : (text before : List ℕ) → At text before before 0 0
-at-start text before = record { ws = []; rest = refl; counted = refl; few = omega arith; stored = refl }
+pub splitting-begun : (text out₀ : List ℕ) → Splitting text out₀ out₀ 0 0
+splitting-begun text out₀ = record { ws = []; rest = refl; counted = refl; few = omega arith; stored = refl }
 
-pub at-length : {text before after : List ℕ} {count i : ℕ} → At text before after count i
-    → length after ≡ length before
-at-length {before = before} h = ap length (h .stored) ∙ length-sets before 0 (h .ws)
+pub splitting-length : {text out₀ out : List ℕ} {count i : ℕ} → Splitting text out₀ out count i
+    → length out ≡ length out₀
+splitting-length {out₀ = out₀} h = ap length (h .stored) ∙ length-sets out₀ 0 (h .ws)
 
 -- The definition at byte i.
 words-at : (text : List ℕ) (i p : ℕ) (ws : List ℕ) → i < length text
@@ -71,14 +71,14 @@ unfolding words
 words-at text i p ws h = rw (add-one i, drop-cons text i 0 h)
 
 -- What the byte at i, of class c, does.
-module _ {text before after : List ℕ} {count i : ℕ} (h : At text before after count i) (l : i < length text) (c : ℕ)
+module _ {text out₀ out : List ℕ} {count i : ℕ} (h : Splitting text out₀ out count i) (l : i < length text) (c : ℕ)
     (e : c ≡ classOf (getD text i 0)) where
   turn : words text SPACE []
       ≡ let one = add (wordOf c (drop i text)) (h .ws) (λ more. words (drop (i + 1) text) c more) in
       cond (begins SPACE c) (cond (eqb count wordLimit) (refused 4) one) (words (drop (i + 1) text) c (h .ws))
   turn = h .rest ∙ words-at text i SPACE (h .ws) l ∙ rw (← e, ← (h .counted))
 
-  pub skips : c ≡ SPACE → At text before after count (i + 1)
+  pub skips : c ≡ SPACE → Splitting text out₀ out count (i + 1)
   skips b =
       record { ws = h .ws; rest = turn ∙ simp b; counted = h .counted; few = h .few; stored = h .stored }
 
@@ -90,7 +90,7 @@ module _ {text before after : List ℕ} {count i : ℕ} (h : At text before afte
   breaks n b f w = turn ∙ simp (ne-eqb c SPACE b, ne-eqb count wordLimit f, w)
 
   pub adds : (word end : ℕ) → (c ≡ SPACE → ⊥) → (count ≡ wordLimit → ⊥) → wordOf c (drop i text) ≡ Made word
-      → end ≡ i + widthOf c (drop i text) → At text before (set after count word) (count + 1) end
+      → end ≡ i + widthOf c (drop i text) → Splitting text out₀ (set out count word) (count + 1) end
   adds word end b f w g =
       record {
         ws = h .ws ++ word ∷ [];
@@ -99,12 +99,12 @@ module _ {text before after : List ℕ} {count i : ℕ} (h : At text before afte
         few = omega (arith, h .few);
         stored =
             ap (λ (o : List ℕ). set o count word) (h .stored)
-            ∙ ap (λ (n : ℕ). set (sets before 0 (h .ws)) n word) (h .counted ∙ sym (zero-add _))
-            ∙ sets-append before 0 (h .ws) (word ∷ []);
+            ∙ ap (λ (n : ℕ). set (sets out₀ 0 (h .ws)) n word) (h .counted ∙ sym (zero-add _))
+            ∙ sets-append out₀ 0 (h .ws) (word ∷ []);
       }
 
 -- At the end of the text.
-module _ {text before after : List ℕ} {count i : ℕ} (h : At text before after count i)
+module _ {text out₀ out : List ℕ} {count i : ℕ} (h : Splitting text out₀ out count i)
     (by-words : splitOf text ≡ words text SPACE []) (l : length text ≤ i) where
   all-words : splitOf text ≡ made (h .ws)
   unfolding words
@@ -113,10 +113,10 @@ module _ {text before after : List ℕ} {count i : ℕ} (h : At text before afte
   same-words : (ws : List ℕ) → splitOf text ≡ made ws → h .ws ≡ ws
   same-words ws m = let both : made (h .ws) ≡ made ws = sym all-words ∙ m in cc
 
-  pub at-end : Splits text before (Words count) after
-  at-end =
+  pub splitting-done : Splits text out₀ (Words count) out
+  splitting-done =
       record {
         result = ap Words (h .counted) ∙ ap answerOf (sym all-words);
-        filled = λ ws m. h .stored ∙ ap (λ (x : List ℕ). sets before 0 x) (same-words ws m);
+        filled = λ ws m. h .stored ∙ ap (λ (x : List ℕ). sets out₀ 0 x) (same-words ws m);
         few = λ ws m. omega (arith, ap length (same-words ws m), h .counted, h .few);
       }

@@ -15,8 +15,9 @@ abbrev pub answerOf : Out → Split
 answerOf (refused n) = Refused n
 answerOf (made ws) = Words (length ws)
 
--- The answer r for a text, and the buffer before and after: at its front stand the words, all else is kept.
-pub record Splits (text before : List ℕ) (r : Split) (after : List ℕ) : Type 0 where
+-- The answer r for a text, and the buffer as it was lent, out₀, and as it is left, out: at its front stand the words,
+-- all else is kept.
+pub record Splits (text out₀ : List ℕ) (r : Split) (out : List ℕ) : Type 0 where
   pub result : r ≡ answerOf (splitOf text)
-  pub filled : (ws : List ℕ) → splitOf text ≡ made ws → after ≡ sets before 0 ws
+  pub filled : (ws : List ℕ) → splitOf text ≡ made ws → out ≡ sets out₀ 0 ws
   pub few : (ws : List ℕ) → splitOf text ≡ made ws → length ws ≤ wordLimit

@@ -71,8 +71,8 @@ EXISTS = 23
 
 abbrev pub keywords : List (List ℕ)
 keywords =
-    bytes "begin" ∷ bytes "end" ∷ bytes "point" ∷ bytes "held" ∷ bytes "kept" ∷ bytes "len" ∷ bytes "sum" ∷ bytes "age" ∷
-    bytes "then" ∷ bytes "chop" ∷ bytes "exists" ∷ []
+    bytes "begin" ∷ bytes "end" ∷ bytes "point" ∷ bytes "held" ∷ bytes "kept" ∷ bytes "len" ∷ bytes "sum" ∷
+    bytes "age" ∷ bytes "then" ∷ bytes "chop" ∷ bytes "exists" ∷ []
 
 -- "a literal, `s` with a number (signal 0 to 63) or `k` with a number (parameter 0 to 7). A literal is 0 to 999,999."
 -- Parameter n is the word PARAMETER + n, signal n the word SIGNAL + n, and literal n the word LITERAL + n.

@@ -1,8 +1,9 @@
 // The words of a rule text, as numbers (document 01, "Rule text"). specs/Word.antt says which number is which word,
 // specs/Split.antt how a text is split.
 ghost use mathlib.Core.Path.{_≡_};
+ghost use mathlib.Core.Bool.{cond};
 ghost use Prim.Native.Nat.{_+_, _≤_, _<_, _^_};
-ghost use lib.Dec.{eqb};
+ghost use lib.Dec.{eqb, ltb};
 ghost use lib.ListN.{length, getD, drop};
 ghost use Rattle.limits.specs.Limits.{wordLimit, literalCount};
 ghost use Rattle.words.specs.Word.{LITERAL, within, isOp, isSignal, isNum, isBit, isTest, isCount};
@@ -174,26 +175,25 @@ fn keyword(run: &[u8]) -> u32
     }
 }
 
+// The word, if the digits end at that place; else bytes are left that belong to no number.
+fn if_ended(digits: &[u8], end: usize, word: Word) -> Word
+    ensures { λ r. ⌜ r ≡ cond (ltb end (length (now (digits .entry)))) (Word.Bad 2) word ⌝ }
+{
+    if end < digits.len() {
+        Word::Bad(2)
+    } else {
+        word
+    }
+}
+
 // A number up to max, as the word base + n. It has to be all of the digits.
 fn number(digits: &[u8], base: u32, max: u32) -> Word
     requires { ⌜ (base ≤ LITERAL) × (max < literalCount) ⌝ }
     ensures { λ r. ⌜ r ≡ numberOf base max (now (digits .entry)) ⌝ }
 {
     match lists::read_decimal(digits, 0, max) {
-        Decimal::Is { value, next } => {
-            if next < digits.len() {
-                Word::Bad(2)
-            } else {
-                Word::Made(base + value)
-            }
-        }
-        Decimal::Above { next } => {
-            if next < digits.len() {
-                Word::Bad(2)
-            } else {
-                Word::Bad(3)
-            }
-        }
+        Decimal::Is { value, next } => if_ended(digits, next, Word::Made(base + value)),
+        Decimal::Above { next } => if_ended(digits, next, Word::Bad(3)),
         Decimal::Missing => Word::Bad(2),
     }
 }

@@ -30,7 +30,7 @@ line-length-spec =
     (tie.spec
     Inv-loop
     μ-loop
-    (λ c. record { passed = refl; after = omega arith })
+    (λ c. record { passed = refl; from = omega arith })
     (λ c. search needs)
     (λ c. search needs)
     returns

@@ -1,4 +1,4 @@
--- `lists::read_decimal` meets its contract: what is left of the digits reads as the number does (`Reading`). Assumes
+-- `lists::read_decimal` meets its contract: what is left of the digits reads as the number does (`DigitsRead`). Assumes
 -- nothing.
 use mathlib.Core.Bool.{true}
 use mathlib.Core.Logic.{⊎-elim}
@@ -9,13 +9,13 @@ use borrow.Author.Needs.{needs}
 use borrow.Author.Tests.{not-true, not-false}
 use lib.ListN.{length, getD}
 use Rattle.lists.specs.Decimal.{isDigit}
-use Rattle.lists.proofs.Decimals.{digit-range, numeral-past, numeral-zero, numeral-none, Reading}
-use Rattle.lists.proofs.Decimals.{reading-begun, reading-past, reading-stop, reading-more, reading-held}
+use Rattle.lists.proofs.Decimals.{digit-range, numeral-past, numeral-zero, numeral-none, DigitsRead}
+use Rattle.lists.proofs.Decimals.{digits-begun, digits-past, digits-stop, digits-more, digits-held}
 use Rattle.lists.proofs.read_decimal.Statement.{statement}
 use Rattle.lists.proofs.read_decimal.Tie as tie
 
 abbrev Inv-loop : tie.InvT-loop
-Inv-loop s at max first value₀ next₀ value next = Reading s at max value next
+Inv-loop s at max first value₀ next₀ value next = DigitsRead s at max value next
 
 abbrev μ-loop : tie.MeasureT-loop
 μ-loop s at max first value₀ next₀ value next = length s - next
@@ -46,28 +46,28 @@ returns-3 c =
 
 loop-holds : tie.Need-loop-holds Inv-loop μ-loop
 loop-holds c =
-    reading-begun (omega arith) (c .before .before .before .if2 .left) (first (c .before)) (c .wide .ensures)
+    digits-begun (omega arith) (c .before .before .before .if2 .left) (first (c .before)) (c .wide .ensures)
 
 returns-4 : tie.Need-returns-4 Inv-loop μ-loop
 returns-4 c =
     let stop = c .before in
     let loop = stop .before .before .before .before in
     let other = sym (stop .before .is-digit2 .ensures) ∙ not-true _ (stop .if4 .taken) in
-    rw (c .settled .ensures) (reading-stop (loop .loop .inv) (omega arith) other)
+    rw (c .settled .ensures) (digits-stop (loop .loop .inv) (omega arith) other)
 
 loop-again : tie.Need-loop-again Inv-loop μ-loop
 loop-again c =
     let digit = c .before in
     let known = turn digit .loop .inv in
     ⊎-elim
-    (λ w. reading-more known (omega arith) (later digit) _ (w .0 .taken) (omega (arith, w .1 .ensures, w .2)))
-    (λ w. reading-held known (omega arith) (later digit) _ (w .0 .left) (w .1))
+    (λ w. digits-more known (omega arith) (later digit) _ (w .0 .taken) (omega (arith, w .1 .ensures, w .2)))
+    (λ w. digits-held known (omega arith) (later digit) _ (w .0 .left) (w .1))
     (c .if5 .came)
 
 returns-5 : tie.Need-returns-5 Inv-loop μ-loop
 returns-5 c =
     let loop = c .before .before in
-    rw (c .settled2 .ensures) (reading-past (loop .loop .inv) (omega arith))
+    rw (c .settled2 .ensures) (digits-past (loop .loop .inv) (omega arith))
 
 pub read-decimal-spec : {M : Type 1} → statement M
 read-decimal-spec =

@@ -4,12 +4,6 @@ use Rattle.words.specs.Word.{isCount}
 use Rattle.words.proofs.is_count.Statement.{statement}
 use Rattle.words.proofs.is_count.Tie as tie
 
-is-within-requires : tie.Need-is-within-requires
-is-within-requires c κs = search needs
-
-returns : tie.Need-returns
-unfolding isCount
-returns c = c .is-within .ensures
-
 pub is-count-spec : {M : Type 1} → statement M
-is-count-spec = tie.close (tie.spec is-within-requires returns)
+unfolding isCount
+is-count-spec = tie.close (tie.spec (λ c κs. search needs) (λ c. c .is-within .ensures))

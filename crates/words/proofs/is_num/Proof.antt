@@ -5,12 +5,6 @@ use Rattle.words.specs.Word.{isNum}
 use Rattle.words.proofs.is_num.Statement.{statement}
 use Rattle.words.proofs.is_num.Tie as tie
 
-add-is-within : tie.Need-add-is-within
-add-is-within c = search needs
-
-is-within-requires : tie.Need-is-within-requires
-is-within-requires c κs = search needs
-
 returns : tie.Need-returns
 unfolding isNum
 returns c = simp (sym (c .before .is-within .ensures) ∙ c .if1 .taken)
@@ -20,4 +14,4 @@ unfolding isNum
 returns-2 c = simp (sym (c .before .is-within .ensures) ∙ c .if1 .left)
 
 pub is-num-spec : {M : Type 1} → statement M
-is-num-spec = tie.close (tie.spec add-is-within is-within-requires returns returns-2)
+is-num-spec = tie.close (tie.spec (λ c. search needs) (λ c κs. search needs) returns returns-2)

@@ -1,7 +1,8 @@
 -- `words::run_end` meets its contract. The loop's invariant: the run at i and what is left of it at end have one end.
 -- Assumes nothing.
+use mathlib.Core.List.{List}
 use mathlib.Core.Path.{_≡_, sym, ap, _∙_}
-use Prim.Native.Nat.{_+_, _-_, _≤_}
+use Prim.Native.Nat.{ℕ, _+_, _-_, _≤_}
 use native.Mathlib.Omega.{arith}
 use borrow.Author.Needs.{needs}
 use borrow.Author.Tests.{eqb-true, eqb-false, not-true, not-false}
@@ -18,43 +19,33 @@ Inv-loop text i end₀ end =
 abbrev μ-loop : tie.MeasureT-loop
 μ-loop text i end₀ end = length text - end
 
-loop-holds : tie.Need-loop-holds Inv-loop μ-loop
-loop-holds c = omega arith
+-- The loop's head, once a byte was looked at, and the text.
+abbrev head : tie.After-in-run Inv-loop μ-loop → tie.At-loop Inv-loop μ-loop
+head c = c .before .before .before
 
-shared-slice-read-in-run : tie.Need-shared-slice-read-in-run Inv-loop μ-loop
-shared-slice-read-in-run c = omega arith
-
-in-run-requires : tie.Need-in-run-requires Inv-loop μ-loop
-in-run-requires c κs = search needs
+abbrev text : tie.At-loop Inv-loop μ-loop → List ℕ
+text c = c .before .before .args .text .now
 
 returns : tie.Need-returns Inv-loop μ-loop
 returns c =
-    let at = c .before .before .before .before in
-    let text = at .before .before .args .text .now in
-    let in-text = c .before .before .before .loop-test .taken in
-    let in-run = sym (c .before .in-run .ensures) ∙ not-true _ (c .if1 .taken) in
-    let stops = run-stops text (at .loop .end) in-text (eqb-false _ RUN in-run) in
-    omega (arith, at .loop .inv .1, ap length stops)
-
-add-end : tie.Need-add-end Inv-loop μ-loop
-add-end c = omega arith
-
-loop-less : tie.Need-loop-less Inv-loop μ-loop
-loop-less c = omega arith
+    let at = c .before in
+    let other = sym (at .in-run .ensures) ∙ not-true _ (c .if1 .taken) in
+    let inside = at .before .before .loop-test .taken in
+    let stops = run-stops (text (head at)) (head at .loop .end) inside (eqb-false _ RUN other) in
+    omega (arith, head at .loop .inv .1, ap length stops)
 
 loop-again : tie.Need-loop-again Inv-loop μ-loop
 loop-again c =
-    let at = c .before .before .before .before in
-    let text = at .before .before .args .text .now in
-    let in-text = c .before .before .before .loop-test .taken in
-    let in-run = sym (c .before .in-run .ensures) ∙ not-false _ (c .if1 .left) in
-    let goes = run-goes text (at .loop .end) in-text (eqb-true _ RUN in-run) in
-    (omega arith, omega (arith, at .loop .inv .1, ap length goes))
+    let at = c .before in
+    let in-run = sym (at .in-run .ensures) ∙ not-false _ (c .if1 .left) in
+    let inside = at .before .before .loop-test .taken in
+    let goes = run-goes (text (head at)) (head at .loop .end) inside (eqb-true _ RUN in-run) in
+    (omega arith, omega (arith, head at .loop .inv .1, ap length goes))
 
 returns-2 : tie.Need-returns-2 Inv-loop μ-loop
 returns-2 c =
     let at = c .before in
-    omega (arith, at .loop .inv .1, ap length (run-past (at .before .before .args .text .now) _ (c .loop-test .left)))
+    omega (arith, at .loop .inv .1, ap length (run-past (text at) _ (c .loop-test .left)))
 
 pub run-end-spec : {M : Type 1} → statement M
 run-end-spec =
@@ -62,11 +53,11 @@ run-end-spec =
     (tie.spec
     Inv-loop
     μ-loop
-    loop-holds
-    shared-slice-read-in-run
-    in-run-requires
+    (λ c. omega arith)
+    (λ c. omega arith)
+    (λ c. search needs)
     returns
-    add-end
-    loop-less
+    (λ c. omega arith)
+    (λ c. omega arith)
     loop-again
     returns-2)
