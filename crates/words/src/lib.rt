@@ -31,11 +31,11 @@ pub const LE: u32 = 8;
 
 pub const LT: u32 = 9;
 
-pub const EQ: u32 = 10;
+const EQ: u32 = 10;
 
-pub const GT: u32 = 11;
+const GT: u32 = 11;
 
-pub const GE: u32 = 12;
+const GE: u32 = 12;
 
 pub const BEGIN: u32 = 13;
 
@@ -51,7 +51,7 @@ pub const LEN: u32 = 18;
 
 pub const SUM: u32 = 19;
 
-pub const AGE: u32 = 20;
+const AGE: u32 = 20;
 
 pub const THEN: u32 = 21;
 
@@ -80,7 +80,7 @@ const RUN: u32 = 40;
 const OTHER: u32 = 50;
 
 // One word: its number, or refusal 2 or 3.
-pub enum Word {
+enum Word {
     Made(u32),
     Bad(u32),
 }
