@@ -2,3 +2,4 @@
 pub mod Arena
 pub mod Formulas
 pub mod Meaning
+pub mod Trials

@@ -5,3 +5,4 @@ pub mod Tree
 pub mod Bounds
 pub mod Arena
 pub mod Raw
+pub mod Trials

@@ -84,7 +84,7 @@ count-atom w h =
 -- A bit is no signal.
 pub bit-signal : (w : ℕ) → isBit w ≡ true → isSignal w ≡ false
 unfolding isSignal
-bit-signal w h = not-within SIGNAL (SIGNAL + 63) w (omega (arith, bit-pos w h))
+bit-signal w h = not-within SIGNAL _ w (omega (arith, bit-pos w h))
 
 -- A word that joins no further F to a D.
 pub stop-join : (l : Bool) (w : ℕ) → (w ≡ THEN → ⊥) → (w ≡ CHOP → ⊥) → joinOf l w ≡ join-none

@@ -10,32 +10,28 @@ use Rattle.limits.specs.Limits.{signalCount, literalCount, parameterCount}
 use Rattle.formulas.specs.Formula.Num.{literal, parameter}
 use Rattle.formulas.specs.Tree.{Tree}
 use Rattle.formulas.specs.Bounds.{signalBound, numBound, bounded}
-use Rattle.words.specs.Word.{PARAMETER, SIGNAL, LITERAL, within, isSignal, isNum}
+use Rattle.words.specs.Word.{PARAMETER, SIGNAL, LITERAL, lastWord, isSignal, isNum}
 use Rattle.grammar.specs.Grammar.{Symbol, signalWord, numWord}
 use Rattle.grammar.specs.Parse.{word}
-use Rattle.grammar.proofs.Position.{DerivesAt, within-high}
+use Rattle.grammar.proofs.Position.{DerivesAt, within-high, isParameter}
 use Rattle.grammar.proofs.Position.DerivesAt.{f-one, f-then, f-chop, d-one, d-or, c-one, c-and}
 use Rattle.grammar.proofs.Position.DerivesAt.{u-not, u-exists, u-round, u-constant, u-signal}
 use Rattle.grammar.proofs.Position.DerivesAt.{u-test, u-len, u-count, b-square}
 
--- The word of the greatest literal: no word is above it.
-abbrev pub lastWord : ℕ
-lastWord = LITERAL + (literalCount - 1)
-
 -- A signal's word,
 signal-bound : (w : ℕ) → isSignal w ≡ true → signalBound (signalWord w) ≡ true
 unfolding isSignal
-signal-bound w h = lt-ltb (w - SIGNAL) signalCount (omega (arith, within-high SIGNAL (SIGNAL + 63) w h))
+signal-bound w h = lt-ltb (w - SIGNAL) signalCount (omega (arith, within-high SIGNAL _ w h))
 
 -- and the word of a literal or a parameter.
 num-bound : (w : ℕ) → isNum w ≡ true → w ≤ lastWord → numBound literalCount (numWord w) ≡ true
 unfolding isNum
-num-bound w h k = go (leb LITERAL w) (within PARAMETER (PARAMETER + 7) w) refl refl h
+num-bound w h k = go (leb LITERAL w) (isParameter w) refl refl h
   where
-    go : (x y : Bool) → leb LITERAL w ≡ x → within PARAMETER (PARAMETER + 7) w ≡ y → y || x ≡ true →
+    go : (x y : Bool) → leb LITERAL w ≡ x → isParameter w ≡ y → y || x ≡ true →
         numBound literalCount (cond x (literal (w - LITERAL)) (parameter (w - PARAMETER))) ≡ true
     go true y p q e = lt-ltb (w - LITERAL) literalCount (omega (arith, leb-true LITERAL w p))
-    go false true p q e = lt-ltb (w - PARAMETER) parameterCount (omega (arith, within-high PARAMETER (PARAMETER + 7) w q))
+    go false true p q e = lt-ltb (w - PARAMETER) parameterCount (omega (arith, within-high PARAMETER _ w q))
     go false false p q e = absurd (false≢true e)
 
 -- So every tree that words have, where no word is above the last.

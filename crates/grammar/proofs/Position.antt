@@ -4,12 +4,13 @@
 use mathlib.Core.Path.{_≡_, refl}
 use mathlib.Core.Bool.{Bool, true, false, _||_, and-eq-true-iff}
 use mathlib.Core.List.{List}
-use Prim.Native.Nat.{ℕ, _+_, _*_, _≤_, _<_}
+use Prim.Native.Nat.{ℕ, _+_, _-_, _*_, _≤_, _<_}
 use native.Mathlib.Omega.{arith}
 use native.Mathlib.Decide.{decLt}
 use lib.Dec.{leb}
 use lib.ListN.{length, length-append, List·getD-eq-default}
 use borrow.Author.Tests.{leb-true}
+use Rattle.limits.specs.Limits.{parameterCount}
 use Rattle.formulas.specs.Tree.{Tree, nodes}
 use Rattle.formulas.specs.Tree.Tree.{constant, signal, neg, and, or, then, chop, exists, test, len, count}
 use Rattle.formulas.specs.Arena.{flat}
@@ -74,14 +75,18 @@ op-pos w e = within-low LE GE w e
 
 pub signal-pos : (w : ℕ) → isSignal w ≡ true → SIGNAL ≤ w
 unfolding isSignal
-signal-pos w e = within-low SIGNAL (SIGNAL + 63) w e
+signal-pos w e = within-low SIGNAL _ w e
+
+-- A number n is this or a literal.
+abbrev pub isParameter : ℕ → Bool
+isParameter w = within PARAMETER (PARAMETER + (parameterCount - 1)) w
 
 pub num-pos : (w : ℕ) → isNum w ≡ true → PARAMETER ≤ w
 unfolding isNum
-num-pos w e = go (within PARAMETER (PARAMETER + 7) w) refl e
+num-pos w e = go (isParameter w) refl e
   where
-    go : (x : Bool) → within PARAMETER (PARAMETER + 7) w ≡ x → x || leb LITERAL w ≡ true → PARAMETER ≤ w
-    go true p q = within-low PARAMETER (PARAMETER + 7) w p
+    go : (x : Bool) → isParameter w ≡ x → x || leb LITERAL w ≡ true → PARAMETER ≤ w
+    go true p q = within-low PARAMETER _ w p
     go false p q = let h = leb-true LITERAL w q in omega arith
 
 pub bit-pos : (w : ℕ) → isBit w ≡ true → LITERAL ≤ w

@@ -15,6 +15,7 @@ use Rattle.formulas.specs.Formula.{Formula}
 use Rattle.formulas.specs.Tree.{Tree, nodes, formulaOf}
 use Rattle.formulas.specs.Arena.{flat}
 use Rattle.formulas.specs.Bounds.{bounded}
+use Rattle.words.specs.Word.{lastWord}
 use Rattle.grammar.specs.Grammar.{Rule}
 use Rattle.grammar.specs.Fragment.{beyond}
 use Rattle.grammar.specs.Parse.{Result, word, ended, read, treeOf}
@@ -24,7 +25,7 @@ use Rattle.grammar.proofs.Position.{span}
 use Rattle.grammar.proofs.Complete.{finds, found, one-tree}
 use Rattle.grammar.proofs.Lists.{derived, placed}
 use Rattle.grammar.proofs.Fragment
-use Rattle.grammar.proofs.Numbers.{lastWord, numbers}
+use Rattle.grammar.proofs.Numbers.{numbers}
 
 module _ (ws : List ℕ) (t : Tree) where
   -- The tree that the parser gives is one that the grammar has,

@@ -1,0 +1,23 @@
+-- P1 to P13, by computation: of every row the formula has as many nodes as said, and the interval meaning gives the
+-- verdicts. `row` takes what is computed of all rows to one of them. Assumes nothing.
+use mathlib.Core.Path.{_≡_, refl}
+use mathlib.Core.List.{List, [], _∷_, map}
+use Prim.Native.Nat.{ℕ, zero, suc, _<_}
+use native.Mathlib.Omega.{arith}
+use lib.ListN.{length, getD}
+use Rattle.formulas.specs.Tree.{nodes}
+use Rattle.formulas.specs.Raw.{raw}
+use Rattle.formulas.specs.Trials.{Trial, trials, meant}
+
+pub trials-counted : map (λ (r : Trial). nodes (raw (r .formula))) trials ≡ map (λ (r : Trial). r .nodeCount) trials
+trials-counted = refl
+
+pub trials-meant : map meant trials ≡ map (λ (r : Trial). r .verdicts) trials
+trials-meant = refl
+
+-- What is equal of all rows is equal of each.
+pub row : {B : Type 0} (f g : Trial → B) (rs : List Trial) (d : Trial) → map f rs ≡ map g rs → (i : ℕ) → i < length rs →
+    f (getD rs i d) ≡ g (getD rs i d)
+row f g [] d e i l = absurd (omega arith)
+row f g (r ∷ rs) d e zero l = cc
+row f g (r ∷ rs) d e (suc i) l = row f g rs d (cc) i (omega arith)

@@ -1,0 +1,100 @@
+-- The trial runs P1 to P13 (document 01, "Trial runs") as rows of one table, and the verdicts that the meaning gives for
+-- a row. Every crate that shows something of the trial runs cites these rows. Definitions only.
+use mathlib.Core.Bool.{true}
+use mathlib.Core.List.{List, [], _∷_}
+use Prim.Native.Nat.{ℕ, zero, suc}
+use Prim.Native.String.{String}
+use lib.ListN.{replicate}
+use Rattle.limits.specs.Limits.{parameterCount}
+use Rattle.traces.specs.declared.Tick.{Tick}
+use Rattle.traces.specs.Trace.{Trace, traceOf}
+use Rattle.traces.specs.Compare.Op.{le, lt, eq, gt, ge}
+use Rattle.formulas.specs.Formula.{Prop, Formula}
+use Rattle.formulas.specs.Formula.Num.{literal, parameter}
+use Rattle.formulas.specs.Formula.Prop.{constant, signal}
+use Rattle.formulas.specs.Formula.Test.{begin, end, point, held, kept}
+use Rattle.formulas.specs.Formula.Count.{sum, age}
+use Rattle.formulas.specs.Formula.Formula.{test, len, count, neg, then}
+use Rattle.formulas.specs.Meaning.{verdict}
+
+-- A rule's text, its formula and its node count, and the start and the verdict at each of the five ticks.
+pub record Trial : Type 0 where
+  pub text : String
+  pub formula : Formula
+  pub nodeCount : ℕ
+  pub starts : List ℕ
+  pub verdicts : List ℕ
+
+abbrev pub trial : String → Formula → ℕ → List ℕ → List ℕ → Trial
+trial t f n ss vs = record { text = t; formula = f; nodeCount = n; starts = ss; verdicts = vs }
+
+-- Five numbers, one for each tick.
+abbrev pub five : ℕ → ℕ → ℕ → ℕ → ℕ → List ℕ
+five a b c d e = a ∷ b ∷ c ∷ d ∷ e ∷ []
+
+-- "start at tick 0 only unless said"
+abbrev pub first : List ℕ
+first = five 1 0 0 0 0
+
+abbrev pub s0 : Prop
+s0 = signal 0
+
+abbrev pub s1 : Prop
+s1 = signal 1
+
+-- P1 to P13. 11 starts at 1 and 3, 13 at 0 and 3.
+abbrev pub trials : List Trial
+trials =
+    trial "kept[s0]" (test kept s0) 1 first (five 1 1 1 0 0)
+    ∷ trial "held[s0]" (test held s0) 1 first (five 0 1 1 0 0)
+    ∷ trial "point[s0]" (test point s0) 1 first (five 1 0 0 0 0)
+    ∷ trial "len <= 2" (len le (literal 2)) 1 first (five 1 1 1 0 0)
+    ∷ trial "sum[s0] <= 1" (count sum s0 le (literal 1)) 1 first (five 1 1 0 0 0)
+    ∷ trial "age[s0] >= 2" (count age s0 ge (literal 2)) 1 first (five 0 1 0 0 1)
+    ∷ trial "kept[s0] then end[s1]" (then (test kept s0) (test end s1)) 3 first (five 0 0 0 0 1)
+    ∷ trial "begin[s1] then end[1]" (then (test begin s1) (test end (constant true))) 3 first (five 0 0 0 0 0)
+    ∷ trial "len < 0 then len = 0" (then (len lt (literal 0)) (len eq (literal 0))) 3 first (five 0 0 0 0 0)
+    ∷ trial "!(len <= 1 then len <= 1)" (neg (then (len le (literal 1)) (len le (literal 1)))) 4 first
+    (five 1 1 0 0 1)
+    ∷ trial "len >= 1" (len ge (literal 1)) 1 (five 0 1 0 1 0) (five 1 0 1 0 1)
+    ∷ trial "sum[s0] > k0" (count sum s0 gt (parameter 0)) 1 first (five 0 1 1 1 1)
+    ∷ trial "len <= 0 then end[1]" (then (len le (literal 0)) (test end (constant true))) 3 (five 1 0 0 1 0)
+    (five 0 1 1 0 1)
+    ∷ []
+
+-- No row: what stands past the last one.
+abbrev pub blank : Trial
+blank = trial "" (len le (literal 0)) 0 [] []
+
+-- "s0 = 1,1,0,1,1 and s1 = 0,0,1,0,1"
+abbrev pub signals : List ℕ
+signals = five 1 1 2 1 3
+
+-- "k0 = 0", and the other parameters too.
+abbrev pub noughts : List ℕ
+noughts = replicate parameterCount 0
+
+abbrev pub tick : ℕ → ℕ → Tick
+tick s g = record { start = s; signals = g; parameters = noughts }
+
+-- The ticks with these starts and these signals, in order.
+abbrev pub ticksOf : List ℕ → List ℕ → List Tick
+ticksOf [] gs = []
+ticksOf (s ∷ ss) [] = []
+ticksOf (s ∷ ss) (g ∷ gs) = tick s g ∷ ticksOf ss gs
+
+-- A row's ticks, and its trace.
+abbrev pub ticksIn : Trial → List Tick
+ticksIn r = ticksOf (r .starts) signals
+
+abbrev pub traceIn : Trial → Trace
+traceIn r = traceOf (tick 0 0) (ticksIn r)
+
+-- The verdicts of a formula at the n ticks from i on.
+abbrev pub verdictsFrom : Trace → Formula → ℕ → ℕ → List ℕ
+verdictsFrom tr f i zero = []
+verdictsFrom tr f i (suc n) = verdict tr f i ∷ verdictsFrom tr f (suc i) n
+
+-- The verdicts that the meaning gives for a row.
+abbrev pub meant : Trial → List ℕ
+meant r = verdictsFrom (traceIn r) (r .formula) 0 5
