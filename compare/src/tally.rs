@@ -32,6 +32,9 @@ pub enum Outcome {
     TableVerdict(u32),
     /// The value of an equation of this kind in a step: 0, 1, or 2 for any count above 1.
     Flow(u32, u32),
+    /// A fresh state of 4,096 equations, and a Lustre text of 4,096 that is read.
+    LargestTable,
+    LargestText,
     /// A count of kind 8 that stays at a million.
     AtCap,
     /// Why a table is refused by 10 or 11.
@@ -153,6 +156,7 @@ fn wanted() -> Vec<(Outcome, u64)> {
     want(50_000, &mut [0, 1].into_iter().map(Outcome::TableVerdict));
     want(2000, &mut flows());
     want(500, &mut std::iter::once(Outcome::AtCap));
+    want(5, &mut [Outcome::LargestTable, Outcome::LargestText].into_iter());
     want(500, &mut (0..=12).map(|k| Outcome::Flawed(Flaw::Equation(k))));
     want(500, &mut [Flaw::Size, Flaw::LastIsCount].into_iter().map(Outcome::Flawed));
     want(500, &mut [0, 10, 11, 15].into_iter().map(Outcome::WriteLustre));

@@ -8,8 +8,7 @@ use crate::table::{flaw, make};
 use crate::tally::{Operation, Outcome, Tally};
 
 pub fn lustre_case(run: &mut Run, number: u64) {
-    let most = if run.random.once_in(100) { 1500 } else { 16 };
-    let n = 1 + run.random.below(most);
+    let n = make::random_size(&mut run.random, 16, 500);
     let mut table = make::random_table(&mut run.random, n);
     read_case(run, lustre(&table, n), number);
     let more = run.random.below(4);
@@ -74,6 +73,9 @@ fn read_case(run: &mut Run, mut text: Vec<u8>, number: u64) {
         Some(read) => {
             wanted[..read.len()].copy_from_slice(&read);
             count_lines(&mut run.tally, &read);
+            if read.len() == 16384 {
+                run.tally.add(Outcome::LargestText);
+            }
             Answer::given(read.len() as u32 / 4)
         }
     };

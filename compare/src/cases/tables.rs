@@ -16,8 +16,7 @@ struct Case {
 
 impl Case {
     fn random(random: &mut Random) -> Case {
-        let most = if random.once_in(50) { 300 } else { 24 };
-        let n = 1 + random.below(most);
+        let n = table::make::random_size(random, 24, 2000);
         let mut table = table::make::random_table(random, n);
         let more = random.below(6);
         table.extend(random.numbers(more));
@@ -79,6 +78,9 @@ pub fn table_case(run: &mut Run, number: u64) {
     run.tally.add(Outcome::FreshState(answer.refusal));
     if let Some(flaw) = table::flaw(&case.table, case.said) {
         run.tally.add(Outcome::Flawed(flaw));
+    }
+    if answer.refusal == 0 && case.said == 4096 {
+        run.tally.add(Outcome::LargestTable);
     }
     let parameters = random_parameters(&mut run.random);
     for _ in 0..4 {

@@ -52,7 +52,16 @@ impl Flows {
     }
 }
 
-/// A random well-formed table.
+/// A number of equations: mostly small, once in `rare` times next to the most, 4,096.
+pub fn random_size(random: &mut Random, small: usize, rare: usize) -> usize {
+    if random.once_in(rare) {
+        return 4095 + random.below(3);
+    }
+    let most = if random.once_in(50) { 300 } else { small };
+    1 + random.below(most)
+}
+
+/// A random table of n equations, well formed if n is at most 4,096.
 pub fn random_table(random: &mut Random, n: usize) -> Vec<u32> {
     let mut table = vec![0u32; 4 * n];
     let mut flows = Flows::default();
