@@ -1,6 +1,7 @@
 -- P1 to P13, by computation: of every row the formula has as many nodes as said, and the interval meaning gives the
--- verdicts. `row` takes what is computed of all rows to one of them. Assumes nothing.
-use mathlib.Core.Path.{_≡_, refl}
+-- verdicts. `row` and `through` take what is computed of all rows to one of them, and to what is made of it.
+-- Assumes nothing.
+use mathlib.Core.Path.{_≡_, refl, ap₂}
 use mathlib.Core.List.{List, [], _∷_, map}
 use Prim.Native.Nat.{ℕ, zero, suc, _<_}
 use native.Mathlib.Omega.{arith}
@@ -21,3 +22,12 @@ pub row : {B : Type 0} (f g : Trial → B) (rs : List Trial) (d : Trial) → map
 row f g [] d e i l = absurd (omega arith)
 row f g (r ∷ rs) d e zero l = cc
 row f g (r ∷ rs) d e (suc i) l = row f g rs d (cc) i (omega arith)
+
+-- Whatever is made of equal things and a row is equal.
+pub through : {A B : Type 0} (f g : Trial → A) (h : A → Trial → B) (rs : List Trial) → map f rs ≡ map g rs →
+    map (λ r. h (f r) r) rs ≡ map (λ r. h (g r) r) rs
+through f g h [] e = refl
+through f g h (r ∷ rs) e =
+    let same : f r ≡ g r = cc in
+    let others : map f rs ≡ map g rs = cc in
+    ap₂ (λ x l. h x r ∷ l) same (through f g h rs others)
