@@ -1,5 +1,5 @@
--- Compiled and loaded tables have at most 4,096 equations, and a table's text is short: C's answer has room for each number.
--- Assumes nothing.
+-- Compiled and loaded tables have at most 4,096 equations, and a table's text is short: C's answer has room for each
+-- number. Assumes nothing.
 use mathlib.Core.List.{List}
 use mathlib.Core.Path.{_≡_, sym, ap}
 use Prim.Native.Nat.{ℕ, _≤_, _<_}
@@ -27,7 +27,8 @@ few-loaded (unread h) = tt
 few-loaded (no-table w h) = tt
 few-loaded (read {t} {n} w h) = checked-fitting t n (w .well-formed) .few
 
-pub short-text : (t : List ℕ) → ((i : ℕ) → getD t i 0 < 4294967296) → (n : ℕ) (buffer : List ℕ) (r : Written) (after : List ℕ)
-    → afterWrite r after ≡ writeEffect t n buffer → short r
-short-text t bits n buffer (Length l) after e = written-few t bits n l buffer (sym (ap (λ (x : AfterWrite). x .answer) e))
+pub short-text : (t : List ℕ) → ((i : ℕ) → getD t i 0 < 4294967296) → (n : ℕ) (buffer : List ℕ) (r : Written)
+    (after : List ℕ) → afterWrite r after ≡ writeEffect t n buffer → short r
+short-text t bits n buffer (Length l) after e =
+    written-few t bits n l buffer (sym (ap (λ (x : AfterWrite). x .answer) e))
 short-text t bits n buffer (Refused k) after e = tt

@@ -223,14 +223,19 @@ of-kind k p = p
 constants : (b c : ℕ) → b ≡ 0 → c ≡ 0 → Each (λ a. Plain (equation CONSTANT a b c)) truthCount 0
 unfolding formAt forms padded absent kindOf formNumber
 constants b c q r =
-    having 2 CONSTANT 0 b c refl refl refl q r (omega arith) also having 3 CONSTANT 1 b c refl refl refl q r (omega arith) also end
+    having 2 CONSTANT 0 b c refl refl refl q r (omega arith)
+    also having 3 CONSTANT 1 b c refl refl refl q r (omega arith)
+    also end
 
 pres : (a b : ℕ) → a < equationLimit → b ≡ 0 → Each (λ c. Plain (equation BOOLEAN-PRE a b c)) truthCount 0
 unfolding formAt forms padded absent kindOf formNumber
 pres a b p q =
-    having 7 BOOLEAN-PRE a b 0 refl refl tt q refl (omega arith) also having 8 BOOLEAN-PRE a b 1 refl refl tt q refl (omega arith) also end
+    having 7 BOOLEAN-PRE a b 0 refl refl tt q refl (omega arith)
+    also having 8 BOOLEAN-PRE a b 1 refl refl tt q refl (omega arith)
+    also end
 
-literals : (a c : ℕ) → a < equationLimit → c < literalCount → Each (λ b. Plain (equation COMPARE-LITERAL a b c)) opCount 0
+literals : (a c : ℕ) → a < equationLimit → c < literalCount
+    → Each (λ b. Plain (equation COMPARE-LITERAL a b c)) opCount 0
 unfolding formAt forms padded absent kindOf formNumber
 literals a c p r =
     having 12 COMPARE-LITERAL a 0 c refl refl tt refl tt (omega arith)
@@ -240,7 +245,8 @@ literals a c p r =
     also having 16 COMPARE-LITERAL a 4 c refl refl tt refl tt (omega arith)
     also end
 
-parameters : (a c : ℕ) → a < equationLimit → c < parameterCount → Each (λ b. Plain (equation COMPARE-PARAMETER a b c)) opCount 0
+parameters : (a c : ℕ) → a < equationLimit → c < parameterCount
+    → Each (λ b. Plain (equation COMPARE-PARAMETER a b c)) opCount 0
 unfolding formAt forms padded absent kindOf formNumber
 parameters a c p r =
     having 17 COMPARE-PARAMETER a 0 c refl refl tt refl tt (omega arith)

@@ -1,5 +1,5 @@
--- The parts of a table's text as forms: its first line, the beginning of an equation's line, and its last lines. Assumes
--- nothing.
+-- The parts of a table's text as forms: its first line, the beginning of an equation's line, and its last lines.
+-- Assumes nothing.
 use mathlib.Core.Path.{_≡_, refl}
 use mathlib.Core.List.{List, _++_}
 use Prim.Native.Nat.{ℕ, _-_}

@@ -151,7 +151,8 @@ scans e s (x ∷ f) l e₀ h a =
         → (letter? x ≡ false → scan f (render e f ++ l) e₀ ≡ scanned e l)
         → scan (x ∷ f) (render e (x ∷ f) ++ l) e₀ ≡ scanned e l
     go true p q k m =
-        rw (p, append-assoc, reads-back highest (slot e x) (render e f ++ l) (s x) (opens-stops e f l q)) (k (letter x p))
+        rw (p, append-assoc, reads-back highest (slot e x) (render e f ++ l) (s x) (opens-stops e f l q))
+        (k (letter x p))
     go false p q k m = rw (p, eq-eqb x x refl) (m p)
 
 -- What is scanned was written, and agrees with what the scan began with.
@@ -192,7 +193,8 @@ seen-byte x f r e₀ (scanned e z) h (seen m o g) =
     (record { kinds = o .kinds; others = λ y j a. o .others y j (and-true (not (eqb y x)) _ a .1) })
     g
 
-after-number : (x : ℕ) (f l : List ℕ) (e₀ : Equation) (n : Numeral) → letter? x ≡ true → absent x f ≡ true → Stood highest l n
+after-number : (x : ℕ) (f l : List ℕ) (e₀ : Equation) (n : Numeral) → letter? x ≡ true → absent x f ≡ true
+    → Stood highest l n
     → ((r : List ℕ) (v : ℕ) → Seen f r (put e₀ x v) (scan f r (put e₀ x v)))
     → Seen (x ∷ f) l e₀ (afterNumber n (λ v r. scan f r (put e₀ x v)))
 after-number x f l e₀ missing p s nothing k = unseen

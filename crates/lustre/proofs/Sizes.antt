@@ -1,8 +1,8 @@
 -- A table's text is short: at most 100 bytes a line, so a number of 32 bits holds its length. Assumes nothing.
-use mathlib.Core.Bool.{Bool, true, false, cond}
-use mathlib.Core.List.{List, [], _∷_, _++_}
-use mathlib.Core.Path.{_≡_, refl}
-use Prim.Native.Nat.{ℕ, zero, suc, _+_, _*_, _-_, _/_, _%_, _≤_, _<_}
+use mathlib.Core.Bool.{Bool, true, false}
+use mathlib.Core.List.{List}
+use mathlib.Core.Path.{_≡_}
+use Prim.Native.Nat.{ℕ, zero, suc, _*_, _-_, _≤_, _<_}
 use native.Mathlib.Omega.{arith}
 use lib.ListN.{length, getD, length-append}
 use Rattle.limits.specs.Limits.{equationLimit}
@@ -16,10 +16,10 @@ use Rattle.tables.proofs.Checks.{checked-fitting}
 use Rattle.tables.specs.declared.Checked.{Checked}
 use Rattle.tables.specs.declared.Checked.the-variants.{Passed, Refused as Failed}
 use Rattle.lustre.specs.Write.{writeEffect, effectIf, writeChecked, afterText}
-use Rattle.lustre.specs.declared.Written.the-variants.{Length, Refused}
+use Rattle.lustre.specs.declared.Written.the-variants.{Length}
 use Rattle.lustre.proofs.Decimals.{digits-short}
 use Rattle.lustre.proofs.Theorems.{text-written}
-use Rattle.lustre.specs.Text.{flow, truthText, opText, valueText, lineEnd, lineText, lines, foot, textOf}
+use Rattle.lustre.specs.Text.{truthText, opText, valueText, lineEnd, lineText, lines, foot, textOf}
 
 -- The numbers of an equation are of 32 bits.
 record Words (e : Equation) : Type 0 where

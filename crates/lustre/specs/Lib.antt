@@ -1,5 +1,5 @@
--- Equation tables as Lustre text. Text, Write and Read, over Decimal, are what the public contracts say. Form and Scan are
--- what the writer and the reader agree on.
+-- Equation tables as Lustre text. Text, Write and Read, over Decimal, are what the public contracts say. Form and Scan
+-- are what the writer and the reader agree on.
 pub mod Decimal
 pub mod Text
 pub mod Write

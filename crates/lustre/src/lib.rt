@@ -1,7 +1,7 @@
-// Equation tables as Lustre text (document 01, "Equations", "Write as Lustre text", "Read Lustre text"): what a table's text
-// is, what writing and reading do, and that each undoes the other. specs/Text.antt, Write.antt and Read.antt are what the
-// two operations promise; they stand in the crates `lustre_write` and `lustre_read`. The forms of a line, which the one
-// writer and the one reader both walk, are here.
+// Equation tables as Lustre text (document 01, "Equations", "Write as Lustre text", "Read Lustre text"): what a
+// table's text is, what writing and reading do, and that each undoes the other. specs/Text.antt, Write.antt and
+// Read.antt are what the two operations promise; they stand in the crates `lustre_write` and `lustre_read`. The forms
+// of a line, which the one writer and the one reader both walk, are here.
 ghost use mathlib.Core.Path.{_≡_};
 ghost use Prim.Native.Nat.{_<_};
 ghost use Rattle.limits.specs.Limits.{equationLimit};

@@ -1,5 +1,5 @@
-// Read Lustre text into a table (document 01, "Read Lustre text"; refusals 16 and 9). Which texts are read, and what reading
-// does, stand in crate `lustre`, specs/Text.antt and specs/Read.antt.
+// Read Lustre text into a table (document 01, "Read Lustre text"; refusals 16 and 9). Which texts are read, and what
+// reading does, stand in crate `lustre`, specs/Text.antt and specs/Read.antt.
 use lists::Decimal;
 use lists::read_decimal;
 use lustre::FORM_COUNT;

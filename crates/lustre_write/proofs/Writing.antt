@@ -1,5 +1,5 @@
 -- What writing leaves: a line and the whole text placed part by part, and the cases of the operation. Assumes nothing.
-use mathlib.Core.Path.{_≡_, refl, _∙_, sym, ap}
+use mathlib.Core.Path.{_≡_, _∙_, sym, ap}
 use mathlib.Core.List.{List, [], _++_}
 use Prim.Native.Nat.{ℕ, _+_, _-_, _≤_, _<_, min}
 use native.Mathlib.Omega.{arith}
@@ -12,7 +12,7 @@ use Rattle.lists.proofs.Buffers.{sets-out}
 use Rattle.tables.specs.Table.{Equation, checked}
 use Rattle.tables.specs.declared.Checked.the-variants.{Passed, Refused as Failed}
 use Rattle.tables.proofs.Checks.{passed-both, refused-table}
-use Rattle.lustre.specs.Text.{lineEnd, lineText, lines, foot, textOf}
+use Rattle.lustre.specs.Text.{lineEnd, lineText, lines, textOf}
 use Rattle.lustre.specs.Write.{writeChecked, afterWrite, afterText, writeEffect}
 use Rattle.lustre.specs.Form.{own, render, formWidth, formCount, formAt, formText, formOf, Plain}
 use Rattle.lustre.specs.declared.Form.{Form}

@@ -1,5 +1,5 @@
--- `lustre_read::read_line` meets its contract: `fN=` is scanned, its N is compared with the line's, and an equation's text
--- is read after it. Assumes nothing.
+-- `lustre_read::read_line` meets its contract: `fN=` is scanned, its N is compared with the line's, and an equation's
+-- text is read after it. Assumes nothing.
 use borrow.Author.Needs.{needs}
 use mathlib.Core.Path.{_≡_, _∙_, ap}
 use lib.ListN.{drop}

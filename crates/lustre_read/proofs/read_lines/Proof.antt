@@ -1,5 +1,5 @@
--- `lustre_read::read_lines` meets its contract. The invariant: the lines of the first i equations were read into the table.
--- Assumes nothing.
+-- `lustre_read::read_lines` meets its contract. The invariant: the lines of the first i equations were read into the
+-- table. Assumes nothing.
 use borrow.Author.Needs.{needs}
 use mathlib.Core.Path.{_≡_, refl, _∙_, ap}
 use Prim.Native.Nat.{_-_}

@@ -1,5 +1,5 @@
--- `lustre_read::read_lustre` meets its contract: the table that was read writes the text, and is copied if there is room.
--- Assumes nothing.
+-- `lustre_read::read_lustre` meets its contract: the table that was read writes the text, and is copied if there is
+-- room. Assumes nothing.
 use borrow.Author.Needs.{needs}
 use native.Mathlib.Omega.{arith}
 use Rattle.lustre.specs.Read.{Writes}

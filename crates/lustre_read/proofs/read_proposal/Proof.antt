@@ -1,5 +1,5 @@
--- `lustre_read::read_proposal` meets its contract: the first line, the equations' lines and the last lines stand one after
--- the other, or no table writes the text. Assumes nothing.
+-- `lustre_read::read_proposal` meets its contract: the first line, the equations' lines and the last lines stand one
+-- after the other, or no table writes the text. Assumes nothing.
 use borrow.Author.Needs.{needs}
 use mathlib.Core.Path.{_≡_}
 use mathlib.Core.List.{_++_}
@@ -13,8 +13,8 @@ use Rattle.lustre_read.proofs.Whole.{no-opening, opening-found, no-clos
 use Rattle.lustre_read.proofs.read_proposal.Statement.{statement}
 use Rattle.lustre_read.proofs.read_proposal.Tie as tie
 
--- The places: the start; the first line is scanned, and found; the equations' lines are read; the last lines are scanned,
--- and found.
+-- The places: the start; the first line is scanned, and found; the equations' lines are read; the last lines are
+-- scanned, and found.
 abbrev start : tie.After-scan-form → tie.Start
 start c = c .before .before .before .before .before
 

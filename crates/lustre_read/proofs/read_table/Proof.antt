@@ -1,5 +1,5 @@
--- `lustre_read::read_table` meets its contract: a table that the text proposes and that passes its check writes the text;
--- if it fails, no table does. Assumes nothing.
+-- `lustre_read::read_table` meets its contract: a table that the text proposes and that passes its check writes the
+-- text; if it fails, no table does. Assumes nothing.
 use borrow.Author.Needs.{needs}
 use mathlib.Core.Path.{sym, _∙_}
 use native.Mathlib.Omega.{arith}

@@ -32,6 +32,16 @@ returns t c =
     let digit = c .before .before in
     number-one _ _ _ (digit .before .before .if1 .taken) (digit .store .ensures)
 
+add-result : (t : ℕ) → write-number-lts.Need-add-result (
+  store-reads.Asked,
+  store-reads.Learnt,
+  write-number-below t,
+  write-number.Post,
+) (write-number-at t) write-number.Post
+add-result t c =
+    let last = c .before .before in
+    omega (arith, last .before .before .before .before .write-number .ensures .short)
+
 same-length : (t : ℕ) → write-number-lts.Need-same-length-2 (
   store-reads.Asked,
   store-reads.Learnt,
@@ -74,6 +84,6 @@ pub +write-number-spec : {M : Type 1} → statement M
     (λ c. omega arith)
     (λ c. omega arith)
     (λ c κs. search needs)
-    (λ c. let last = c .before .before in omega (arith, last .before .before .before .before .write-number .ensures .short))
+    (add-result t)
     (same-length t)
     (returns-more t)

@@ -1,5 +1,5 @@
--- `lustre_write::write_checked` meets its contract: written where there is no room, the text shows its length and stores
--- nothing; then it is refused or written. Assumes nothing.
+-- `lustre_write::write_checked` meets its contract: written where there is no room, the text shows its length and
+-- stores nothing; then it is refused or written. Assumes nothing.
 use borrow.Author.Needs.{needs}
 use Rattle.lustre.proofs.Tables.{well-plain}
 use Rattle.lustre_write.proofs.Writing.{write-short, write-done}

@@ -1,5 +1,5 @@
--- `lustre_write::write_end` meets its contract: the form of the equation's kind and numbers is fetched and written. Assumes
--- nothing.
+-- `lustre_write::write_end` meets its contract: the form of the equation's kind and numbers is fetched and written.
+-- Assumes nothing.
 use borrow.Author.Needs.{needs}
 use mathlib.Core.Path.{refl, sym}
 use Prim.Native.Nat.{_≤_}

@@ -1,5 +1,5 @@
--- `lustre_write::write_line` meets its contract: `fN=` is placed, and then the equation's text in the tail that it leaves.
--- Assumes nothing.
+-- `lustre_write::write_line` meets its contract: `fN=` is placed, and then the equation's text in the tail that it
+-- leaves. Assumes nothing.
 use borrow.Author.Needs.{needs}
 use native.Mathlib.Omega.{arith}
 use Rattle.tables.specs.Table.{equationAt}

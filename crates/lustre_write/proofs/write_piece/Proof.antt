@@ -1,4 +1,5 @@
--- `lustre_write::write_piece` meets its contract: the number of a letter is written, or the byte itself. Assumes nothing.
+-- `lustre_write::write_piece` meets its contract: the number of a letter is written, or the byte itself. Assumes
+-- nothing.
 use borrow.Author.Needs.{needs}
 use mathlib.Core.Path.{sym, _∙_}
 use Rattle.lustre.specs.Form.{equationOf}

@@ -1,5 +1,5 @@
--- `lustre_write::write_text` meets its contract: the first line, the equations' lines and the last lines are placed, each in
--- the tail that the one before leaves. Assumes nothing.
+-- `lustre_write::write_text` meets its contract: the first line, the equations' lines and the last lines are placed,
+-- each in the tail that the one before leaves. Assumes nothing.
 use borrow.Author.Needs.{needs}
 use native.Mathlib.Omega.{arith}
 use Rattle.lustre.specs.Form.{equationOf}
@@ -7,8 +7,8 @@ use Rattle.lustre_write.proofs.Writing.{text-placed}
 use Rattle.lustre_write.proofs.write_text.Statement.{statement}
 use Rattle.lustre_write.proofs.write_text.Tie as tie
 
--- The places: the start; the first line; the tail that it leaves; the equations' lines; the tail that they leave; the last
--- lines.
+-- The places: the start; the first line; the tail that it leaves; the equations' lines; the tail that they leave; the
+-- last lines.
 abbrev start : tie.After-only → tie.Start
 start c = c .before .before .before .before
 
