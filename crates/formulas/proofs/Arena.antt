@@ -15,7 +15,7 @@ use Rattle.formulas.specs.Formula.Count.{sum, age}
 use Rattle.formulas.specs.Tree.{Tree}
 use Rattle.formulas.specs.Tree.Tree.{constant, signal, neg, and, or, then, chop, exists, test, len, count}
 use Rattle.formulas.specs.Arena.{NOT, AND, OR, TEST, COUNT, LEAD-END, THEN, CHOP, EXISTS}
-use Rattle.formulas.specs.Arena.{testNumber, countNumber, numKind, numValue, row, flat}
+use Rattle.formulas.specs.Arena.{testNumber, countNumber, LITERAL, numKind, numValue, row, flat}
 
 -- ---- reading one record
 
@@ -38,9 +38,9 @@ two f (b ∷ a ∷ st) = f a b ∷ st
 abbrev none : Stack → Stack
 none st = st
 
--- n of the equation kind that compares with it.
+-- n as the record says it.
 abbrev numOf : ℕ → ℕ → Num
-numOf k v = cond (eqb k 10) (literal v) (parameter v)
+numOf k v = cond (eqb k LITERAL) (literal v) (parameter v)
 
 -- Each kind's, in the order of the kinds, from a record's three other numbers.
 abbrev readers : ℕ → ℕ → ℕ → List (Stack → Stack)
@@ -75,7 +75,7 @@ back (k ∷ a ∷ b ∷ c ∷ r) st = back r (getD (readers a b c) k none st)
 
 -- ---- a tree's records put that tree on the stack
 
--- n from its equation kind and its value;
+-- n from what it is and its value;
 back-num : (n : Num) → numOf (numKind n) (numValue n) ≡ n
 back-num (literal n) = refl
 back-num (parameter n) = refl

@@ -11,7 +11,7 @@ use Rattle.formulas.specs.Formula.Count.{sum, age}
 use Rattle.formulas.specs.Tree.{Tree}
 use Rattle.formulas.specs.Tree.Tree.{constant, signal, neg, and, or, then, chop, exists, test, len, count}
 
--- The kinds of records. `LEAD-END` stands between the two parts of a `then`; 15 is left for a whole rule.
+-- The kinds of records. `LEAD-END` stands between the two parts of a `then`; no tree's record has `WHOLE`.
 abbrev pub CONSTANT : ℕ
 CONSTANT = 0
 
@@ -31,6 +31,21 @@ OR = 4
 abbrev pub TEST : ℕ
 TEST = 5
 
+abbrev pub BEGIN : ℕ
+BEGIN = 5
+
+abbrev pub END : ℕ
+END = 6
+
+abbrev pub POINT : ℕ
+POINT = 7
+
+abbrev pub HELD : ℕ
+HELD = 8
+
+abbrev pub KEPT : ℕ
+KEPT = 9
+
 abbrev pub LEN : ℕ
 LEN = 10
 
@@ -38,11 +53,21 @@ LEN = 10
 abbrev pub COUNT : ℕ
 COUNT = 11
 
+abbrev pub SUM : ℕ
+SUM = 11
+
+abbrev pub AGE : ℕ
+AGE = 12
+
 abbrev pub LEAD-END : ℕ
 LEAD-END = 13
 
 abbrev pub THEN : ℕ
 THEN = 14
+
+-- a whole rule
+abbrev pub WHOLE : ℕ
+WHOLE = 15
 
 abbrev pub CHOP : ℕ
 CHOP = 16
@@ -62,10 +87,16 @@ abbrev pub countNumber : Count → ℕ
 countNumber sum = 0
 countNumber age = 1
 
--- The equation kind that compares a count with n: 10 with a literal, 11 with a parameter.
+-- What a count is compared with: a literal or a parameter.
+abbrev pub LITERAL : ℕ
+LITERAL = 0
+
+abbrev pub PARAMETER : ℕ
+PARAMETER = 1
+
 abbrev pub numKind : Num → ℕ
-numKind (literal n) = 10
-numKind (parameter n) = 11
+numKind (literal n) = LITERAL
+numKind (parameter n) = PARAMETER
 
 -- The literal itself, or which parameter.
 abbrev pub numValue : Num → ℕ

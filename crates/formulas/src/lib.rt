@@ -14,16 +14,38 @@ pub const OR: u32 = 4;
 // `begin`, and then the other tests.
 pub const TEST: u32 = 5;
 
+pub const BEGIN: u32 = 5;
+
+pub const END: u32 = 6;
+
+pub const POINT: u32 = 7;
+
+pub const HELD: u32 = 8;
+
+pub const KEPT: u32 = 9;
+
 pub const LEN: u32 = 10;
 
 // `sum`, and then `age`.
 pub const COUNT: u32 = 11;
+
+pub const SUM: u32 = 11;
+
+pub const AGE: u32 = 12;
 
 // Between the two parts of a `then`.
 pub const LEAD_END: u32 = 13;
 
 pub const THEN: u32 = 14;
 
+// A whole rule: no tree's record has this kind.
+pub const WHOLE: u32 = 15;
+
 pub const CHOP: u32 = 16;
 
 pub const EXISTS: u32 = 17;
+
+// What a record compares a count with.
+pub const LITERAL: u32 = 0;
+
+pub const PARAMETER: u32 = 1;

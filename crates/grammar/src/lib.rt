@@ -163,11 +163,14 @@ fn is_lead_count(k: u32) -> bool
     k == words::SUM
 }
 
-// The equation kind that compares with n.
+// Whether n is a literal or a parameter.
 fn num_kind(n: u32) -> u32
     ensures { λ r. ⌜ r ≡ numKind (numWord n) ⌝ }
 {
-    if n < words::LITERAL { 11 } else { 10 }
+    if n < words::LITERAL {
+        return formulas::PARAMETER;
+    }
+    formulas::LITERAL
 }
 
 // The literal's value or the parameter's number.

@@ -16,7 +16,7 @@ use Rattle.formulas.specs.Bounds.{numBound}
 use Rattle.formulas.specs.Arena.{numKind, numValue}
 use Rattle.tables.specs.Table.{kindOf}
 use Rattle.limits.specs.Limits.{parameterCount}
-use Rattle.scheme.specs.Scheme.{_⊕_, equation}
+use Rattle.scheme.specs.Scheme.{_⊕_, equation, comparisonOf}
 use Rattle.scheme.specs.Emit.{begin-es, point-es, kept-es, held-es, len-es, sum-es, age-es}
 use Rattle.scheme.proofs.Offsets.{longer, each-last, tally-last, streak-single}
 use Rattle.scheme.proofs.Local.{on, Stand}
@@ -116,7 +116,7 @@ module _ (cap : ℕ) (trace : Trace) (flow : ℕ → ℕ → ℕ) where
 
   -- The comparison of a held count, where the parameters are below the cap.
   pub compare-is : ((k j : ℕ) → j < parameterCount → parameterAt (trace k) j < cap) → (i a : ℕ) (op : Op) (x : Num)
-      → numBound cap x ≡ true → Stand cap trace flow i (equation (numKind x) a (opNumber op) (numValue x) ∷ [])
+      → numBound cap x ≡ true → Stand cap trace flow i (equation (comparisonOf (numKind x)) a (opNumber op) (numValue x) ∷ [])
       → (k c : ℕ) → flow k a ≡ min cap c → on flow i k ≡ compares op c (value x (trace k))
   unfolding kindOf
   compare-is small i a op (literal n) bound h k c e =

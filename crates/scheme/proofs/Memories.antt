@@ -15,9 +15,10 @@ use Rattle.formulas.specs.Formula.Formula.{test, len, count, neg, and, or, then
 use Rattle.formulas.specs.Arena.{numKind}
 use Rattle.formulas.specs.Tree.{nodes}
 use Rattle.formulas.specs.Raw.{raw}
-use Rattle.tables.specs.Table.{Equation, kindOf, kindAt}
-use Rattle.tables.specs.Table.{isMemory}
-use Rattle.scheme.specs.Scheme.{_⊕_, equation}
+use Rattle.limits.specs.Limits.{signalCount}
+use Rattle.tables.specs.Kind.{SIGNAL, START, NOT}
+use Rattle.tables.specs.Table.{Equation, kindOf, kindAt, isMemory}
+use Rattle.scheme.specs.Scheme.{_⊕_, equation, comparisonOf}
 use Rattle.scheme.specs.Emit.{after, emitP, emit, names, flowIn, signals, header, whole-es, body, observer}
 use Rattle.scheme.specs.Emit.{numbersOf}
 use Rattle.scheme.specs.Memories.{memories}
@@ -61,12 +62,12 @@ counted-signals named zero j = refl
 counted-signals named (suc m) j = with-first (named j) (counted-signals named m (suc j))
   where
     with-first : (x : Bool) → counted (signals named (suc j) m) ≡ 0
-        → counted (cond x (equation 0 j 0 0 ∷ signals named (suc j) m) (signals named (suc j) m)) ≡ 0
+        → counted (cond x (equation SIGNAL j 0 0 ∷ signals named (suc j) m) (signals named (suc j) m)) ≡ 0
     with-first true h = omega arith
     with-first false h = h
 
 -- A comparison is no memory.
-compare-none : (x : Num) → truth (isMemory (kindOf (numKind x))) ≡ 0
+compare-none : (x : Num) → truth (isMemory (kindOf (comparisonOf (numKind x)))) ≡ 0
 unfolding kindOf isMemory
 compare-none (literal n) = refl
 compare-none (parameter j) = refl
@@ -103,7 +104,7 @@ module _ (flowOf : ℕ → ℕ) where
 
 -- ---- counted over an observer
 
-counted-header : (named : ℕ → Bool) (m : ℕ) → counted (equation 1 0 0 0 ∷ equation 3 0 0 0 ∷ signals named 0 m) ≡ 0
+counted-header : (named : ℕ → Bool) (m : ℕ) → counted (equation START 0 0 0 ∷ equation NOT 0 0 0 ∷ signals named 0 m) ≡ 0
 unfolding kindOf isMemory
 counted-header named m = omega (arith, counted-signals named m 0)
 
@@ -116,7 +117,7 @@ unfolding kindOf isMemory
 counted-observer f =
     let o : ℕ = after 0 (header (names f)) in
     counted-three (header (names f)) (body f .es) (whole-es 0 (after o (body f .es)) (body f .out)) (memoriesOf f)
-    (counted-header (names f) 64) (counted-formula (flowIn (names f)) f 0 1 o) refl
+    (counted-header (names f) signalCount) (counted-formula (flowIn (names f)) f 0 1 o) refl
 
 -- ---- counted over the table
 

@@ -16,8 +16,13 @@ use Rattle.tables.specs.declared.Operand.{Operand}
 use Rattle.tables.specs.declared.Operand.the-variants.{Unused, Earlier, Anywhere, Below}
 use Rattle.tables.specs.declared.Shape.{Shape}
 use Rattle.tables.proofs.Tests.{all-at}
-use Rattle.scheme.specs.Scheme.{_⊕_, rowAt, resolved, fill}
-use Rattle.scheme.proofs.Offsets.{⊕-add, suc-⊕}
+use Rattle.scheme.specs.Scheme.{_⊕_, rowAt, valueOf, kindFor, resolved, filled}
+use Rattle.scheme.specs.declared.Name.{Name}
+use Rattle.scheme.specs.declared.Name.the-variants.{Nought, Idle, Start, Last, Previous, Signal, A, C}
+use Rattle.scheme.specs.declared.Name.the-variants.{First, Second, Third, Fourth, Fifth}
+use Rattle.scheme.specs.declared.Row.{Row}
+use Rattle.scheme.specs.declared.Values.{Values}
+use Rattle.scheme.proofs.Offsets.{⊕-add}
 use Rattle.scheme.proofs.Places.{Each, each-at, each-from, nothing}
 
 -- ---- the test
@@ -28,11 +33,21 @@ pub data Role : Type 0 where
   nought given free : Role
   below own : ℕ → Role
 
--- The roles of the names (specs/Scheme.antt), with those of N, S, P and Q, and where A and C are below these bounds.
-abbrev pub rolesOf : Role → Role → Role → Role → ℕ → ℕ → List Role
-rolesOf n s p q a c =
-    nought ∷ free ∷ free ∷ free ∷ free ∷ free ∷ free ∷ free ∷ free ∷ free ∷ free ∷ free
-    ∷ n ∷ s ∷ p ∷ q ∷ free ∷ below a ∷ free ∷ below c ∷ own 0 ∷ own 1 ∷ own 2 ∷ own 3 ∷ own 4 ∷ []
+-- The roles of the names, with those of the start flows and the operands, and where A and C are below these bounds.
+abbrev pub rolesOf : (idle start last previous : Role) (a c : ℕ) → Name → Role
+rolesOf n s p q a c Nought = nought
+rolesOf n s p q a c Idle = n
+rolesOf n s p q a c Start = s
+rolesOf n s p q a c Last = p
+rolesOf n s p q a c Previous = q
+rolesOf n s p q a c Signal = free
+rolesOf n s p q a c A = below a
+rolesOf n s p q a c C = below c
+rolesOf n s p q a c First = own 0
+rolesOf n s p q a c Second = own 1
+rolesOf n s p q a c Third = own 2
+rolesOf n s p q a c Fourth = own 3
+rolesOf n s p q a c Fifth = own 4
 
 abbrev pub isNought : Role → Bool
 isNought nought = true
@@ -48,35 +63,35 @@ isBelow k free = false
 isBelow k (below b) = leb b k
 isBelow k (own j) = false
 
--- The kind of row i, with these values.
-abbrev pub kindIn : List ℕ → ℕ → Kind
-kindIn vs i = kindOf (getD vs (rowAt i .kind) 0)
+-- The kind of a row, with these values.
+abbrev pub kindIn : Values → Row → Kind
+kindIn v r = kindOf (kindFor v (r .0))
 
--- The m rows from row i on, with these values and these roles.
-module _ (vs : List ℕ) (roles : List Role) (i m : ℕ) where
+-- Rows with these values and these roles.
+module _ (v : Values) (roles : Name → Role) (rows : List Row) where
   -- A boolean flow before the rows, or one of the first k of their own, of that sort.
   abbrev pub isFlowOf : ℕ → Sort → Role → Bool
   isFlowOf k s nought = false
   isFlowOf k s given = sameSort Boolean s
   isFlowOf k s free = false
   isFlowOf k s (below b) = false
-  isFlowOf k s (own j) = ltb j k && sameSort (sortOf (kindIn vs (i ⊕ j))) s
+  isFlowOf k s (own j) = ltb j k && sameSort (sortOf (kindIn v (rowAt rows j))) s
 
-  -- The name x can be such an operand in the r-th of them.
-  abbrev pub operandOk : ℕ → Operand → ℕ → Bool
-  operandOk r Unused x = isNought (getD roles x free)
-  operandOk r (Below k) x = isBelow k (getD roles x free)
-  operandOk r (Earlier s) x = isFlowOf r s (getD roles x free)
-  operandOk r (Anywhere s) x = isFlowOf m s (getD roles x free)
+  -- The name x can be such an operand in row i.
+  abbrev pub operandOk : ℕ → Operand → Name → Bool
+  operandOk i Unused x = isNought (roles x)
+  operandOk i (Below k) x = isBelow k (roles x)
+  operandOk i (Earlier s) x = isFlowOf i s (roles x)
+  operandOk i (Anywhere s) x = isFlowOf (length rows) s (roles x)
 
-  abbrev pub shapeOk : ℕ → Shape → Equation → Bool
-  shapeOk r s e = operandOk r (s .a) (e .a) && (operandOk r (s .b) (e .b) && operandOk r (s .c) (e .c))
+  abbrev pub shapeOk : ℕ → Shape → Row → Bool
+  shapeOk i s r = operandOk i (s .a) (r .1) && (operandOk i (s .b) (r .2) && operandOk i (s .c) (r .3))
 
   abbrev pub rowOk : ℕ → Bool
-  rowOk r = shapeOk r (shapeOf (kindIn vs (i ⊕ r))) (rowAt (i ⊕ r))
+  rowOk i = shapeOk i (shapeOf (kindIn v (rowAt rows i))) (rowAt rows i)
 
   abbrev pub rowsOk : Bool
-  rowsOk = all rowOk m
+  rowsOk = all rowOk (length rows)
 
 -- ---- what passes it fits
 
@@ -101,17 +116,16 @@ pub record Fits (t : List ℕ) (N i : ℕ) (e : Equation) : Type 0 where
 abbrev pub KindAt : List ℕ → ℕ → Equation → Type 0
 KindAt t i e = kindAt t i ≡ kindOf (e .kind)
 
--- The rows as a list.
-module _ (vs : List ℕ) where
-  fill-length : (m i : ℕ) → length (fill vs i m) ≡ m
-  fill-length zero i = refl
-  fill-length (suc m) i = ap suc (fill-length m (suc i))
+-- The equations of rows.
+module _ (v : Values) where
+  filled-length : (rs : List Row) → length (filled v rs) ≡ length rs
+  filled-length [] = refl
+  filled-length (r ∷ rs) = ap suc (filled-length rs)
 
-  fill-at : (m i r : ℕ) → r < m → getD (fill vs i m) r nothing ≡ resolved vs (rowAt (i ⊕ r))
-  fill-at zero i r h = absurd (omega arith)
-  fill-at (suc m) i zero h = refl
-  fill-at (suc m) i (suc r) h =
-      fill-at m (suc i) r (omega arith) ∙ ap (λ (k : ℕ). resolved vs (rowAt k)) (suc-⊕ i r)
+  filled-at : (rs : List Row) (i : ℕ) → i < length rs → getD (filled v rs) i nothing ≡ resolved v (rowAt rs i)
+  filled-at [] i h = absurd (omega arith)
+  filled-at (r ∷ rs) zero h = refl
+  filled-at (r ∷ rs) (suc i) h = filled-at rs i (omega arith)
 
 -- Rows from place o on.
 module _ (t : List ℕ) (N o : ℕ) where
@@ -122,20 +136,6 @@ module _ (t : List ℕ) (N o : ℕ) where
   Plays free v = Unit {0}
   Plays (below b) v = v < b
   Plays (own j) v = v ≡ o ⊕ j
-
-  -- Each of the numbers is.
-  abbrev pub Play : List Role → List ℕ → Type 0
-  Play [] [] = Unit {0}
-  Play [] (v ∷ vs) = ⊥
-  Play (r ∷ rs) [] = ⊥
-  Play (r ∷ rs) (v ∷ vs) = Plays r v × Play rs vs
-
-  play-at : (rs : List Role) (vs : List ℕ) → Play rs vs → (x : ℕ) → Plays (getD rs x free) (getD vs x 0)
-  play-at [] [] h x = tt
-  play-at [] (v ∷ vs) h x = absurd h
-  play-at (r ∷ rs) [] h x = absurd h
-  play-at (r ∷ rs) (v ∷ vs) h zero = h .0
-  play-at (r ∷ rs) (v ∷ vs) h (suc x) = play-at rs vs (h .1) x
 
   nought-fits : (r : Role) (v : ℕ) → Plays r v → isNought r ≡ true → v ≡ 0
   nought-fits nought v h e = h
@@ -157,23 +157,23 @@ module _ (t : List ℕ) (N o : ℕ) where
   given-fits Boolean i v h l e = later h l
   given-fits Count i v h l e = absurd (false≢true e)
 
-  module _ (vs : List ℕ) (roles : List Role) (i m : ℕ) (play : Play roles vs) (room : o ⊕ m ≤ N)
-      (kinds : Each (KindAt t) o (fill vs i m)) where
+  module _ (v : Values) (roles : Name → Role) (rows : List Row) (play : (x : Name) → Plays (roles x) (valueOf v x))
+      (room : o ⊕ length rows ≤ N) (kinds : Each (KindAt t) o (filled v rows)) where
     -- The table has the rows' own kinds.
-    own-kind : (j : ℕ) → j < m → kindAt t (o ⊕ j) ≡ kindIn vs (i ⊕ j)
+    own-kind : (j : ℕ) → j < length rows → kindAt t (o ⊕ j) ≡ kindIn v (rowAt rows j)
     own-kind j h =
-        each-at (KindAt t) (fill vs i m) o j kinds (rw (fill-length vs m i) h)
-        ∙ ap (λ (e : Equation). kindOf (e .kind)) (fill-at vs m i j h)
+        each-at (KindAt t) (filled v rows) o j kinds (rw (filled-length v rows) h)
+        ∙ ap (λ (e : Equation). kindOf (e .kind)) (filled-at v rows j h)
 
     -- A flow among the given ones and the first k of the rows' own is one before place p, if they are.
-    flow-fits : (k p : ℕ) → k ≤ m → o ⊕ k ≤ p → (s : Sort) (r : Role) (v : ℕ) → Plays r v
-        → isFlowOf vs roles i m k s r ≡ true → isFlow t p s v ≡ true
-    flow-fits k p small far s nought v h e = absurd (false≢true e)
-    flow-fits k p small far s given v h e = is-flow (given-fits s p v h (omega (arith, ⊕-add o k)) e)
-    flow-fits k p small far s free v h e = absurd (false≢true e)
-    flow-fits k p small far s (below b) v h e = absurd (false≢true e)
-    flow-fits k p small far s (own j) v h e =
-        let both = and-eq-true-iff (ltb j k) (sameSort (sortOf (kindIn vs (i ⊕ j))) s) .0 e in
+    flow-fits : (k p : ℕ) → k ≤ length rows → o ⊕ k ≤ p → (s : Sort) (r : Role) (x : ℕ) → Plays r x
+        → isFlowOf v roles rows k s r ≡ true → isFlow t p s x ≡ true
+    flow-fits k p small far s nought x h e = absurd (false≢true e)
+    flow-fits k p small far s given x h e = is-flow (given-fits s p x h (omega (arith, ⊕-add o k)) e)
+    flow-fits k p small far s free x h e = absurd (false≢true e)
+    flow-fits k p small far s (below b) x h e = absurd (false≢true e)
+    flow-fits k p small far s (own j) x h e =
+        let both = and-eq-true-iff (ltb j k) (sameSort (sortOf (kindIn v (rowAt rows j))) s) .0 e in
         let early : j < k = ltb-true j k (both .0) in
         let flow : Before t p s (o ⊕ j) = record {
           earlier = omega (arith, ⊕-add o k, ⊕-add o j);
@@ -181,33 +181,32 @@ module _ (t : List ℕ) (N o : ℕ) where
         } in
         rw h (is-flow flow)
 
-    operand-fits : (r : ℕ) → r < m → (a : Operand) (x : ℕ) → operandOk vs roles i m r a x ≡ true
-        → operandFits t N (o ⊕ r) a (getD vs x 0) ≡ true
+    operand-fits : (i : ℕ) → i < length rows → (a : Operand) (x : Name) → operandOk v roles rows i a x ≡ true
+        → operandFits t N (o ⊕ i) a (valueOf v x) ≡ true
     unfolding operandFits
-    operand-fits r h Unused x e =
-        eq-eqb (getD vs x 0) 0 (nought-fits (getD roles x free) (getD vs x 0) (play-at roles vs play x) e)
-    operand-fits r h (Earlier s) x e =
-        flow-fits r (o ⊕ r) (omega arith) (omega arith) s (getD roles x free) (getD vs x 0) (play-at roles vs play x) e
-    operand-fits r h (Anywhere s) x e =
-        flow-fits m N (omega arith) room s (getD roles x free) (getD vs x 0) (play-at roles vs play x) e
-    operand-fits r h (Below k) x e =
-        lt-ltb (getD vs x 0) k (below-fits k (getD roles x free) (getD vs x 0) (play-at roles vs play x) e)
+    operand-fits i h Unused x e = eq-eqb (valueOf v x) 0 (nought-fits (roles x) (valueOf v x) (play x) e)
+    operand-fits i h (Earlier s) x e =
+        flow-fits i (o ⊕ i) (omega arith) (omega arith) s (roles x) (valueOf v x) (play x) e
+    operand-fits i h (Anywhere s) x e =
+        flow-fits (length rows) N (omega arith) room s (roles x) (valueOf v x) (play x) e
+    operand-fits i h (Below k) x e = lt-ltb (valueOf v x) k (below-fits k (roles x) (valueOf v x) (play x) e)
 
-    row-fits : (r : ℕ) → r < m → rowOk vs roles i m r ≡ true → Fits t N (o ⊕ r) (resolved vs (rowAt (i ⊕ r)))
+    row-fits : (i : ℕ) → i < length rows → rowOk v roles rows i ≡ true
+        → Fits t N (o ⊕ i) (resolved v (rowAt rows i))
     unfolding shapeFits
-    row-fits r h e =
-        let s : Shape = shapeOf (kindIn vs (i ⊕ r)) in
-        let w : Equation = rowAt (i ⊕ r) in
-        let first = and-eq-true-iff (operandOk vs roles i m r (s .a) (w .a)) _ .0 e in
-        let others = and-eq-true-iff (operandOk vs roles i m r (s .b) (w .b)) _ .0 (first .1) in
-        let a = operand-fits r h (s .a) (w .a) (first .0) in
-        let b = operand-fits r h (s .b) (w .b) (others .0) in
-        let c = operand-fits r h (s .c) (w .c) (others .1) in
+    row-fits i h e =
+        let r : Row = rowAt rows i in
+        let s : Shape = shapeOf (kindIn v r) in
+        let first = and-eq-true-iff (operandOk v roles rows i (s .a) (r .1)) _ .0 e in
+        let others = and-eq-true-iff (operandOk v roles rows i (s .b) (r .2)) _ .0 (first .1) in
+        let a = operand-fits i h (s .a) (r .1) (first .0) in
+        let b = operand-fits i h (s .b) (r .2) (others .0) in
+        let c = operand-fits i h (s .c) (r .3) (others .1) in
         record { fits = rw (a, b, c) }
 
-    pub rows-fit : rowsOk vs roles i m ≡ true → Each (Fits t N) o (fill vs i m)
+    pub rows-fit : rowsOk v roles rows ≡ true → Each (Fits t N) o (filled v rows)
     rows-fit e =
-        each-from (Fits t N) (fill vs i m) o
-        (λ r h.
-        let h′ : r < m = rw (fill-length vs m i) at h in
-        rw (fill-at vs m i r h′) (row-fits r h′ (all-at (rowOk vs roles i m) m e r h′)))
+        each-from (Fits t N) (filled v rows) o
+        (λ i h.
+        let h′ : i < length rows = rw (filled-length v rows) at h in
+        rw (filled-at v rows i h′) (row-fits i h′ (all-at (rowOk v roles rows) (length rows) e i h′)))

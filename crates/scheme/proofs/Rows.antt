@@ -1,22 +1,32 @@
 -- The rows of each node fit, by the computed test of Roles, and their result is a boolean. Assumes nothing.
 use mathlib.Core.Bool.{Bool, true, false}
 use mathlib.Core.List.{List}
-use mathlib.Core.Path.{_≡_, refl}
+use mathlib.Core.Path.{_≡_, refl, ap}
 use Prim.Native.Nat.{ℕ, suc, _≤_, _<_}
 use native.Mathlib.Omega.{arith}
+use lib.ListN.{length}
 use borrow.Author.Tests.{ltb-true}
 use Rattle.traces.specs.Trace.{truth}
 use Rattle.traces.specs.Compare.{Op, opNumber}
 use Rattle.traces.specs.Compare.Op.{le, lt, eq, gt, ge}
 use Rattle.formulas.specs.Formula.{Num}
 use Rattle.formulas.specs.Formula.Num.{literal, parameter}
-use Rattle.formulas.specs.Arena.{numKind, numValue}
+use Rattle.formulas.specs.Arena.{numKind}
 use Rattle.formulas.specs.Bounds.{numBound}
 use Rattle.tables.specs.Table.{all, Equation, kindOf, kindAt, shapeOf, sortOf, sameSort}
 use Rattle.limits.specs.Limits.{truthCount, opCount}
 use Rattle.limits.specs.Limits.{literalCount, parameterCount}
 use Rattle.tables.specs.declared.Sort.the-variants.{Boolean}
-use Rattle.scheme.specs.Scheme.{_⊕_, fill, values}
+use Rattle.tables.specs.Kind.{CONSTANT, NOT, AND, OR}
+use Rattle.scheme.specs.Scheme.{_⊕_, constantRows, notRows, andRows, orRows, beginRows, pointRows, keptRows}
+use Rattle.scheme.specs.Scheme.{heldRows, lenRows, sumRows, ageRows, leadEndRows, thenRows, wholeRows}
+use Rattle.scheme.specs.Scheme.{valueOf, comparisonOf, filled}
+use Rattle.scheme.specs.declared.Name.{Name}
+use Rattle.scheme.specs.declared.Name.the-variants.{Nought, Idle, Start, Last, Previous, Signal, A, C}
+use Rattle.scheme.specs.declared.Name.the-variants.{First, Second, Third, Fourth, Fifth}
+use Rattle.scheme.specs.declared.Row.{Row}
+use Rattle.scheme.specs.declared.Values.{Values}
+use Rattle.scheme.specs.Emit.{flowsAt, comparing, constantAt}
 use Rattle.scheme.specs.Emit.{constant-es, not-es, and-es, or-es, begin-es, point-es, kept-es, held-es}
 use Rattle.scheme.specs.Emit.{len-es, sum-es, age-es, lead-end-es, then-es, whole-es}
 use Rattle.scheme.proofs.Places.{Each, _▹_}
@@ -50,49 +60,63 @@ module _ (t : List ℕ) (N o : ℕ) where
 
   -- ---- rows with these values
 
-  -- One of the names N, S, P and Q in a node's rows: it is not used, or it is a boolean flow before them.
-  data Name : Role → ℕ → Type 0 where
-    unused : Name free 0
-    used : {x : ℕ} → Before t o Boolean x → Name given x
+  -- One of the start flows and operands in a node's rows: it is not used, or it is a boolean flow before them.
+  data Given : Role → ℕ → Type 0 where
+    unused : Given free 0
+    used : {x : ℕ} → Before t o Boolean x → Given given x
 
-  plays : {r : Role} {x : ℕ} → Name r x → Plays t N o r x
+  plays : {r : Role} {x : ℕ} → Given r x → Plays t N o r x
   plays unused = tt
   plays (used b) = b
 
-  -- The m rows from row i on, where A is a and below ba, B is b, C is c and below bc.
-  module _ {rn rs rp rq : Role} {n s p q : ℕ} (nn : Name rn n) (ns : Name rs s) (np : Name rp p) (nq : Name rq q) where
-    numbers-fit : (a b c ba bc i m : ℕ) → a < ba → c < bc → o ⊕ m ≤ N → Kinded (fill (values o n s p q 0 a b c) i m)
-        → rowsOk (values o n s p q 0 a b c) (rolesOf rn rs rp rq ba bc) i m ≡ true
-        → Each (Fits t N) o (fill (values o n s p q 0 a b c) i m)
-    numbers-fit a b c ba bc i m la lc room kinds ok =
-        rows-fit t N o (values o n s p q 0 a b c) (rolesOf rn rs rp rq ba bc) i m
-        (refl ▹ tt ▹ tt ▹ tt ▹ tt ▹ tt ▹ tt ▹ tt ▹ tt ▹ tt ▹ tt ▹ tt
-        ▹ plays nn ▹ plays ns ▹ plays np ▹ plays nq ▹ tt ▹ la ▹ tt ▹ lc ▹ refl ▹ refl ▹ refl ▹ refl ▹ refl ▹ tt)
-        room kinds ok
+  -- Rows at o, where A is below ba and C below bc.
+  module _ (v : Values) (placed : v .place ≡ o) {rn rs rp rq : Role} (gn : Given rn (v .idle)) (gs : Given rs (v .start))
+      (gp : Given rp (v .last)) (gq : Given rq (v .previous)) where
+    numbers-fit : (ba bc : ℕ) (rows : List Row) → v .a < ba → v .c < bc → o ⊕ length rows ≤ N
+        → Kinded (filled v rows) → rowsOk v (rolesOf rn rs rp rq ba bc) rows ≡ true → Each (Fits t N) o (filled v rows)
+    numbers-fit ba bc rows la lc room kinds ok = rows-fit t N o v (rolesOf rn rs rp rq ba bc) rows play room kinds ok
+      where
+        play : (x : Name) → Plays t N o (rolesOf rn rs rp rq ba bc x) (valueOf v x)
+        play Nought = refl
+        play Idle = plays gn
+        play Start = plays gs
+        play Last = plays gp
+        play Previous = plays gq
+        play Signal = tt
+        play A = la
+        play C = lc
+        play First = placed
+        play Second = ap (λ (k : ℕ). k ⊕ 1) placed
+        play Third = ap (λ (k : ℕ). k ⊕ 2) placed
+        play Fourth = ap (λ (k : ℕ). k ⊕ 3) placed
+        play Fifth = ap (λ (k : ℕ). k ⊕ 4) placed
 
-    -- Rows without numbers.
-    plain-fit : (i m : ℕ) → o ⊕ m ≤ N → Kinded (fill (values o n s p q 0 0 0 0) i m)
-        → rowsOk (values o n s p q 0 0 0 0) (rolesOf rn rs rp rq 1 1) i m ≡ true
-        → Each (Fits t N) o (fill (values o n s p q 0 0 0 0) i m)
-    plain-fit i m = numbers-fit 0 0 0 1 1 i m (omega arith) (omega arith)
+  -- Rows without numbers.
+  module _ {rn rs rp rq : Role} {n s p q : ℕ} (gn : Given rn n) (gs : Given rs s) (gp : Given rp p) (gq : Given rq q)
+    where
+      plain-fit : (rows : List Row) → o ⊕ length rows ≤ N → Kinded (filled (flowsAt o n s p q) rows)
+          → rowsOk (flowsAt o n s p q) (rolesOf rn rs rp rq 1 1) rows ≡ true
+          → Each (Fits t N) o (filled (flowsAt o n s p q) rows)
+      plain-fit rows = numbers-fit (flowsAt o n s p q) refl gn gs gp gq 1 1 rows (omega arith) (omega arith)
 
-    -- Rows with a comparison, with a literal below the cap, which is at most a million, or with a parameter.
-    compare-fit : (cap : ℕ) → cap ≤ literalCount → (op : Op) (x : Num) → numBound cap x ≡ true → (i m : ℕ) → o ⊕ m ≤ N
-        → Kinded (fill (values o n s p q 0 (opNumber op) (numKind x) (numValue x)) i m)
-        → ((c : ℕ) → rowsOk (values o n s p q 0 (opNumber op) 10 c)
-        (rolesOf rn rs rp rq opCount literalCount) i m ≡ true)
-        → ((c : ℕ) → rowsOk (values o n s p q 0 (opNumber op) 11 c)
-        (rolesOf rn rs rp rq opCount parameterCount) i m ≡ true)
-        → Each (Fits t N) o (fill (values o n s p q 0 (opNumber op) (numKind x) (numValue x)) i m)
-    compare-fit cap low op (literal c) bound i m room kinds ok ok′ =
-        numbers-fit (opNumber op) 10 c opCount literalCount i m (op-below op) (omega (arith, ltb-true c cap bound))
-        room kinds (ok c)
-    compare-fit cap low op (parameter c) bound i m room kinds ok ok′ =
-        numbers-fit (opNumber op) 11 c opCount parameterCount i m (op-below op) (ltb-true c parameterCount bound)
-        room kinds (ok′ c)
+  -- Rows with a comparison, with a literal below the cap, which is at most a million, or with a parameter.
+  module _ {rp : Role} {n p : ℕ} (bn : Before t o Boolean n) (gp : Given rp p) where
+    compare-fit : (cap : ℕ) → cap ≤ literalCount → (op : Op) (x : Num) → numBound cap x ≡ true → (rows : List Row)
+        → o ⊕ length rows ≤ N → Kinded (filled (comparing o n p op x) rows)
+        → ((c : ℕ) → rowsOk (comparing o n p op (literal c)) (rolesOf given free rp free opCount literalCount) rows
+        ≡ true)
+        → ((c : ℕ) → rowsOk (comparing o n p op (parameter c)) (rolesOf given free rp free opCount parameterCount) rows
+        ≡ true)
+        → Each (Fits t N) o (filled (comparing o n p op x) rows)
+    compare-fit cap low op (literal c) bound rows room kinds ok ok′ =
+        numbers-fit (comparing o n p op (literal c)) refl (used bn) unused gp unused opCount literalCount rows
+        (op-below op) (omega (arith, ltb-true c cap bound)) room kinds (ok c)
+    compare-fit cap low op (parameter c) bound rows room kinds ok ok′ =
+        numbers-fit (comparing o n p op (parameter c)) refl (used bn) unused gp unused opCount parameterCount rows
+        (op-below op) (ltb-true c parameterCount bound) room kinds (ok′ c)
 
   -- A comparison is boolean.
-  compare-boolean : (x : Num) → sameSort (sortOf (kindOf (numKind x))) Boolean ≡ true
+  compare-boolean : (x : Num) → sameSort (sortOf (kindOf (comparisonOf (numKind x)))) Boolean ≡ true
   unfolding kindOf shapeOf sameSort
   compare-boolean (literal n) = refl
   compare-boolean (parameter j) = refl
@@ -102,66 +126,67 @@ module _ (t : List ℕ) (N o : ℕ) where
   pub constant-fine : (c : Bool) → o ⊕ 1 ≤ N → Kinded (constant-es c o) → Fine (constant-es c o) (o ⊕ 1) o
   unfolding all kindOf shapeOf sameSort
   constant-fine c room k = (
-    numbers-fit unused unused unused unused (truth c) 0 0 truthCount 1 0 1 (truth-below c) (omega arith) room k refl,
-    here o 2 (k .0) refl,
+    numbers-fit (constantAt o c) refl unused unused unused unused truthCount 1 constantRows (truth-below c) (omega arith)
+        room k refl,
+    here o CONSTANT (k .0) refl,
   )
 
   pub not-fine : {p : ℕ} → Before t o Boolean p → o ⊕ 1 ≤ N → Kinded (not-es o p) → Fine (not-es o p) (o ⊕ 1) o
   unfolding all kindOf shapeOf sameSort
-  not-fine p room k = (plain-fit unused unused (used p) unused 1 1 room k refl, here o 3 (k .0) refl)
+  not-fine p room k = (plain-fit unused unused (used p) unused notRows room k refl, here o NOT (k .0) refl)
 
   module _ {q p : ℕ} (bq : Before t o Boolean q) (bp : Before t o Boolean p) where
     pub and-fine : o ⊕ 1 ≤ N → Kinded (and-es o q p) → Fine (and-es o q p) (o ⊕ 1) o
     unfolding all kindOf shapeOf sameSort
-    and-fine room k = (plain-fit unused unused (used bp) (used bq) 2 1 room k refl, here o 4 (k .0) refl)
+    and-fine room k = (plain-fit unused unused (used bp) (used bq) andRows room k refl, here o AND (k .0) refl)
 
     pub or-fine : o ⊕ 1 ≤ N → Kinded (or-es o q p) → Fine (or-es o q p) (o ⊕ 1) o
     unfolding all kindOf shapeOf sameSort
-    or-fine room k = (plain-fit unused unused (used bp) (used bq) 3 1 room k refl, here o 5 (k .0) refl)
+    or-fine room k = (plain-fit unused unused (used bp) (used bq) orRows room k refl, here o OR (k .0) refl)
 
   -- The start flow s, its negation n, and the flow p of a proposition.
   module _ {s n p : ℕ} (bs : Before t o Boolean s) (bn : Before t o Boolean n) (bp : Before t o Boolean p) where
     pub begin-fine : o ⊕ 4 ≤ N → Kinded (begin-es s n o p) → Fine (begin-es s n o p) (o ⊕ 4) (o ⊕ 3)
     unfolding all kindOf shapeOf sameSort
     begin-fine room k =
-        (plain-fit (used bn) (used bs) (used bp) unused 4 4 room k refl, here (o ⊕ 3) 5 (k .1 .1 .1 .0) refl)
+        (plain-fit (used bn) (used bs) (used bp) unused beginRows room k refl, here (o ⊕ 3) OR (k .1 .1 .1 .0) refl)
 
     pub point-fine : o ⊕ 1 ≤ N → Kinded (point-es s o p) → Fine (point-es s o p) (o ⊕ 1) o
     unfolding all kindOf shapeOf sameSort
-    point-fine room k = (plain-fit unused (used bs) (used bp) unused 8 1 room k refl, here o 4 (k .0) refl)
+    point-fine room k = (plain-fit unused (used bs) (used bp) unused pointRows room k refl, here o AND (k .0) refl)
 
     pub kept-fine : o ⊕ 3 ≤ N → Kinded (kept-es s o p) → Fine (kept-es s o p) (o ⊕ 3) (o ⊕ 1)
     unfolding all kindOf shapeOf sameSort
     kept-fine room k = (
-      plain-fit unused (used bs) (used bp) unused 9 3 room k refl,
-      later (here (o ⊕ 1) 5 (k .1 .0) refl) (omega arith),
+      plain-fit unused (used bs) (used bp) unused keptRows room k refl,
+      later (here (o ⊕ 1) OR (k .1 .0) refl) (omega arith),
     )
 
     pub held-fine : o ⊕ 4 ≤ N → Kinded (held-es s n o p) → Fine (held-es s n o p) (o ⊕ 4) (o ⊕ 3)
     unfolding all kindOf shapeOf sameSort
     held-fine room k =
-        (plain-fit (used bn) (used bs) (used bp) unused 9 4 room k refl, here (o ⊕ 3) 4 (k .1 .1 .1 .0) refl)
+        (plain-fit (used bn) (used bs) (used bp) unused heldRows room k refl, here (o ⊕ 3) AND (k .1 .1 .1 .0) refl)
 
     module _ (cap : ℕ) (low : cap ≤ literalCount) (op : Op) (x : Num) (bound : numBound cap x ≡ true) where
       pub len-fine : o ⊕ 4 ≤ N → Kinded (len-es n o op x) → Fine (len-es n o op x) (o ⊕ 4) (o ⊕ 3)
       unfolding all kindOf shapeOf sameSort
       len-fine room k = (
-        compare-fit (used bn) unused unused unused cap low op x bound 13 4 room k (λ c. refl) (λ c. refl),
-        here (o ⊕ 3) (numKind x) (k .1 .1 .1 .0) (compare-boolean x),
+        compare-fit bn unused cap low op x bound lenRows room k (λ c. refl) (λ c. refl),
+        here (o ⊕ 3) (comparisonOf (numKind x)) (k .1 .1 .1 .0) (compare-boolean x),
       )
 
       pub sum-fine : o ⊕ 4 ≤ N → Kinded (sum-es n op x o p) → Fine (sum-es n op x o p) (o ⊕ 4) (o ⊕ 3)
       unfolding all kindOf shapeOf sameSort
       sum-fine room k = (
-        compare-fit (used bn) unused (used bp) unused cap low op x bound 17 4 room k (λ c. refl) (λ c. refl),
-        here (o ⊕ 3) (numKind x) (k .1 .1 .1 .0) (compare-boolean x),
+        compare-fit bn (used bp) cap low op x bound sumRows room k (λ c. refl) (λ c. refl),
+        here (o ⊕ 3) (comparisonOf (numKind x)) (k .1 .1 .1 .0) (compare-boolean x),
       )
 
       pub age-fine : o ⊕ 5 ≤ N → Kinded (age-es n op x o p) → Fine (age-es n op x o p) (o ⊕ 5) (o ⊕ 4)
       unfolding all kindOf shapeOf sameSort
       age-fine room k = (
-        compare-fit (used bn) unused (used bp) unused cap low op x bound 21 5 room k (λ c. refl) (λ c. refl),
-        here (o ⊕ 4) (numKind x) (k .1 .1 .1 .1 .0) (compare-boolean x),
+        compare-fit bn (used bp) cap low op x bound ageRows room k (λ c. refl) (λ c. refl),
+        here (o ⊕ 4) (comparisonOf (numKind x)) (k .1 .1 .1 .1 .0) (compare-boolean x),
       )
 
   -- The end of the lead p: flows 3 and 4 are the second part's start and its negation.
@@ -170,10 +195,10 @@ module _ (t : List ℕ) (N o : ℕ) where
   unfolding all kindOf shapeOf sameSort
   lead-end-fine bn bp room k = (
     (
-      plain-fit (used bn) unused (used bp) unused 26 5 room k refl,
-      later (here (o ⊕ 3) 4 (k .1 .1 .1 .0) refl) (omega arith),
+      plain-fit (used bn) unused (used bp) unused leadEndRows room k refl,
+      later (here (o ⊕ 3) AND (k .1 .1 .1 .0) refl) (omega arith),
     ),
-    here (o ⊕ 4) 3 (k .1 .1 .1 .1 .0) refl,
+    here (o ⊕ 4) NOT (k .1 .1 .1 .1 .0) refl,
   )
 
   -- What follows the second part p, whose start is s.
@@ -181,11 +206,11 @@ module _ (t : List ℕ) (N o : ℕ) where
       → Kinded (then-es n o s p) → Fine (then-es n o s p) (o ⊕ 4) (o ⊕ 3)
   unfolding all kindOf shapeOf sameSort
   rest-fine bn bs bp room k =
-      (plain-fit unused (used bs) (used bp) (used bn) 31 4 room k refl, here (o ⊕ 3) 4 (k .1 .1 .1 .0) refl)
+      (plain-fit unused (used bs) (used bp) (used bn) thenRows room k refl, here (o ⊕ 3) AND (k .1 .1 .1 .0) refl)
 
   -- The closing rows, for the start flow s and the formula's result p.
   pub whole-fine : {s p : ℕ} → Before t o Boolean s → Before t o Boolean p → o ⊕ 4 ≤ N → Kinded (whole-es s o p)
       → Fine (whole-es s o p) (o ⊕ 4) (o ⊕ 3)
   unfolding all kindOf shapeOf sameSort
   whole-fine bs bp room k =
-      (plain-fit unused (used bs) (used bp) unused 35 4 room k refl, here (o ⊕ 3) 5 (k .1 .1 .1 .0) refl)
+      (plain-fit unused (used bs) (used bp) unused wholeRows room k refl, here (o ⊕ 3) OR (k .1 .1 .1 .0) refl)

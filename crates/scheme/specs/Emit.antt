@@ -5,7 +5,7 @@ use mathlib.Core.Bool.{Bool, true, false, _||_, cond}
 use mathlib.Core.List.{List, [], _∷_, _++_}
 use Prim.Native.Nat.{ℕ, zero, suc}
 use lib.Dec.{eqb}
-use lib.ListN.{getD}
+use lib.ListN.{getD, length}
 use Rattle.traces.specs.Trace.{truth}
 use Rattle.traces.specs.Compare.{Op, opNumber}
 use Rattle.formulas.specs.Formula.{Num, Prop, Formula}
@@ -15,7 +15,16 @@ use Rattle.formulas.specs.Formula.Count.{sum, age}
 use Rattle.formulas.specs.Formula.Formula.{test, len, count, neg, and, or, then}
 use Rattle.formulas.specs.Arena.{numKind, numValue}
 use Rattle.tables.specs.Table.{Equation}
-use Rattle.scheme.specs.Scheme.{_⊕_, equation, fill, values}
+use Rattle.tables.specs.Kind.{SIGNAL, START, NOT}
+use Rattle.limits.specs.Limits.{signalCount}
+use Rattle.scheme.specs.Scheme.{_⊕_, equation, constantRows, notRows, andRows, orRows, beginRows, pointRows}
+use Rattle.scheme.specs.Scheme.{keptRows, heldRows, lenRows, sumRows, ageRows, leadEndRows, thenRows, wholeRows}
+use Rattle.scheme.specs.Scheme.{Node, constantNode, notNode, andNode, beginNode, pointNode, heldNode}
+use Rattle.scheme.specs.Scheme.{keptNode, lenNode, sumNode, ageNode, leadEndNode, thenNode, valueOf, comparisonOf}
+use Rattle.scheme.specs.Scheme.{filled}
+use Rattle.scheme.specs.declared.Name.{Name}
+use Rattle.scheme.specs.declared.Name.the-variants.{Fourth}
+use Rattle.scheme.specs.declared.Values.{Values}
 
 -- A block of equations, and the flow that is its result.
 pub record Block : Type 0 where
@@ -27,101 +36,148 @@ abbrev pub after : ℕ → List Equation → ℕ
 after o [] = o
 after o (e ∷ es) = after (suc o) es
 
--- The rows of each node, from place o on. s and n are the start flow and its negation, p the flow of its proposition
--- or operand, q that of the operand before it.
+-- ---- the rows of each node, from place o on
+
+-- The values at a node: its place, the negated start flow, the start flow, the last operand and the one before it.
+abbrev pub flowsAt : (place idle start last previous : ℕ) → Values
+flowsAt o n s p q =
+    record { place = o; idle = n; start = s; last = p; previous = q; signal = 0; a = 0; comparison = 0; c = 0 }
+
+-- The values at a comparison of a count with x.
+abbrev pub comparing : (place idle last : ℕ) → Op → Num → Values
+comparing o n p op x =
+    record {
+      place = o;
+      idle = n;
+      start = 0;
+      last = p;
+      previous = 0;
+      signal = 0;
+      a = opNumber op;
+      comparison = comparisonOf (numKind x);
+      c = numValue x;
+    }
+
+-- The value at a constant.
+abbrev pub constantAt : ℕ → Bool → Values
+constantAt o c =
+    record { place = o; idle = 0; start = 0; last = 0; previous = 0; signal = 0; a = truth c; comparison = 0; c = 0 }
+
+-- s and n are the start flow and its negation, p the flow of the node's proposition or operand, q that of the operand
+-- before it.
 abbrev pub constant-es : Bool → ℕ → List Equation
-constant-es c o = fill (values o 0 0 0 0 0 (truth c) 0 0) 0 1
+constant-es c o = filled (constantAt o c) constantRows
 
 abbrev pub not-es : ℕ → ℕ → List Equation
-not-es o p = fill (values o 0 0 p 0 0 0 0 0) 1 1
+not-es o p = filled (flowsAt o 0 0 p 0) notRows
 
 abbrev pub and-es : ℕ → ℕ → ℕ → List Equation
-and-es o q p = fill (values o 0 0 p q 0 0 0 0) 2 1
+and-es o q p = filled (flowsAt o 0 0 p q) andRows
 
 abbrev pub or-es : ℕ → ℕ → ℕ → List Equation
-or-es o q p = fill (values o 0 0 p q 0 0 0 0) 3 1
+or-es o q p = filled (flowsAt o 0 0 p q) orRows
 
 abbrev pub begin-es : ℕ → ℕ → ℕ → ℕ → List Equation
-begin-es s n o p = fill (values o n s p 0 0 0 0 0) 4 4
+begin-es s n o p = filled (flowsAt o n s p 0) beginRows
 
 abbrev pub point-es : ℕ → ℕ → ℕ → List Equation
-point-es s o p = fill (values o 0 s p 0 0 0 0 0) 8 1
+point-es s o p = filled (flowsAt o 0 s p 0) pointRows
 
 abbrev pub kept-es : ℕ → ℕ → ℕ → List Equation
-kept-es s o p = fill (values o 0 s p 0 0 0 0 0) 9 3
+kept-es s o p = filled (flowsAt o 0 s p 0) keptRows
 
 abbrev pub held-es : ℕ → ℕ → ℕ → ℕ → List Equation
-held-es s n o p = fill (values o n s p 0 0 0 0 0) 9 4
+held-es s n o p = filled (flowsAt o n s p 0) heldRows
 
 abbrev pub len-es : ℕ → ℕ → Op → Num → List Equation
-len-es n o op x = fill (values o n 0 0 0 0 (opNumber op) (numKind x) (numValue x)) 13 4
+len-es n o op x = filled (comparing o n 0 op x) lenRows
 
 abbrev pub sum-es : ℕ → Op → Num → ℕ → ℕ → List Equation
-sum-es n op x o p = fill (values o n 0 p 0 0 (opNumber op) (numKind x) (numValue x)) 17 4
+sum-es n op x o p = filled (comparing o n p op x) sumRows
 
 abbrev pub age-es : ℕ → Op → Num → ℕ → ℕ → List Equation
-age-es n op x o p = fill (values o n 0 p 0 0 (opNumber op) (numKind x) (numValue x)) 21 5
+age-es n op x o p = filled (comparing o n p op x) ageRows
 
--- The end of the lead l: flow 3 of these is the second part's start, 4 its negation.
+-- The end of the lead l: the fourth of these flows is the second part's start, the fifth its negation.
 abbrev pub lead-end-es : ℕ → ℕ → ℕ → List Equation
-lead-end-es n o l = fill (values o n 0 l 0 0 0 0 0) 26 5
+lead-end-es n o l = filled (flowsAt o n 0 l 0) leadEndRows
 
 -- The second part has run since its start s′; its result is f.
 abbrev pub then-es : ℕ → ℕ → ℕ → ℕ → List Equation
-then-es n o s′ f = fill (values o 0 s′ f n 0 0 0 0) 31 4
+then-es n o s′ f = filled (flowsAt o 0 s′ f n) thenRows
 
 -- Started, with its memory, and the verdict.
 abbrev pub whole-es : ℕ → ℕ → ℕ → List Equation
-whole-es s o v = fill (values o 0 s v 0 0 0 0 0) 35 4
+whole-es s o v = filled (flowsAt o 0 s v 0) wholeRows
 
 -- ---- blocks
 
-abbrev pub not-block : ℕ → Block → Block
-not-block o x = record { es = x .es ++ not-es (after o (x .es)) (x .out); out = after o (x .es) }
+-- One of a node's own flows, the node's first equation at place o.
+abbrev pub ownFlow : ℕ → Name → ℕ
+ownFlow o x = valueOf (flowsAt o 0 0 0 0) x
 
--- Two blocks, the second after the first, and the rows that join them.
+abbrev pub not-block : ℕ → Block → Block
+not-block o x =
+    let o′ : ℕ = after o (x .es) in
+    record { es = x .es ++ not-es o′ (x .out); out = ownFlow o′ (notNode .result) }
+
+-- Two blocks, the second after the first, and the row that joins them: of `&`, and of `|` with the same result.
 abbrev pub join-block : (ℕ → ℕ → ℕ → List Equation) → ℕ → Block → Block → Block
 join-block join o x y =
     let o′ : ℕ = after (after o (x .es)) (y .es) in
-    record { es = x .es ++ (y .es ++ join o′ (x .out) (y .out)); out = o′ }
+    record { es = x .es ++ (y .es ++ join o′ (x .out) (y .out)); out = ownFlow o′ (andNode .result) }
 
--- An atom over a proposition's block: the result is flow k of its rows.
-abbrev pub atom-block : (ℕ → ℕ → List Equation) → ℕ → ℕ → Block → Block
-atom-block rest k o x = record { es = x .es ++ rest (after o (x .es)) (x .out); out = after o (x .es) ⊕ k }
+-- An atom over a proposition's block.
+abbrev pub atom-block : (ℕ → ℕ → List Equation) → Node → ℕ → Block → Block
+atom-block rest d o x =
+    let o′ : ℕ = after o (x .es) in
+    record { es = x .es ++ rest o′ (x .out); out = ownFlow o′ (d .result) }
+
+-- The start flow of a second part and its negation, where the end of its lead stands at place o, and the place after
+-- that.
+abbrev pub secondStart : ℕ → ℕ
+secondStart o = ownFlow o Fourth
+
+abbrev pub secondIdle : ℕ → ℕ
+secondIdle o = ownFlow o (leadEndNode .idle)
+
+abbrev pub secondPlace : ℕ → ℕ
+secondPlace o = o ⊕ length leadEndRows
 
 -- A `then`: o′ is the place after the lead x.
 abbrev pub then-block : ℕ → ℕ → Block → Block → Block
 then-block n o′ x y =
+    let o″ : ℕ = after (secondPlace o′) (y .es) in
     record {
-      es = x .es ++ (lead-end-es n o′ (x .out) ++ (y .es ++ then-es n (after (o′ ⊕ 5) (y .es)) (o′ ⊕ 3) (y .out)));
-      out = after (o′ ⊕ 5) (y .es) ⊕ 3;
+      es = x .es ++ (lead-end-es n o′ (x .out) ++ (y .es ++ then-es n o″ (secondStart o′) (y .out)));
+      out = ownFlow o″ (thenNode .result);
     }
 
 -- The equations of a proposition and of a formula from place o on. flowOf has the flow of each signal; s and n are the
 -- start flow of the formula's interval and its negation.
 module _ (flowOf : ℕ → ℕ) where
   abbrev pub emitP : Prop → ℕ → Block
-  emitP (constant c) o = record { es = constant-es c o; out = o }
+  emitP (constant c) o = record { es = constant-es c o; out = ownFlow o (constantNode .result) }
   emitP (signal j) o = record { es = []; out = flowOf j }
   emitP (negP p) o = not-block o (emitP p o)
   emitP (andP p q) o = join-block and-es o (emitP p o) (emitP q (after o (emitP p o .es)))
   emitP (orP p q) o = join-block or-es o (emitP p o) (emitP q (after o (emitP p o .es)))
 
   abbrev pub emit : Formula → ℕ → ℕ → ℕ → Block
-  emit (test begin p) s n o = atom-block (begin-es s n) 3 o (emitP p o)
+  emit (test begin p) s n o = atom-block (begin-es s n) beginNode o (emitP p o)
   emit (test end p) s n o = emitP p o
-  emit (test point p) s n o = atom-block (point-es s) 0 o (emitP p o)
-  emit (test held p) s n o = atom-block (held-es s n) 3 o (emitP p o)
-  emit (test kept p) s n o = atom-block (kept-es s) 1 o (emitP p o)
-  emit (len op x) s n o = record { es = len-es n o op x; out = o ⊕ 3 }
-  emit (count sum p op x) s n o = atom-block (sum-es n op x) 3 o (emitP p o)
-  emit (count age p op x) s n o = atom-block (age-es n op x) 4 o (emitP p o)
+  emit (test point p) s n o = atom-block (point-es s) pointNode o (emitP p o)
+  emit (test held p) s n o = atom-block (held-es s n) heldNode o (emitP p o)
+  emit (test kept p) s n o = atom-block (kept-es s) keptNode o (emitP p o)
+  emit (len op x) s n o = record { es = len-es n o op x; out = ownFlow o (lenNode .result) }
+  emit (count sum p op x) s n o = atom-block (sum-es n op x) sumNode o (emitP p o)
+  emit (count age p op x) s n o = atom-block (age-es n op x) ageNode o (emitP p o)
   emit (neg f) s n o = not-block o (emit f s n o)
   emit (and f g) s n o = join-block and-es o (emit f s n o) (emit g s n (after o (emit f s n o .es)))
   emit (or f g) s n o = join-block or-es o (emit f s n o) (emit g s n (after o (emit f s n o .es)))
   emit (then l f) s n o =
       let o′ : ℕ = after o (emit l s n o .es) in
-      then-block n o′ (emit l s n o) (emit f (o′ ⊕ 3) (o′ ⊕ 4) (o′ ⊕ 5))
+      then-block n o′ (emit l s n o) (emit f (secondStart o′) (secondIdle o′) (secondPlace o′))
 
 -- ---- the named signals
 
@@ -145,7 +201,7 @@ names (then f g) j = names f j || names g j
 -- The equations of the named ones among the m signals from j on, by rising number.
 abbrev pub signals : (ℕ → Bool) → ℕ → ℕ → List Equation
 signals named j zero = []
-signals named j (suc m) = cond (named j) (equation 0 j 0 0 ∷ signals named (suc j) m) (signals named (suc j) m)
+signals named j (suc m) = cond (named j) (equation SIGNAL j 0 0 ∷ signals named (suc j) m) (signals named (suc j) m)
 
 -- The flow of each of these signals, where signal j's stands at o if it is named.
 abbrev pub places : (ℕ → Bool) → ℕ → ℕ → ℕ → List ℕ
@@ -153,11 +209,11 @@ places named j o zero = []
 places named j o (suc m) = o ∷ places named (suc j) (cond (named j) (suc o) o) m
 
 abbrev pub flowIn : (ℕ → Bool) → ℕ → ℕ
-flowIn named j = getD (places named 0 2 64) j 0
+flowIn named j = getD (places named 0 2 signalCount) j 0
 
 -- Start flow, its negation, named signals.
 abbrev pub header : (ℕ → Bool) → List Equation
-header named = equation 1 0 0 0 ∷ equation 3 0 0 0 ∷ signals named 0 64
+header named = equation START 0 0 0 ∷ equation NOT 0 0 0 ∷ signals named 0 signalCount
 
 -- ---- the observer
 

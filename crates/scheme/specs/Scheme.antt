@@ -1,10 +1,23 @@
--- The observer scheme as rows: for each kind of node the equations that it adds, with named places for the numbers
--- that differ from node to node. The emitter (specs/Emit.antt) and the compiler's code go by this one list.
+-- The observer scheme: for each node the rows that it adds. A row is an equation whose numbers are names, since they
+-- differ from node to node. The observer of a formula (specs/Emit.antt) and the compiler's code go by these nodes.
 -- Definitions only.
-use mathlib.Core.List.{List, [], _∷_}
+use mathlib.Core.Bool.{cond}
+use mathlib.Core.List.{List, [], _∷_, _++_}
 use Prim.Native.Nat.{ℕ, zero, suc}
-use lib.ListN.{getD}
+use lib.Dec.{eqb}
+use lib.ListN.{getD, length}
+use Rattle.formulas.specs.Arena.{LITERAL}
 use Rattle.tables.specs.Table.{Equation}
+use Rattle.tables.specs.Kind.{CONSTANT, NOT, AND, OR, BOOLEAN-PRE, COUNT-PRE, CAPPED, IF}
+use Rattle.tables.specs.Kind.{COMPARE-LITERAL, COMPARE-PARAMETER}
+use Rattle.scheme.specs.declared.Name.{Name}
+use Rattle.scheme.specs.declared.Name.the-variants.{Nought, Idle, Start, Last, Previous, Signal, A, C}
+use Rattle.scheme.specs.declared.Name.the-variants.{First, Second, Third, Fourth, Fifth}
+use Rattle.scheme.specs.declared.RowKind.{RowKind}
+use Rattle.scheme.specs.declared.RowKind.the-variants.{Plain, Comparison}
+use Rattle.scheme.specs.declared.Row.{Row}
+use Rattle.scheme.specs.declared.Node.{Node as CodeNode}
+use Rattle.scheme.specs.declared.Values.{Values}
 
 -- o ⊕ k is o + k, by recursion on k: it computes where k is a numeral.
 infixl 65 _⊕_
@@ -15,119 +28,214 @@ o ⊕ suc k = suc (o ⊕ k)
 abbrev pub equation : ℕ → ℕ → ℕ → ℕ → Equation
 equation k a b c = record { kind = k; a = a; b = b; c = c }
 
--- What a number of a row names: below 12 itself; then the negated start flow, the start flow, the last operand and the
--- one before it, the flow of signal A, the numbers A, B, C of the node's record, and the place of the node's first
--- equation with the next four.
-abbrev pub N : ℕ
-N = 12
+-- ---- rows
 
-abbrev pub S : ℕ
-S = 13
+abbrev pub row : RowKind → Name → Name → Name → Row
+row k a b c = record { 0 = k; 1 = a; 2 = b; 3 = c }
 
-abbrev pub P : ℕ
-P = 14
+-- An equation of that kind with one operand, and with two.
+abbrev pub one : ℕ → Name → Row
+one k a = row (Plain k) a Nought Nought
 
-abbrev pub Q : ℕ
-Q = 15
+abbrev pub two : ℕ → Name → Name → Row
+two k a b = row (Plain k) a b Nought
 
-abbrev pub SIGNAL : ℕ
-SIGNAL = 16
+-- The comparison of a count with the record's literal or parameter.
+abbrev pub compared : Name → Row
+compared a = row Comparison a A C
 
-abbrev pub A : ℕ
-A = 17
+-- The rows of each node. s and n are the start flow and its negation, P the last operand, m a memory.
+abbrev pub constantRows : List Row
+constantRows = one CONSTANT A ∷ []
 
-abbrev pub B : ℕ
-B = 18
+abbrev pub notRows : List Row
+notRows = one NOT Last ∷ []
 
-abbrev pub C : ℕ
-C = 19
+abbrev pub andRows : List Row
+andRows = two AND Previous Last ∷ []
 
-abbrev pub O : ℕ
-O = 20
+abbrev pub orRows : List Row
+orRows = two OR Previous Last ∷ []
 
-abbrev pub O1 : ℕ
-O1 = 21
+-- v = (s and P) or (n and m), m = false -> pre v
+abbrev pub beginRows : List Row
+beginRows = one BOOLEAN-PRE Fourth ∷ two AND Start Last ∷ two AND Idle First ∷ two OR Second Third ∷ []
 
-abbrev pub O2 : ℕ
-O2 = 22
+-- s and P
+abbrev pub pointRows : List Row
+pointRows = two AND Start Last ∷ []
 
-abbrev pub O3 : ℕ
-O3 = 23
+-- k = s or m, m = false -> pre (k and P)
+abbrev pub keptRows : List Row
+keptRows = one BOOLEAN-PRE Third ∷ two OR Start First ∷ two AND Second Last ∷ []
 
-abbrev pub O4 : ℕ
-O4 = 24
+-- and n and m
+abbrev pub heldRows : List Row
+heldRows = keptRows ++ (two AND Idle First ∷ [])
 
--- The rows. Kinds: 2 constant, 3 not, 4 and, 5 or, 6 pre of a boolean, 7 pre of a count, 8 cap, 9 if; B as a kind is
--- the comparison with a literal or a parameter.
-abbrev pub rows : List Equation
-rows =
-    -- 0, a constant; 1, not; 2, and; 3, or
-    equation 2 A 0 0
-    ∷ equation 3 P 0 0
-    ∷ equation 4 Q P 0
-    ∷ equation 5 Q P 0
-    -- 4, begin: v = (s and P) or (n and m), m = false -> pre v
-    ∷ equation 6 O3 0 0
-    ∷ equation 4 S P 0
-    ∷ equation 4 N O 0
-    ∷ equation 5 O1 O2 0
-    -- 8, point: s and P
-    ∷ equation 4 S P 0
-    -- 9, kept: k = s or m, m = false -> pre (k and P); with the fourth, held: n and m
-    ∷ equation 6 O2 0 0
-    ∷ equation 5 S O 0
-    ∷ equation 4 O1 P 0
-    ∷ equation 4 N O 0
-    -- 13, len: c = if n then cap(m, n) else 0, m = 0 -> pre c
-    ∷ equation 7 O2 0 0
-    ∷ equation 8 O N 0
-    ∷ equation 9 N O1 0
-    ∷ equation B O2 A C
-    -- 17, sum: c = if n then m else 0, m = 0 -> pre cap(c, P)
-    ∷ equation 7 O2 0 0
-    ∷ equation 9 N O 0
-    ∷ equation 8 O1 P 0
-    ∷ equation B O1 A C
-    -- 21, age: c = if P then cap(if n then m else 0, P) else 0, m = 0 -> pre c
-    ∷ equation 7 O3 0 0
-    ∷ equation 9 N O 0
-    ∷ equation 8 O1 P 0
-    ∷ equation 9 P O2 0
-    ∷ equation B O3 A C
-    -- 26, the end of the lead l: n and pre(l) and not l; the last is its negation
-    ∷ equation 6 P 0 0
-    ∷ equation 3 P 0 0
-    ∷ equation 4 N O 0
-    ∷ equation 4 O2 O1 0
-    ∷ equation 3 O3 0 0
-    -- 31, then: running r = n and (s' or pre r); r and f
-    ∷ equation 6 O2 0 0
-    ∷ equation 5 S O 0
-    ∷ equation 4 Q O1 0
-    ∷ equation 4 O2 P 0
-    -- 35, the whole rule: started = s or pre started; verdict = (not started) or v
-    ∷ equation 6 O1 0 0
-    ∷ equation 5 S O 0
-    ∷ equation 3 O1 0 0
-    ∷ equation 5 O2 P 0
-    ∷ []
+-- c = if n then cap(m, n) else 0, m = 0 -> pre c
+abbrev pub lenRows : List Row
+lenRows = one COUNT-PRE Third ∷ two CAPPED First Idle ∷ two IF Idle Second ∷ compared Third ∷ []
 
--- Row i.
-abbrev pub rowAt : ℕ → Equation
-rowAt i = getD rows i (equation 0 0 0 0)
+-- c = if n then m else 0, m = 0 -> pre cap(c, P)
+abbrev pub sumRows : List Row
+sumRows = one COUNT-PRE Third ∷ two IF Idle First ∷ two CAPPED Second Last ∷ compared Second ∷ []
 
--- A row with its names looked up among the values.
-abbrev pub resolved : List ℕ → Equation → Equation
-resolved vs e = equation (getD vs (e .kind) 0) (getD vs (e .a) 0) (getD vs (e .b) 0) (getD vs (e .c) 0)
+-- c = if P then cap(if n then m else 0, P) else 0, m = 0 -> pre c
+abbrev pub ageRows : List Row
+ageRows =
+    one COUNT-PRE Fourth ∷ two IF Idle First ∷ two CAPPED Second Last ∷ two IF Last Third ∷ compared Fourth ∷ []
 
--- The n equations from row i on.
-abbrev pub fill : List ℕ → ℕ → ℕ → List Equation
-fill vs i zero = []
-fill vs i (suc n) = resolved vs (rowAt i) ∷ fill vs (suc i) n
+-- the end of the lead P: n and pre(P) and not P; the last is its negation
+abbrev pub leadEndRows : List Row
+leadEndRows =
+    one BOOLEAN-PRE Last ∷ one NOT Last ∷ two AND Idle First ∷ two AND Third Second ∷ one NOT Fourth ∷ []
 
--- The values that the names stand for: o the place of the node's first equation, n and s the negated start flow and
--- the start flow, p and q the last operand and the one before it, f the flow of signal a, and the record's numbers.
-abbrev pub values : ℕ → ℕ → ℕ → ℕ → ℕ → ℕ → ℕ → ℕ → ℕ → List ℕ
-values o n s p q f a b c =
-    0 ∷ 1 ∷ 2 ∷ 3 ∷ 4 ∷ 5 ∷ 6 ∷ 7 ∷ 8 ∷ 9 ∷ 10 ∷ 11 ∷ n ∷ s ∷ p ∷ q ∷ f ∷ a ∷ b ∷ c
-    ∷ o ∷ (o ⊕ 1) ∷ (o ⊕ 2) ∷ (o ⊕ 3) ∷ (o ⊕ 4) ∷ []
+-- running r = n and (s′ or pre r); r and P. The start is the second part's, n waited on the stack.
+abbrev pub thenRows : List Row
+thenRows = one BOOLEAN-PRE Third ∷ two OR Start First ∷ two AND Previous Second ∷ two AND Third Last ∷ []
+
+-- started = s or pre started; verdict = (not started) or P
+abbrev pub wholeRows : List Row
+wholeRows = one BOOLEAN-PRE Second ∷ two OR Start First ∷ one NOT Second ∷ two OR Third Last ∷ []
+
+-- The most rows that a node has.
+abbrev pub widest : ℕ
+widest = 5
+
+-- ---- nodes
+
+-- A node: its rows, how many operands it takes off the stack, which value it leaves there, and which value is the
+-- negated start flow from here on.
+pub record Node : Type 0 where
+  pub rows : List Row
+  pub takes : ℕ
+  pub result : Name
+  pub idle : Name
+
+abbrev pub node : List Row → ℕ → Name → Name → Node
+node rows takes result idle = record { rows = rows; takes = takes; result = result; idle = idle }
+
+abbrev pub constantNode : Node
+constantNode = node constantRows 0 First Idle
+
+abbrev pub signalNode : Node
+signalNode = node [] 0 Signal Idle
+
+abbrev pub notNode : Node
+notNode = node notRows 1 First Idle
+
+abbrev pub andNode : Node
+andNode = node andRows 2 First Idle
+
+abbrev pub orNode : Node
+orNode = node orRows 2 First Idle
+
+abbrev pub beginNode : Node
+beginNode = node beginRows 1 Fourth Idle
+
+abbrev pub endNode : Node
+endNode = node [] 1 Last Idle
+
+abbrev pub pointNode : Node
+pointNode = node pointRows 1 First Idle
+
+abbrev pub heldNode : Node
+heldNode = node heldRows 1 Fourth Idle
+
+abbrev pub keptNode : Node
+keptNode = node keptRows 1 Second Idle
+
+abbrev pub lenNode : Node
+lenNode = node lenRows 0 Fourth Idle
+
+abbrev pub sumNode : Node
+sumNode = node sumRows 1 Fourth Idle
+
+abbrev pub ageNode : Node
+ageNode = node ageRows 1 Fifth Idle
+
+-- The end of a lead is the start of the second part: the present start waits on the stack until `then` takes it back.
+abbrev pub leadEndNode : Node
+leadEndNode = node leadEndRows 1 Idle Fifth
+
+abbrev pub thenNode : Node
+thenNode = node thenRows 2 Fourth Previous
+
+abbrev pub wholeNode : Node
+wholeNode = node wholeRows 1 Fourth Idle
+
+-- In the order of the kinds of records (formulas, specs/Arena.antt), the whole rule's last.
+abbrev pub nodes : List Node
+nodes =
+    constantNode ∷ signalNode ∷ notNode ∷ andNode ∷ orNode
+    ∷ beginNode ∷ endNode ∷ pointNode ∷ heldNode ∷ keptNode
+    ∷ lenNode ∷ sumNode ∷ ageNode ∷ leadEndNode ∷ thenNode ∷ wholeNode ∷ []
+
+abbrev pub nodeCount : ℕ
+nodeCount = 16
+
+-- The node of that kind of record; none past the last.
+abbrev pub noNode : Node
+noNode = node [] 0 Nought Nought
+
+unfoldable pub nodeOf : ℕ → Node
+nodeOf k = getD nodes k noNode
+
+-- ---- values
+
+-- What a name stands for.
+abbrev pub valueOf : Values → Name → ℕ
+valueOf v Nought = 0
+valueOf v Idle = v .idle
+valueOf v Start = v .start
+valueOf v Last = v .last
+valueOf v Previous = v .previous
+valueOf v Signal = v .signal
+valueOf v A = v .a
+valueOf v C = v .c
+valueOf v First = v .place
+valueOf v Second = v .place ⊕ 1
+valueOf v Third = v .place ⊕ 2
+valueOf v Fourth = v .place ⊕ 3
+valueOf v Fifth = v .place ⊕ 4
+
+abbrev pub kindFor : Values → RowKind → ℕ
+kindFor v (Plain k) = k
+kindFor v Comparison = v .comparison
+
+-- The kind of equation that compares with a literal or with a parameter, as a record says it.
+abbrev pub comparisonOf : ℕ → ℕ
+comparisonOf b = cond (eqb b LITERAL) COMPARE-LITERAL COMPARE-PARAMETER
+
+-- A row's equation, and those of rows.
+abbrev pub resolved : Values → Row → Equation
+resolved v r = equation (kindFor v (r .0)) (valueOf v (r .1)) (valueOf v (r .2)) (valueOf v (r .3))
+
+abbrev pub filled : Values → List Row → List Equation
+filled v [] = []
+filled v (r ∷ rs) = resolved v r ∷ filled v rs
+
+-- ---- as the code has them
+
+-- Row i, and one that nothing asks for past the last.
+abbrev pub noRow : Row
+noRow = one 0 Nought
+
+abbrev pub rowAt : List Row → ℕ → Row
+rowAt rs i = getD rs i noRow
+
+-- A node with five rows, of which the first `count` are its own.
+abbrev pub asNode : Node → CodeNode
+asNode d =
+    record {
+      count = length (d .rows);
+      takes = d .takes;
+      result = d .result;
+      idle = d .idle;
+      first = rowAt (d .rows) 0;
+      second = rowAt (d .rows) 1;
+      third = rowAt (d .rows) 2;
+      fourth = rowAt (d .rows) 3;
+      fifth = rowAt (d .rows) 4;
+    }

@@ -1,0 +1,14 @@
+-- `scheme::comparison_of` meets its contract: the test decides. Assumes nothing.
+use borrow.Author.Tests.{eq-eqb, ne-eqb}
+use Rattle.formulas.specs.Arena.{LITERAL}
+use Rattle.scheme.proofs.comparison_of.Statement.{statement}
+use Rattle.scheme.proofs.comparison_of.Tie as tie
+
+returns : tie.Need-returns
+returns c = simp (eq-eqb (c .before .args .b) LITERAL (c .if1 .taken))
+
+returns-2 : tie.Need-returns-2
+returns-2 c = simp (ne-eqb (c .before .args .b) LITERAL (c .if1 .left))
+
+pub comparison-of-spec : {M : Type 1} → statement M
+comparison-of-spec = tie.close (tie.spec returns returns-2)
