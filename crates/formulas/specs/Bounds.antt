@@ -1,5 +1,6 @@
 -- The numbers that a rule can name: "`s` with a number (signal 0 to 63) or `k` with a number (parameter 0 to 7).
--- A literal is 0 to 999,999." Literals are below a limit, which is `literalCount` where a text is read. Definitions only.
+-- A literal is 0 to 999,999." Literals are below a limit, which is `literalCount` where a text is read.
+-- Definitions only.
 use mathlib.Core.Bool.{Bool, true, _&&_}
 use Prim.Native.Nat.{ℕ}
 use lib.Dec.{ltb}

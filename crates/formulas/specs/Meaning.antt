@@ -1,4 +1,5 @@
--- The interval meaning of a formula on ticks b to e, b <= e, of a trace (document 01, "Interval meaning"). Definitions only.
+-- The interval meaning of a formula on ticks b to e, b <= e, of a trace (document 01, "Interval meaning").
+-- Definitions only.
 use mathlib.Core.Bool.{Bool, true, false, not, _&&_, _||_, cond}
 use mathlib.Core.Option.{Option, none, some}
 use Prim.Native.Nat.{ℕ, zero, suc, _-_}

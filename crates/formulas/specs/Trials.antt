@@ -1,5 +1,5 @@
--- The trial runs P1 to P13 (document 01, "Trial runs") as rows of one table, and the verdicts that the meaning gives for
--- a row. Every crate that shows something of the trial runs cites these rows. Definitions only.
+-- The trial runs P1 to P13 (document 01, "Trial runs") as rows of one table, and the verdicts that the meaning gives
+-- for a row. Every crate that shows something of the trial runs cites these rows. Definitions only.
 use mathlib.Core.Bool.{true}
 use mathlib.Core.List.{List, [], _∷_}
 use Prim.Native.Nat.{ℕ, zero, suc}

@@ -1,6 +1,6 @@
--- The grammar once more, over positions in the list of words: `DerivesAt ws l X i t j` says that the words from i up to,
--- not including, j are an X with the tree t. Shown is what a reading takes: at least one word, none past the end, at
--- most eight numbers of records and one node for each word. Assumes nothing.
+-- The grammar once more, over positions in the list of words: `DerivesAt ws l X i t j` says that the words from i up
+-- to, not including, j are an X with the tree t. Shown is what a reading takes: at least one word, none past the end,
+-- at most eight numbers of records and one node for each word. Assumes nothing.
 use mathlib.Core.Path.{_≡_, refl}
 use mathlib.Core.Bool.{Bool, true, false, _||_, and-eq-true-iff}
 use mathlib.Core.List.{List}
@@ -25,16 +25,19 @@ use Rattle.grammar.specs.Parse.{word}
 pub data DerivesAt (ws : List ℕ) : Bool → Symbol → ℕ → Tree → ℕ → Type 0 where
   f-one : {l : Bool} {i j : ℕ} {t : Tree} → DerivesAt ws l D i t j → DerivesAt ws l F i t j
   f-then : {i m j : ℕ} {a b : Tree} →
-      DerivesAt ws false D i a m → word ws m ≡ THEN → DerivesAt ws false F (m + 1) b j → DerivesAt ws false F i (then a b) j
+      DerivesAt ws false D i a m → word ws m ≡ THEN → DerivesAt ws false F (m + 1) b j →
+      DerivesAt ws false F i (then a b) j
   f-chop : {i m j : ℕ} {a b : Tree} →
-      DerivesAt ws false D i a m → word ws m ≡ CHOP → DerivesAt ws false F (m + 1) b j → DerivesAt ws false F i (chop a b) j
+      DerivesAt ws false D i a m → word ws m ≡ CHOP → DerivesAt ws false F (m + 1) b j →
+      DerivesAt ws false F i (chop a b) j
   d-one : {l : Bool} {i j : ℕ} {t : Tree} → DerivesAt ws l C i t j → DerivesAt ws l D i t j
   d-or : {l : Bool} {i m j : ℕ} {a b : Tree} →
       DerivesAt ws l D i a m → word ws m ≡ OR → DerivesAt ws l C (m + 1) b j → DerivesAt ws l D i (or a b) j
   c-one : {l : Bool} {i j : ℕ} {t : Tree} → DerivesAt ws l U i t j → DerivesAt ws l C i t j
   c-and : {l : Bool} {i m j : ℕ} {a b : Tree} →
       DerivesAt ws l C i a m → word ws m ≡ AND → DerivesAt ws l U (m + 1) b j → DerivesAt ws l C i (and a b) j
-  u-not : {l : Bool} {i j : ℕ} {t : Tree} → word ws i ≡ NOT → DerivesAt ws l U (i + 1) t j → DerivesAt ws l U i (neg t) j
+  u-not : {l : Bool} {i j : ℕ} {t : Tree} →
+      word ws i ≡ NOT → DerivesAt ws l U (i + 1) t j → DerivesAt ws l U i (neg t) j
   u-exists : {i j : ℕ} {t : Tree} →
       word ws i ≡ EXISTS → isSignal (word ws (i + 1)) ≡ true → DerivesAt ws false U (i + 2) t j →
       DerivesAt ws false U i (exists (signalWord (word ws (i + 1))) t) j
@@ -43,7 +46,8 @@ pub data DerivesAt (ws : List ℕ) : Bool → Symbol → ℕ → Tree → ℕ �
   u-constant : {i : ℕ} → isBit (word ws i) ≡ true → DerivesAt ws true U i (constant (bitWord (word ws i))) (i + 1)
   u-signal : {i : ℕ} → isSignal (word ws i) ≡ true → DerivesAt ws true U i (signal (signalWord (word ws i))) (i + 1)
   u-test : {i j : ℕ} {p : Tree} →
-      isTest (word ws i) ≡ true → DerivesAt ws false B (i + 1) p j → DerivesAt ws false U i (test (testWord (word ws i)) p) j
+      isTest (word ws i) ≡ true → DerivesAt ws false B (i + 1) p j →
+      DerivesAt ws false U i (test (testWord (word ws i)) p) j
   u-len : {i : ℕ} →
       word ws i ≡ LEN → isOp (word ws (i + 1)) ≡ true → isNum (word ws (i + 1 + 1)) ≡ true →
       DerivesAt ws false U i (len (opWord (word ws (i + 1))) (numWord (word ws (i + 1 + 1)))) (i + 1 + 2)

@@ -133,7 +133,8 @@ module _ (ws : List ℕ) where
   Sound rec = (g : Goal) (i : ℕ) → All (Holds g i) (rec g i)
 
   -- A reading inside or outside square brackets, where it is known which.
-  there : {l : Bool} {c : Symbol} {i j : ℕ} {t : Tree} (b : Bool) → l ≡ b → DerivesAt ws b c i t j → DerivesAt ws l c i t j
+  there : {l : Bool} {c : Symbol} {i j : ℕ} {t : Tree} (b : Bool) → l ≡ b →
+      DerivesAt ws b c i t j → DerivesAt ws l c i t j
   there {l} {c} {i} {j} {t} b e r = subst (λ (x : Bool). DerivesAt ws x c i t j) (sym e) r
 
   -- A word that closes,

@@ -1,5 +1,5 @@
--- What a parse function has read and stored, in the terms of specs/Parse.antt; what it has to say of its answer; and the
--- room that is left in the arena. Assumes nothing.
+-- What a parse function has read and stored, in the terms of specs/Parse.antt; what it has to say of its answer; and
+-- the room that is left in the arena. Assumes nothing.
 use mathlib.Core.List.{List, [], _++_}
 use mathlib.Core.Path.{_≡_, refl, sym, ap, ap₂, _∙_, subst}
 use Prim.Native.Nat.{ℕ, _+_, _-_, _*_, _≤_, _<_}
@@ -160,8 +160,8 @@ module _ {g : Goal} {ws : List ℕ} {i : ℕ} {before : List ℕ} {top : ℕ} {a
   pub parses : {r : Parsed} → Said (read ws g i) before top r after → Parses g ws i before top r after
   parses h = record { result = h .result; filled = h .filled }
 
-  pub says : {n e : ℕ} {f : Facts} (t : Tree) → read ws g i ≡ ok t n → Stored before top (flat t) e after → f ≡ factsOf t →
-      Parses g ws i before top (At n e f) after
+  pub says : {n e : ℕ} {f : Facts} (t : Tree) → read ws g i ≡ ok t n → Stored before top (flat t) e after →
+      f ≡ factsOf t → Parses g ws i before top (At n e f) after
   says t is stored known = parses (said t is stored known)
 
   pub says-no : read ws g i ≡ no-rule → Parses g ws i before top No after

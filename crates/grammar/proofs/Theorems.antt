@@ -1,10 +1,10 @@
 -- What is shown of the grammar. `Rule ws t` (specs/Grammar.antt) is document 01's: the words ws are a rule with the
 -- tree t. `treeOf` (specs/Parse.antt) is what the parse functions compute. They are the same; and it is shown that
 -- words have one tree at most, how large it is, when it has a meaning, and which numbers it names. Assumes nothing.
-use mathlib.Core.Path.{_≡_, refl, ap, _∙_}
+use mathlib.Core.Path.{_≡_, refl, sym, ap, _∙_}
 use mathlib.Core.Bool.{Bool, true, false, cond}
 use mathlib.Core.List.{List}
-use mathlib.Core.Option.{none, some}
+use mathlib.Core.Option.{none, some, Option·none-ne-some}
 use Prim.Native.Nat.{ℕ, _*_, _≤_}
 use native.Mathlib.Omega.{arith}
 use lib.Dec.{eqb}
@@ -70,10 +70,7 @@ module _ (ws : List ℕ) (t : Tree) where
 
 -- Where the parser gives no tree, the words are no rule.
 pub no-tree : (ws : List ℕ) → treeOf ws ≡ none → (t : Tree) → Rule ws t → ⊥
-no-tree ws e t g =
-    let f = rule-tree ws t g in
-    let z : _≡_ {A = ℕ} 0 1 = cc in
-    omega arith
+no-tree ws e t g = Option·none-ne-some t (sym e ∙ rule-tree ws t g)
 
 -- Words have one reading at most.
 pub one-reading : (ws : List ℕ) (t t′ : Tree) → Rule ws t → Rule ws t′ → t ≡ t′

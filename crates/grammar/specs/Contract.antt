@@ -22,8 +22,8 @@ abbrev pub parsedOf : Result → ℕ → Parsed
 parsedOf no-rule top = No
 parsedOf (ok t j) top = At j (top + length (flat t)) (factsOf t)
 
--- A parse function reads goal g from position i: the answer r, and the arena before and after. Where a tree was read, its records
--- stand from `top` on and all else is kept; where none was, nothing is said of the arena.
+-- A parse function reads goal g from position i: the answer r, and the arena before and after. Where a tree was read,
+-- its records stand from `top` on and all else is kept; where none was, nothing is said of the arena.
 pub record Parses (g : Goal) (ws : List ℕ) (i : ℕ) (before : List ℕ) (top : ℕ) (r : Parsed) (after : List ℕ) :
     Type 0 where
   pub result : r ≡ parsedOf (read ws g i) top

@@ -27,8 +27,8 @@ abbrev pub bind : Result → (Tree → ℕ → Result) → Result
 bind no-rule f = no-rule
 bind (ok t j) f = f t j
 
--- What is to be read: an F, D, C or U (true: inside square brackets), what follows the D or the C that has been read as a
--- tree, an atom, or a P in square brackets.
+-- What is to be read: an F, D, C or U (true: inside square brackets), what follows the D or the C that has been read as
+-- a tree, an atom, or a P in square brackets.
 pub data Goal : Type 0 where
   goF : Bool → Goal
   goD : Bool → Goal

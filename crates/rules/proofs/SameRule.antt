@@ -1,5 +1,5 @@
--- What "the same rule" means: it is settled for any two texts, an equivalence on readable texts, and such texts have the
--- same meaning on every interval. Assumes nothing.
+-- What "the same rule" means: it is settled for any two texts, an equivalence on readable texts, and such texts have
+-- the same meaning on every interval. Assumes nothing.
 use mathlib.Core.Path.{_≡_, refl, sym, ap, _∙_}
 use mathlib.Core.List.{List}
 use mathlib.Core.Option.{some}

@@ -1,9 +1,8 @@
 -- Two trees compared by their records. Assumes nothing.
-use mathlib.Core.Bool.{true, false}
+use mathlib.Core.Bool.{true, false, true≢false}
 use mathlib.Core.Path.{_≡_, sym, ap, _∙_, subst}
 use mathlib.Core.List.{List}
 use Prim.Native.Nat.{ℕ}
-use native.Mathlib.Omega.{arith}
 use lib.Dec.{T}
 use lib.ListN.{take}
 use Rattle.lists.specs.Same.{same}
@@ -34,5 +33,4 @@ module _ {x y : Outcome} {n m : ℕ} {a b : List ℕ} (h : Front x n a) (h′ : 
       two-trees (h .is) (h′ .is) (λ equal.
       let still : same (flat (h .tree)) (flat (h′ .tree)) ≡ true =
       ap (λ (u : Tree). same (flat (h .tree)) (flat u)) (sym equal) ∙ same-refl (flat (h .tree)) in
-      let never = same-fronts ∙ e in
-      let z : _≡_ {A = ℕ} 0 1 = cc in omega arith)
+      true≢false (sym still ∙ same-fronts ∙ e))

@@ -7,8 +7,8 @@ use Rattle.formulas.specs.Trials.{Trial, meant}
 use Rattle.rules.specs.Reading.{ruleOf}
 use Rattle.rules.specs.Reading.Outcome.{rule}
 
--- A row holds: its text is read as a rule with that many nodes, whose formula is the row's, and the meaning of the formula
--- gives these verdicts.
+-- A row holds: its text is read as a rule with that many nodes, whose formula is the row's, and the meaning of the
+-- formula gives these verdicts.
 pub record RowHolds (r : Trial) : Type 0 where
   pub tree : Tree
   pub is-read : ruleOf (bytes (r .text)) ≡ rule tree

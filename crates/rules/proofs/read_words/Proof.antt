@@ -1,5 +1,5 @@
--- `rules::read_words` meets its contract: what the limits, the parser's answer, the fragment and the leads decide is the
--- outcome. Assumes nothing.
+-- `rules::read_words` meets its contract: what the limits, the parser's answer, the fragment and the leads decide is
+-- the outcome. Assumes nothing.
 use mathlib.Core.Bool.{false}
 use mathlib.Core.List.{List}
 use mathlib.Core.Path.{_≡_, sym, _∙_}
