@@ -12,7 +12,6 @@ ghost use Rattle.words.specs.Word.{isOp, isNum, isTest, isCount};
 ghost use Rattle.grammar.specs.Grammar.{opWord, numWord, testWord, countWord};
 ghost use Rattle.grammar.specs.Facts.{leafFacts, atomFacts, negFacts, joinFacts, thenFacts, chopFacts};
 ghost use Rattle.grammar.specs.Facts.{existsFacts};
-ghost use Rattle.grammar.specs.Parse.{word};
 ghost use Rattle.grammar.specs.Parse.Goal.{goF, goD, goC, goU, goA, goB};
 ghost use Rattle.grammar.specs.Contract.{Parses, Room, Pushed, ParsesLeaf, ParsesComparison};
 
@@ -27,13 +26,6 @@ pub struct Facts {
 pub enum Parsed {
     At(usize, usize, Facts),
     No,
-}
-
-// The word at a position, 0 past the end.
-fn peek(ws: &[u32], at: usize) -> u32
-    ensures { λ r. ⌜ r ≡ word (now (ws .entry)) at ⌝ }
-{
-    if at < ws.len() { ws[at] } else { 0 }
 }
 
 // One record at `top`; the place after it.
@@ -189,7 +181,7 @@ fn leaf(ws: &[u32], at: usize, arena: &mut [u32], top: usize) -> Parsed
     requires { ⌜ Room (now ws) at (now arena) top ⌝ }
     ensures { λ r. ⌜ ParsesLeaf (now (ws .entry)) at (now (arena .entry)) top r (now (arena .exit)) ⌝ }
 {
-    let w = peek(ws, at);
+    let w = lists::number_at(ws, at);
     if words::is_signal(w) {
         let end = push(arena, top, formulas::SIGNAL, w - words::SIGNAL, 0, 0);
         return Parsed::At(at + 1, end, leaf_facts());
@@ -206,8 +198,8 @@ fn comparison(ws: &[u32], at: usize, arena: &mut [u32], top: usize, k: u32, lead
     requires { ⌜ (at ≤ wordLimit) × (top + 4 ≤ length (now arena)) ⌝ }
     ensures { λ r. ⌜ ParsesComparison (now (ws .entry)) at (now (arena .entry)) top k lead r (now (arena .exit)) ⌝ }
 {
-    let o = peek(ws, at);
-    let n = peek(ws, at + 1);
+    let o = lists::number_at(ws, at);
+    let n = lists::number_at(ws, at + 1);
     if !words::is_op(o) {
         return Parsed::No;
     }
@@ -229,7 +221,7 @@ pub fn parse_f(ws: &[u32], inside: bool, at: usize, arena: &mut [u32], top: usiz
     if inside {
         return Parsed::At(j, t, a);
     }
-    let k = peek(ws, j);
+    let k = lists::number_at(ws, j);
     if k == words::THEN {
         let mark = push(arena, t, formulas::LEAD_END, 0, 0, 0);
         let Parsed::At(m, e, b) = parse_f(ws, false, j + 1, arena, mark) else {
@@ -259,7 +251,7 @@ fn parse_d(ws: &[u32], inside: bool, at: usize, arena: &mut [u32], top: usize) -
     let mut j = first;
     let mut t = low;
     let mut facts = a;
-    while peek(ws, j) == words::OR {
+    while lists::number_at(ws, j) == words::OR {
         let Parsed::At(m, e, b) = parse_c(ws, inside, j + 1, arena, t) else {
             return Parsed::No;
         };
@@ -281,7 +273,7 @@ fn parse_c(ws: &[u32], inside: bool, at: usize, arena: &mut [u32], top: usize) -
     let mut j = first;
     let mut t = low;
     let mut facts = a;
-    while peek(ws, j) == words::AND {
+    while lists::number_at(ws, j) == words::AND {
         let Parsed::At(m, e, b) = parse_u(ws, inside, j + 1, arena, t) else {
             return Parsed::No;
         };
@@ -297,7 +289,7 @@ fn parse_u(ws: &[u32], inside: bool, at: usize, arena: &mut [u32], top: usize) -
     requires { ⌜ Room (now ws) at (now arena) top ⌝ }
     ensures { λ r. ⌜ Parses (goU inside) (now (ws .entry)) at (now (arena .entry)) top r (now (arena .exit)) ⌝ }
 {
-    let k = peek(ws, at);
+    let k = lists::number_at(ws, at);
     if k == words::NOT {
         let Parsed::At(j, t, a) = parse_u(ws, inside, at + 1, arena, top) else {
             return Parsed::No;
@@ -309,7 +301,7 @@ fn parse_u(ws: &[u32], inside: bool, at: usize, arena: &mut [u32], top: usize) -
         let Parsed::At(j, t, a) = parse_f(ws, inside, at + 1, arena, top) else {
             return Parsed::No;
         };
-        if peek(ws, j) != words::ROUND_END {
+        if lists::number_at(ws, j) != words::ROUND_END {
             return Parsed::No;
         }
         return Parsed::At(j + 1, t, a);
@@ -318,7 +310,7 @@ fn parse_u(ws: &[u32], inside: bool, at: usize, arena: &mut [u32], top: usize) -
         return leaf(ws, at, arena, top);
     }
     if k == words::EXISTS {
-        let w = peek(ws, at + 1);
+        let w = lists::number_at(ws, at + 1);
         if !words::is_signal(w) {
             return Parsed::No;
         }
@@ -336,7 +328,7 @@ fn parse_atom(ws: &[u32], at: usize, arena: &mut [u32], top: usize) -> Parsed
     requires { ⌜ Room (now ws) at (now arena) top ⌝ }
     ensures { λ r. ⌜ Parses goA (now (ws .entry)) at (now (arena .entry)) top r (now (arena .exit)) ⌝ }
 {
-    let k = peek(ws, at);
+    let k = lists::number_at(ws, at);
     if words::is_test(k) {
         let Parsed::At(j, t, _) = parse_square(ws, at + 1, arena, top) else {
             return Parsed::No;
@@ -368,13 +360,13 @@ fn parse_square(ws: &[u32], at: usize, arena: &mut [u32], top: usize) -> Parsed
     requires { ⌜ Room (now ws) at (now arena) top ⌝ }
     ensures { λ r. ⌜ Parses goB (now (ws .entry)) at (now (arena .entry)) top r (now (arena .exit)) ⌝ }
 {
-    if peek(ws, at) != words::SQUARE {
+    if lists::number_at(ws, at) != words::SQUARE {
         return Parsed::No;
     }
     let Parsed::At(j, t, a) = parse_f(ws, true, at + 1, arena, top) else {
         return Parsed::No;
     };
-    if peek(ws, j) != words::SQUARE_END {
+    if lists::number_at(ws, j) != words::SQUARE_END {
         return Parsed::No;
     }
     Parsed::At(j + 1, t, a)

@@ -50,23 +50,23 @@ module _ {ws : List ℕ} {j : ℕ} {before : List ℕ} {top k : ℕ} {lead : Boo
       }
 
 -- The places: the start; both words; a first word that is op; a second that is n; and the record.
-abbrev start : tie.After-peek → tie.Start
+abbrev start : tie.After-number-at → tie.Start
 start c = c .before .before .before
 
-abbrev op-looked : tie.Else1 → tie.After-peek
+abbrev op-looked : tie.Else1 → tie.After-number-at
 op-looked c = c .before .before .before
 
 abbrev at-op : tie.Else2 → tie.Else1
 at-op c = c .before .before
 
-abbrev num-looked : tie.Else2 → tie.After-peek2
+abbrev num-looked : tie.Else2 → tie.After-number-at2
 num-looked c = at-op c .before .before
 
 abbrev at-num : tie.After-push → tie.Else2
 at-num c = c .before .before .before .before
 
 -- The first word,
-is-op : (c : tie.Else1) → isOp (op-looked c .peek .result) ≡ true
+is-op : (c : tie.Else1) → isOp (op-looked c .number-at .result) ≡ true
 is-op c =
     let test = c .before .is-op in
     sym (test .ensures) ∙ not-false (test .result) (c .if1 .left)
@@ -74,7 +74,7 @@ is-op c =
 op-word : (c : tie.Else1) →
     let args = start (op-looked c) .args in
     isOp (word (args .ws .now) (args .at)) ≡ true
-op-word c = ap isOp (sym (op-looked c .peek .ensures)) ∙ is-op c
+op-word c = ap isOp (sym (op-looked c .number-at .ensures)) ∙ is-op c
 
 returns : tie.Need-returns
 returns c =
@@ -83,10 +83,10 @@ returns c =
     let args = start first .args in
     let no = sym (test .ensures) ∙ not-true (test .result) (c .if1 .taken) in
     let n = word (args .ws .now) (args .at + 1) in
-    no-comparison (ap (λ (x : Bool). x && isNum n) (ap isOp (sym (first .peek .ensures)) ∙ no))
+    no-comparison (ap (λ (x : Bool). x && isNum n) (ap isOp (sym (first .number-at .ensures)) ∙ no))
 
 -- the second,
-is-num : (c : tie.Else2) → isNum (num-looked c .peek2 .result) ≡ true
+is-num : (c : tie.Else2) → isNum (num-looked c .number-at2 .result) ≡ true
 is-num c =
     let test = c .before .is-num in
     sym (test .ensures) ∙ not-false (test .result) (c .if2 .left)
@@ -96,18 +96,18 @@ returns-2 c =
     let test = c .before .is-num in
     let here = c .before .before in
     let no = sym (test .ensures) ∙ not-true (test .result) (c .if2 .taken) in
-    no-comparison (ap₂ _&&_ (op-word here) (ap isNum (sym (here .before .before .peek2 .ensures)) ∙ no))
+    no-comparison (ap₂ _&&_ (op-word here) (ap isNum (sym (here .before .before .number-at2 .ensures)) ∙ no))
 
 -- and both.
 are-both : (c : tie.Else2) →
     let args = start (op-looked (at-op c)) .args in
     comparisonAt (args .ws .now) (args .at) ≡ true
-are-both c = ap₂ _&&_ (op-word (at-op c)) (ap isNum (sym (num-looked c .peek2 .ensures)) ∙ is-num c)
+are-both c = ap₂ _&&_ (op-word (at-op c)) (ap isNum (sym (num-looked c .number-at2 .ensures)) ∙ is-num c)
 
 sub-push : tie.Need-sub-push
 sub-push c =
     let here = at-op (c .before) in
-    op-pos (op-looked here .peek .result) (is-op here)
+    op-pos (op-looked here .number-at .result) (is-op here)
 
 num-value-requires : tie.Need-num-value-requires
 num-value-requires c κs = is-num (c .before .before)
@@ -120,11 +120,11 @@ returns-3 c =
     let after-push = c .before .before .before .before .before in
     let both = at-num after-push in
     let first = op-looked (at-op both) in
-    let o = first .peek .ensures in
-    let n = num-looked both .peek2 .ensures in
+    let o = first .number-at .ensures in
+    let n = num-looked both .number-at2 .ensures in
     let upper-op = c .before .before .is-upper .ensures ∙ ap (λ (x : ℕ). upper (opWord x)) o in
     comparison (are-both both)
-    (sym (op-number (first .peek .result) (is-op (at-op both))) ∙ ap (λ (x : ℕ). opNumber (opWord x)) o)
+    (sym (op-number (first .number-at .result) (is-op (at-op both))) ∙ ap (λ (x : ℕ). opNumber (opWord x)) o)
     (after-push .before .before .num-kind .ensures ∙ ap (λ (x : ℕ). numKind (numWord x)) n)
     (after-push .before .num-value .ensures ∙ ap (λ (x : ℕ). numValue (numWord x)) n) (after-push .push .ensures)
     (c .atom-facts .ensures

@@ -41,26 +41,26 @@ module _ {ws : List ℕ} {i : ℕ} {before : List ℕ} {top : ℕ} {after : List
   no-leaf s b = leaf (said-no (simp (s, b)))
 
 -- The places: the start; the word, where it is a signal; and where it is a bit.
-abbrev start : tie.After-peek → tie.Start
+abbrev start : tie.After-number-at → tie.Start
 start c = c .before .before .before
 
-abbrev signal-looked : tie.Then1 → tie.After-peek
+abbrev signal-looked : tie.Then1 → tie.After-number-at
 signal-looked c = c .before .before
 
-abbrev bit-looked : tie.Then2 → tie.After-peek
+abbrev bit-looked : tie.Then2 → tie.After-number-at
 bit-looked c = c .before .before .before .before
 
 -- A word leaves room for one record.
-record-room : (c : tie.After-peek) → 1 ≤ c .peek .result →
+record-room : (c : tie.After-number-at) → 1 ≤ c .number-at .result →
     start c .args .top + 4 ≤ length (start c .args .arena .now)
-record-room c l = fits-push 4 (past-first (start c .pre) (sym (c .peek .ensures)) l)
+record-room c l = fits-push 4 (past-first (start c .pre) (sym (c .number-at .ensures)) l)
 
 -- A signal.
-is-signal : (c : tie.Then1) → isSignal (signal-looked c .peek .result) ≡ true
+is-signal : (c : tie.Then1) → isSignal (signal-looked c .number-at .result) ≡ true
 is-signal c = sym (c .before .is-signal .ensures) ∙ c .if1 .taken
 
 sub-push : tie.Need-sub-push
-sub-push c = signal-pos (signal-looked (c .before) .peek .result) (is-signal (c .before))
+sub-push c = signal-pos (signal-looked (c .before) .number-at .result) (is-signal (c .before))
 
 push-requires : tie.Need-push-requires
 push-requires c κs = let w = sub-push c in record-room (signal-looked (c .before)) (omega arith)
@@ -70,18 +70,18 @@ returns c =
     let here = c .before .before .before .before .before in
     let looked = signal-looked here in
     let args = start looked .args in
-    let w = sym (looked .peek .ensures) in
+    let w = sym (looked .number-at .ensures) in
     let s = ap isSignal w ∙ is-signal here in
     one-record (signal (signalWord (word (args .ws .now) (args .at)))) (simp s) refl
     (ap (λ (x : ℕ). row SIGNAL (signalWord x) 0 0) w)
     (c .before .before .before .push .ensures) (c .leaf-facts .ensures)
 
 -- A bit.
-is-bit : (c : tie.Then2) → isBit (bit-looked c .peek .result) ≡ true
+is-bit : (c : tie.Then2) → isBit (bit-looked c .number-at .result) ≡ true
 is-bit c = sym (c .before .is-bit .ensures) ∙ c .if2 .taken
 
 sub-push-2 : tie.Need-sub-push-2
-sub-push-2 c = bit-pos (bit-looked (c .before) .peek .result) (is-bit (c .before))
+sub-push-2 c = bit-pos (bit-looked (c .before) .number-at .result) (is-bit (c .before))
 
 push-requires-2 : tie.Need-push-requires-2
 push-requires-2 c κs = let w = sub-push-2 c in record-room (bit-looked (c .before)) (omega arith)
@@ -92,10 +92,10 @@ returns-2 c =
     let looked = bit-looked here in
     let args = start looked .args in
     let no-signal = here .before .before in
-    let w = sym (looked .peek .ensures) in
+    let w = sym (looked .number-at .ensures) in
     let s = ap isSignal w ∙ sym (no-signal .before .is-signal .ensures) ∙ no-signal .if1 .left in
     let b = ap isBit w ∙ is-bit here in
-    let same = ap (λ (x : ℕ). truth (bitWord x)) w ∙ bit-truth (looked .peek .result) (is-bit here) in
+    let same = ap (λ (x : ℕ). truth (bitWord x)) w ∙ bit-truth (looked .number-at .result) (is-bit here) in
     one-record (constant (bitWord (word (args .ws .now) (args .at)))) (simp (s, b)) refl
     (ap (λ (x : ℕ). row CONSTANT x 0 0) same) (c .before .before .before .push2 .ensures) (c .leaf-facts2 .ensures)
 
@@ -103,7 +103,7 @@ returns-2 c =
 returns-3 : tie.Need-returns-3
 returns-3 c =
     let no-signal = c .before .before in
-    let w = sym (no-signal .before .before .peek .ensures) in
+    let w = sym (no-signal .before .before .number-at .ensures) in
     no-leaf (ap isSignal w ∙ sym (no-signal .before .is-signal .ensures) ∙ no-signal .if1 .left)
     (ap isBit w ∙ sym (c .before .is-bit .ensures) ∙ c .if2 .left)
 

@@ -47,7 +47,7 @@ use Rattle.words.proofs.is_test.Reads as is-test
 use Rattle.grammar.proofs.join_facts.Reads as join-facts
 use Rattle.grammar.proofs.leaf.Reads as leaf
 use Rattle.grammar.proofs.not_facts.Reads as not-facts
-use Rattle.grammar.proofs.peek.Reads as peek
+use Rattle.lists.proofs.number_at.Reads as number-at
 use Rattle.grammar.proofs.push.Reads as push
 use Rattle.grammar.proofs.then_facts.Reads as then-facts
 
@@ -110,8 +110,8 @@ parse-u-below t = and 2 ps-u (falls 2 ps-u _<_ μ-parse-u t) parse-u.Pre
 -- What each member asks of the functions that it calls, and learns from them.
 abbrev pub calls-parse-atom : ℕ → Claims-atom
 calls-parse-atom t = (
-  peek.Asked,
-  peek.Learnt,
+  number-at.Asked,
+  number-at.Learnt,
   is-test.Asked,
   is-test.Learnt,
   parse-square-below t,
@@ -134,8 +134,8 @@ abbrev pub calls-parse-c : ℕ → Claims-c
 calls-parse-c t = (
   parse-u-below t,
   parse-u.Post,
-  peek.Asked,
-  peek.Learnt,
+  number-at.Asked,
+  number-at.Learnt,
   push.Asked,
   push.Learnt,
   join-facts.Asked,
@@ -146,8 +146,8 @@ abbrev pub calls-parse-d : ℕ → Claims-d
 calls-parse-d t = (
   parse-c-below t,
   parse-c.Post,
-  peek.Asked,
-  peek.Learnt,
+  number-at.Asked,
+  number-at.Learnt,
   push.Asked,
   push.Learnt,
   join-facts.Asked,
@@ -158,8 +158,8 @@ abbrev pub calls-parse-f : ℕ → Claims-f
 calls-parse-f t = (
   parse-d-below t,
   parse-d.Post,
-  peek.Asked,
-  peek.Learnt,
+  number-at.Asked,
+  number-at.Learnt,
   push.Asked,
   push.Learnt,
   parse-f-below t,
@@ -172,16 +172,16 @@ calls-parse-f t = (
 
 abbrev pub calls-parse-square : ℕ → Claims-square
 calls-parse-square t = (
-  peek.Asked,
-  peek.Learnt,
+  number-at.Asked,
+  number-at.Learnt,
   parse-f-below t,
   parse-f.Post,
 )
 
 abbrev pub calls-parse-u : ℕ → Claims-u
 calls-parse-u t = (
-  peek.Asked,
-  peek.Learnt,
+  number-at.Asked,
+  number-at.Learnt,
   parse-u-below t,
   parse-u.Post,
   push.Asked,

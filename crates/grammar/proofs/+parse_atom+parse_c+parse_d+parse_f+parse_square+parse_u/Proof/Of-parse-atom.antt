@@ -28,10 +28,10 @@ module _ (t : ℕ) where
   Here place = place (calls-parse-atom t) (parse-atom-at t) reads.Post
 
   -- The places: the start; the word, where it is a test; the call of `parse_square`, and its tree;
-  abbrev start : Here lts.After-peek → Here lts.Start
+  abbrev start : Here lts.After-number-at → Here lts.Start
   start c = c .before .before .before
 
-  abbrev test-looked : Here lts.Then1 → Here lts.After-peek
+  abbrev test-looked : Here lts.Then1 → Here lts.After-number-at
   test-looked c = c .before .before
 
   abbrev at-test : Here lts.After-parse-square → Here lts.Then1
@@ -41,11 +41,11 @@ module _ (t : ℕ) where
   test-call c = c .before .before .before .before .before
 
   -- the word, where it is `len`;
-  abbrev len-looked : Here lts.Then2 → Here lts.After-peek
+  abbrev len-looked : Here lts.Then2 → Here lts.After-number-at
   len-looked c = c .before .before .before
 
   -- the word, where it is a count; the call of `parse_square`, and its tree.
-  abbrev count-looked : Here lts.Then3 → Here lts.After-peek
+  abbrev count-looked : Here lts.Then3 → Here lts.After-number-at
   count-looked c = c .before .before .before .before .before
 
   abbrev at-count : Here lts.After-parse-square2 → Here lts.Then3
@@ -55,25 +55,25 @@ module _ (t : ℕ) where
   count-call c = c .before .before .before .before .before
 
   -- The word that was looked at is the first, and where it is one, it leaves room.
-  looked-space : (c : Here lts.After-peek) → 1 ≤ c .peek .result →
+  looked-space : (c : Here lts.After-number-at) → 1 ≤ c .number-at .result →
       let args = start c .args in
       Space 8 (args .ws .now) (args .at + 1) (args .arena .now) (args .top)
-  looked-space c l = past-first (start c .pre .1) (sym (c .peek .ensures)) l
+  looked-space c l = past-first (start c .pre .1) (sym (c .number-at .ensures)) l
 
   -- A test,
-  is-test : (c : Here lts.Then1) → isTest (test-looked c .peek .result) ≡ true
+  is-test : (c : Here lts.Then1) → isTest (test-looked c .number-at .result) ≡ true
   is-test c = sym (c .before .is-test .ensures) ∙ c .if1 .taken
 
   test-word : (c : Here lts.Then1) →
       let args = start (test-looked c) .args in
       isTest (word (args .ws .now) (args .at)) ≡ true
-  test-word c = ap isTest (sym (test-looked c .peek .ensures)) ∙ is-test c
+  test-word c = ap isTest (sym (test-looked c .number-at .ensures)) ∙ is-test c
 
   test-space : (c : Here lts.Then1) →
       let args = start (test-looked c) .args in
       Space 8 (args .ws .now) (args .at + 1) (args .arena .now) (args .top)
   test-space c =
-      let w = test-pos (test-looked c .peek .result) (is-test c) in
+      let w = test-pos (test-looked c .number-at .result) (is-test c) in
       looked-space (test-looked c) (omega arith)
 
   add-parse-square : Here lts.Need-add-parse-square
@@ -103,12 +103,12 @@ module _ (t : ℕ) where
   sub-push : Here lts.Need-sub-push
   sub-push c =
       let here = at-test (test-call (c .before)) in
-      test-pos (test-looked here .peek .result) (is-test here)
+      test-pos (test-looked here .number-at .result) (is-test here)
 
   add-push : Here lts.Need-add-push
   add-push c =
       let here = at-test (test-call (c .before)) in
-      omega (arith, test-high (test-looked here .peek .result) (is-test here))
+      omega (arith, test-high (test-looked here .number-at .result) (is-test here))
 
   push-requires : Here lts.Need-push-requires
   push-requires c κs =
@@ -128,14 +128,14 @@ module _ (t : ℕ) where
       let after-push = c .before .before .before .before in
       let tree = after-push .before .before in
       let here = at-test (test-call tree) in
-      Steps.A-test (test-word here) (test-tree tree) (test-looked here .peek .ensures) (after-push .push .ensures)
+      Steps.A-test (test-word here) (test-tree tree) (test-looked here .number-at .ensures) (after-push .push .ensures)
       (c .atom-facts .ensures ∙ ap atomFacts (c .before .is-lead-test .ensures))
 
   -- `len`, and op n.
   len-word : (c : Here lts.Then2) →
       let args = start (len-looked c) .args in
       word (args .ws .now) (args .at) ≡ Word.LEN
-  len-word c = sym (len-looked c .peek .ensures) ∙ c .if2 .taken
+  len-word c = sym (len-looked c .number-at .ensures) ∙ c .if2 .taken
 
   len-space : (c : Here lts.Then2) →
       let args = start (len-looked c) .args in
@@ -155,19 +155,19 @@ module _ (t : ℕ) where
   returns-3 c = Steps.A-len (len-word (c .before .before .before .before)) (c .before .before .comparison .ensures)
 
   -- A count,
-  is-count : (c : Here lts.Then3) → isCount (count-looked c .peek .result) ≡ true
+  is-count : (c : Here lts.Then3) → isCount (count-looked c .number-at .result) ≡ true
   is-count c = sym (c .before .is-count .ensures) ∙ c .if3 .taken
 
   count-word : (c : Here lts.Then3) →
       let args = start (count-looked c) .args in
       isCount (word (args .ws .now) (args .at)) ≡ true
-  count-word c = ap isCount (sym (count-looked c .peek .ensures)) ∙ is-count c
+  count-word c = ap isCount (sym (count-looked c .number-at .ensures)) ∙ is-count c
 
   count-space : (c : Here lts.Then3) →
       let args = start (count-looked c) .args in
       Space 8 (args .ws .now) (args .at + 1) (args .arena .now) (args .top)
   count-space c =
-      let w = count-pos (count-looked c .peek .result) (is-count c) in
+      let w = count-pos (count-looked c .number-at .result) (is-count c) in
       looked-space (count-looked c) (omega arith)
 
   add-parse-square-2 : Here lts.Need-add-parse-square-2
@@ -197,12 +197,12 @@ module _ (t : ℕ) where
   sub-comparison : Here lts.Need-sub-comparison
   sub-comparison c =
       let here = at-count (count-call (c .before)) in
-      count-pos (count-looked here .peek .result) (is-count here)
+      count-pos (count-looked here .number-at .result) (is-count here)
 
   add-comparison-2 : Here lts.Need-add-comparison-2
   add-comparison-2 c =
       let here = at-count (count-call (c .before)) in
-      omega (arith, count-high (count-looked here .peek .result) (is-count here))
+      omega (arith, count-high (count-looked here .number-at .result) (is-count here))
 
   is-lead-count-requires : Here lts.Need-is-lead-count-requires
   is-lead-count-requires c κs = is-count (at-count (count-call (c .before)))
@@ -222,7 +222,7 @@ module _ (t : ℕ) where
   returns-5 c =
       let tree = c .before .before .before .before .before in
       let here = at-count (count-call tree) in
-      Steps.A-count (count-word here) (count-tree tree) (count-looked here .peek .ensures)
+      Steps.A-count (count-word here) (count-tree tree) (count-looked here .number-at .ensures)
       (c .before .before .before .is-lead-count .ensures) (c .before .before .comparison2 .ensures)
 
   -- Any other word.
@@ -231,9 +231,9 @@ module _ (t : ℕ) where
       let no-len = c .before .before in
       let no-test = no-len .before in
       let looked = no-test .before .before in
-      let w = sym (looked .peek .ensures) in
+      let w = sym (looked .number-at .ensures) in
       Steps.A-none (ap isTest w ∙ sym (no-test .before .is-test .ensures) ∙ no-test .if1 .left)
-      (λ e. no-len .if2 .left (looked .peek .ensures ∙ e))
+      (λ e. no-len .if2 .left (looked .number-at .ensures ∙ e))
       (ap isCount w ∙ sym (c .before .is-count .ensures) ∙ c .if3 .left)
 
   -- So the member meets its contract, if the calls with lower measures do.

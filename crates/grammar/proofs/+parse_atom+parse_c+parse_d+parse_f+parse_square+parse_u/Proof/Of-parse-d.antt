@@ -92,7 +92,7 @@ module _ (t : ℕ) where
   -- the word that joins them to one more, and the room that it leaves.
   join-word : (c : Here lts.Then1) →
       word (begun (head c) .args .ws .now) (head c .loop .j) ≡ Word.OR
-  join-word c = sym (c .before .peek .ensures) ∙ c .if1 .taken
+  join-word c = sym (c .before .number-at .ensures) ∙ c .if1 .taken
 
   join-space : (c : Here lts.Then1) →
       let loop = head c .loop in
@@ -159,7 +159,7 @@ module _ (t : ℕ) where
   returns-3 : Here lts.Need-returns-3
   returns-3 c =
       let here = c .before .before in
-      Chains.done (chain-D (begun here .args .inside)) (parts here) (λ e. c .if1 .left (c .before .peek .ensures ∙ e))
+      Chains.done (chain-D (begun here .args .inside)) (parts here) (λ e. c .if1 .left (c .before .number-at .ensures ∙ e))
 
   -- So the member meets its contract, if the calls with lower measures do.
   pub met : {M : Type 1} → lts.Closed (calls-parse-d t) (parse-d-at t) reads.Post M

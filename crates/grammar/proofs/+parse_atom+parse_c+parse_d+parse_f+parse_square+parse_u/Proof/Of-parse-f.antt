@@ -101,7 +101,7 @@ module _ (t : ℕ) where
 
   -- `then`, which leaves room for two records,
   then-word : (c : Here lts.Then2) → word (text (then-d c)) (next (then-d c)) ≡ Word.THEN
-  then-word c = sym (c .before .peek .ensures) ∙ c .if2 .taken
+  then-word c = sym (c .before .number-at .ensures) ∙ c .if2 .taken
 
   then-space : (c : Here lts.Then2) →
       let d = then-d c in
@@ -182,7 +182,7 @@ module _ (t : ℕ) where
 
   -- `chop`, likewise without a mark.
   chop-word : (c : Here lts.Then3) → word (text (chop-d c)) (next (chop-d c)) ≡ Word.CHOP
-  chop-word c = sym (c .before .before .peek .ensures) ∙ c .if3 .taken
+  chop-word c = sym (c .before .before .number-at .ensures) ∙ c .if3 .taken
 
   chop-space : (c : Here lts.Then3) →
       let d = chop-d c in
@@ -254,8 +254,8 @@ module _ (t : ℕ) where
       let looked = c .before .before in
       let d = looked .before .before in
       Steps.F-one (d-tree d)
-      (stop-join (start (d-call d) .args .inside) _ (λ e. c .before .if2 .left (looked .peek .ensures ∙ e))
-      (λ e. c .if3 .left (looked .peek .ensures ∙ e)))
+      (stop-join (start (d-call d) .args .inside) _ (λ e. c .before .if2 .left (looked .number-at .ensures ∙ e))
+      (λ e. c .if3 .left (looked .number-at .ensures ∙ e)))
 
   -- So the member meets its contract, if the calls with lower measures do.
   pub met : {M : Type 1} → lts.Closed (calls-parse-f t) (parse-f-at t) reads.Post M

@@ -39,7 +39,7 @@ module _ (t : ℕ) where
   open-word : (c : Here lts.Else1) →
       let args = start c .args in
       word (args .ws .now) (args .at) ≡ Word.SQUARE
-  open-word c = sym (c .before .peek .ensures) ∙ c .if1 .left
+  open-word c = sym (c .before .number-at .ensures) ∙ c .if1 .left
 
   -- which leaves room.
   open-space : (c : Here lts.Else1) →
@@ -56,7 +56,7 @@ module _ (t : ℕ) where
 
   -- No bracket opens;
   returns : Here lts.Need-returns
-  returns c = Steps.B-no (λ e. c .if1 .taken (c .before .peek .ensures ∙ e))
+  returns c = Steps.B-no (λ e. c .if1 .taken (c .before .number-at .ensures ∙ e))
 
   add-parse-f : Here lts.Need-add-parse-f
   add-parse-f c = let s = open-space c in omega arith
@@ -83,7 +83,7 @@ module _ (t : ℕ) where
   returns-3 c =
       let told = c .before .before in
       Steps.bracket-open square (open-word (opening (call told))) (one told)
-      (λ e. c .if2 .taken (c .before .peek2 .ensures ∙ e))
+      (λ e. c .if2 .taken (c .before .number-at2 .ensures ∙ e))
 
   -- it closes.
   add-t11 : Here lts.Need-add-t11
@@ -99,7 +99,7 @@ module _ (t : ℕ) where
   returns-4 c =
       let told = c .before .before in
       Steps.bracket-closed square (open-word (opening (call told))) (one told)
-      (sym (c .before .peek2 .ensures) ∙ c .if2 .left)
+      (sym (c .before .number-at2 .ensures) ∙ c .if2 .left)
 
   -- So the member meets its contract, if the calls with lower measures do.
   pub met : {M : Type 1} → lts.Closed (calls-parse-square t) (parse-square-at t) reads.Post M

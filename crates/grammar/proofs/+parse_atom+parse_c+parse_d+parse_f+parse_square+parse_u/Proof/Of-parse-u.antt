@@ -28,7 +28,7 @@ module _ (t : ℕ) where
   Here place = place (calls-parse-u t) (parse-u-at t) reads.Post
 
   -- The places: the start; `!`, the call of `parse_u`, and its tree;
-  abbrev start : Here lts.After-peek → Here lts.Start
+  abbrev start : Here lts.After-number-at → Here lts.Start
   start c = c .before .before .before
 
   abbrev at-not : Here lts.After-parse-u → Here lts.Then1
@@ -67,7 +67,7 @@ module _ (t : ℕ) where
   not-word : (c : Here lts.Then1) →
       let args = start (c .before) .args in
       word (args .ws .now) (args .at) ≡ Word.NOT
-  not-word c = sym (c .before .peek .ensures) ∙ c .if1 .taken
+  not-word c = sym (c .before .number-at .ensures) ∙ c .if1 .taken
 
   not-space : (c : Here lts.Then1) →
       let args = start (c .before) .args in
@@ -122,7 +122,7 @@ module _ (t : ℕ) where
   round-word : (c : Here lts.Then2) →
       let args = round-start c .args in
       word (args .ws .now) (args .at) ≡ Word.ROUND
-  round-word c = sym (c .before .before .peek .ensures) ∙ c .if2 .taken
+  round-word c = sym (c .before .before .number-at .ensures) ∙ c .if2 .taken
 
   round-space : (c : Here lts.Then2) →
       let args = round-start c .args in
@@ -163,7 +163,7 @@ module _ (t : ℕ) where
       let tree = c .before .before in
       let here = at-round (round-call tree) in
       Steps.bracket-open (round (round-start here .args .inside)) (round-word here) (round-tree tree)
-      (λ e. c .if3 .taken (c .before .peek2 .ensures ∙ e))
+      (λ e. c .if3 .taken (c .before .number-at2 .ensures ∙ e))
 
   add-t28 : Here lts.Need-add-t28
   add-t28 c =
@@ -179,18 +179,18 @@ module _ (t : ℕ) where
       let tree = c .before .before in
       let here = at-round (round-call tree) in
       Steps.bracket-closed (round (round-start here .args .inside)) (round-word here) (round-tree tree)
-      (sym (c .before .peek2 .ensures) ∙ c .if3 .left)
+      (sym (c .before .number-at2 .ensures) ∙ c .if3 .left)
 
   -- Neither,
   no-not : (c : Here lts.Else2) →
       let args = other-start c .args in
       word (args .ws .now) (args .at) ≡ Word.NOT → ⊥
-  no-not c = λ e. c .before .if1 .left (c .before .before .peek .ensures ∙ e)
+  no-not c = λ e. c .before .if1 .left (c .before .before .number-at .ensures ∙ e)
 
   no-round : (c : Here lts.Else2) →
       let args = other-start c .args in
       word (args .ws .now) (args .at) ≡ Word.ROUND → ⊥
-  no-round c = λ e. c .if2 .left (c .before .before .peek .ensures ∙ e)
+  no-round c = λ e. c .if2 .left (c .before .before .number-at .ensures ∙ e)
 
   -- inside square brackets: a leaf.
   leaf-requires : Here lts.Need-leaf-requires
@@ -209,15 +209,15 @@ module _ (t : ℕ) where
   exists-word : (c : Here lts.Then5) →
       let args = exists-start c .args in
       word (args .ws .now) (args .at) ≡ Word.EXISTS
-  exists-word c = sym (c .before .before .before .before .peek .ensures) ∙ c .if5 .taken
+  exists-word c = sym (c .before .before .before .before .number-at .ensures) ∙ c .if5 .taken
 
   exists-space : (c : Here lts.Then5) →
       let args = exists-start c .args in
       Space 8 (args .ws .now) (args .at + 1) (args .arena .now) (args .top)
   exists-space c = past-first (exists-start c .pre .1) (exists-word c) (omega arith)
 
-  add-peek : Here lts.Need-add-peek
-  add-peek c = let s = exists-space c in omega arith
+  add-number-at : Here lts.Need-add-number-at
+  add-number-at c = let s = exists-space c in omega arith
 
   returns-7 : Here lts.Need-returns-7
   returns-7 c =
@@ -225,10 +225,10 @@ module _ (t : ℕ) where
       let here = c .before .before .before in
       let no = sym (test .ensures) ∙ not-true (test .result) (c .if6 .taken) in
       Steps.no-signal (here .before .if4 .left) (exists-word here)
-      (ap isSignal (sym (c .before .before .peek3 .ensures)) ∙ no)
+      (ap isSignal (sym (c .before .before .number-at3 .ensures)) ∙ no)
 
   -- a signal,
-  is-signal : (c : Here lts.Else6) → isSignal (c .before .before .peek3 .result) ≡ true
+  is-signal : (c : Here lts.Else6) → isSignal (c .before .before .number-at3 .result) ≡ true
   is-signal c =
       let test = c .before .is-signal in
       sym (test .ensures) ∙ not-false (test .result) (c .if6 .left)
@@ -236,14 +236,14 @@ module _ (t : ℕ) where
   signal-word : (c : Here lts.Else6) →
       let args = exists-start (at-exists c) .args in
       isSignal (word (args .ws .now) (args .at + 1)) ≡ true
-  signal-word c = ap isSignal (sym (c .before .before .peek3 .ensures)) ∙ is-signal c
+  signal-word c = ap isSignal (sym (c .before .before .number-at3 .ensures)) ∙ is-signal c
 
   signal-space : (c : Here lts.Else6) →
       let args = exists-start (at-exists c) .args in
       Space 8 (args .ws .now) (args .at + 2) (args .arena .now) (args .top)
   signal-space c =
       let args = exists-start (at-exists c) .args in
-      let signal = c .before .before .peek3 in
+      let signal = c .before .before .number-at3 in
       let w = signal-pos (signal .result) (is-signal c) in
       let l = inside (args .ws .now) (args .at + 1) (omega (arith, signal .ensures)) in
       skip (exists-space (at-exists c)) (omega arith) (omega arith)
@@ -278,7 +278,7 @@ module _ (t : ℕ) where
   sub-push : Here lts.Need-sub-push
   sub-push c =
       let signal = at-signal (exists-call (c .before)) in
-      signal-pos (signal .before .before .peek3 .result) (is-signal signal)
+      signal-pos (signal .before .before .number-at3 .result) (is-signal signal)
 
   push-requires-2 : Here lts.Need-push-requires-2
   push-requires-2 c κs =
@@ -296,7 +296,7 @@ module _ (t : ℕ) where
       let signal = at-signal (exists-call tree) in
       let here = at-exists signal in
       Steps.U-exists (here .before .if4 .left) (exists-word here) (signal-word signal) (exists-tree tree)
-      (signal .before .before .peek3 .ensures) (c .before .before .before .push2 .ensures) (c .exists-facts .ensures)
+      (signal .before .before .number-at3 .ensures) (c .before .before .before .push2 .ensures) (c .exists-facts .ensures)
 
   -- or an atom.
   parse-atom-requires : Here lts.Need-parse-atom-requires
@@ -314,7 +314,7 @@ module _ (t : ℕ) where
       let outside = no-exists .before in
       let here = outside .before in
       Steps.U-atom (no-not here) (no-round here) (outside .if4 .left)
-      (λ e. no-exists .if5 .left (here .before .before .peek .ensures ∙ e)) (call .parse-atom .ensures)
+      (λ e. no-exists .if5 .left (here .before .before .number-at .ensures ∙ e)) (call .parse-atom .ensures)
 
   -- So the member meets its contract, if the calls with lower measures do.
   pub met : {M : Type 1} → lts.Closed (calls-parse-u t) (parse-u-at t) reads.Post M
@@ -323,7 +323,7 @@ module _ (t : ℕ) where
       (λ c κs. search needs) add-parse-u parse-u-requires (λ c. search needs) (λ c. search needs) same-length
       returns push-requires not-facts-requires same-length-2 returns-2 add-parse-f parse-f-requires
       (λ c. search needs) (λ c. search needs) same-length-3 returns-3 (λ c κs. search needs) same-length-4 returns-4
-      add-t28 same-length-5 returns-5 leaf-requires same-length-6 returns-6 add-peek (λ c κs. search needs)
+      add-t28 same-length-5 returns-5 leaf-requires same-length-6 returns-6 add-number-at (λ c κs. search needs)
       (λ c κs. search needs) returns-7 add-parse-u-2 parse-u-requires-2 (λ c. search needs) (λ c. search needs)
       same-length-7 returns-8 sub-push push-requires-2 (λ c κs. search needs) same-length-8 returns-9
       parse-atom-requires same-length-9 returns-10
