@@ -12,7 +12,8 @@ use lib.Seq.{getD-take, length-take-le, ext-getD}
 use borrow.Author.Tests.{ltb-true}
 use Rattle.lists.specs.Text.{bytes}
 use Rattle.lists.specs.Decimal.{isDigit}
-use Rattle.tables.specs.Table.{numberAt, all, Equation, equationAt, kindOf, kindAt, shapeOf, isFlow}
+use Rattle.lists.specs.Number.{numberAt}
+use Rattle.tables.specs.Table.{all, Equation, equationAt, kindOf, kindAt, shapeOf, isFlow}
 use Rattle.tables.specs.Table.{operandFits, shapeFits, equationFits, equationsFit, checked}
 use Rattle.limits.specs.Limits.{equationLimit}
 use Rattle.tables.specs.declared.Sort.{Sort}

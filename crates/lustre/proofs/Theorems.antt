@@ -9,7 +9,8 @@ use lib.ListN.{length, take, drop, length-append, List·getD-append}
 use lib.Seq.{take-at, getD-take, length-take-le}
 use Rattle.limits.specs.Limits.{tableRoom}
 use borrow.Author.Tests.{le-leb}
-use Rattle.tables.specs.Table.{numberAt, equationAt, Test, test, checked}
+use Rattle.lists.specs.Number.{numberAt}
+use Rattle.tables.specs.Table.{equationAt, Test, test, checked}
 use Rattle.tables.specs.declared.Checked.{Checked}
 use Rattle.tables.specs.declared.Checked.the-variants.{Passed, Refused as Failed}
 use Rattle.tables.proofs.Checks.{checked-fitting, passed-both, refused-table}

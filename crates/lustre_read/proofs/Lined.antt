@@ -11,7 +11,8 @@ use lib.ListN.{length, getD, drop, set, length-set}
 use lib.Seq.{sets, length-sets, getD-set-same, getD-set-other}
 use Rattle.lists.specs.Text.{bytes}
 use Rattle.lists.specs.Decimal.{isDigit}
-use Rattle.tables.specs.Table.{numberAt, Equation, equationAt}
+use Rattle.lists.specs.Number.{numberAt}
+use Rattle.tables.specs.Table.{Equation, equationAt}
 use Rattle.limits.specs.Limits.{equationLimit, tableRoom}
 use Rattle.lustre.specs.Text.{lineEnd, lineText, lines}
 use Rattle.lustre.specs.Form.{equation, equationOf, own, Letter, slot, render, absent}
