@@ -27,9 +27,6 @@ part-show-start c = omega arith
 part-show-end : tie.Need-part-show-end Inv-loop μ-loop
 part-show-end c = omega arith
 
-show-requires : tie.Need-show-requires Inv-loop μ-loop
-show-requires c κs = search needs
-
 add-at : tie.Need-add-at Inv-loop μ-loop
 add-at c = omega arith
 
@@ -39,22 +36,9 @@ loop-less c = omega arith
 loop-again : tie.Need-loop-again Inv-loop μ-loop
 loop-again c = omega arith
 
-returns : tie.Need-returns Inv-loop μ-loop
-returns c = search needs
-
 pub show-lines-spec : {M : Type 1} → statement M
 show-lines-spec =
     tie.close
     (tie.spec
-    Inv-loop
-    μ-loop
-    loop-holds
-    line-end-requires
-    sub-show
-    part-show-start
-    part-show-end
-    show-requires
-    add-at
-    loop-less
-    loop-again
-    returns)
+    Inv-loop μ-loop loop-holds line-end-requires sub-show part-show-start part-show-end (λ c κs. search needs)
+    add-at loop-less loop-again (λ c. search needs))

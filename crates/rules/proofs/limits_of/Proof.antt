@@ -19,9 +19,6 @@ abbrev μ-loop : tie.MeasureT-loop
 loop-holds : tie.Need-loop-holds Inv-loop μ-loop
 loop-holds c = passed-none _
 
-mul-w : tie.Need-mul-w Inv-loop μ-loop
-mul-w c = search needs
-
 shared-slice-read-w : tie.Need-shared-slice-read-w Inv-loop μ-loop
 shared-slice-read-w c = omega arith
 
@@ -35,14 +32,8 @@ returns c =
     let is-deep = passed-deep (head .inv) (omega arith) (omega arith) in
     (rw is-deep, rw is-deep)
 
-is-counted-requires : tie.Need-is-counted-requires Inv-loop μ-loop
-is-counted-requires c κs = search needs
-
 add-n : tie.Need-add-n Inv-loop μ-loop
 add-n c = omega arith
-
-beyond-after-requires : tie.Need-beyond-after-requires Inv-loop μ-loop
-beyond-after-requires c κs = search needs
 
 add-i : tie.Need-add-i Inv-loop μ-loop
 add-i c = omega arith
@@ -73,17 +64,5 @@ pub limits-of-spec : {M : Type 1} → statement M
 limits-of-spec =
     tie.close
     (tie.spec
-    Inv-loop
-    μ-loop
-    loop-holds
-    mul-w
-    shared-slice-read-w
-    open-after-requires
-    returns
-    is-counted-requires
-    add-n
-    beyond-after-requires
-    add-i
-    loop-less
-    loop-again
-    returns-2)
+    Inv-loop μ-loop loop-holds (λ c. search needs) shared-slice-read-w open-after-requires returns
+    (λ c κs. search needs) add-n (λ c κs. search needs) add-i loop-less loop-again returns-2)

@@ -7,18 +7,12 @@ use borrow.Author.Tests.{eq-eqb, ne-eqb}
 use Rattle.rules.proofs.open_after.Statement.{statement}
 use Rattle.rules.proofs.open_after.Tie as tie
 
-add-result : tie.Need-add-result
-add-result c = search needs
-
 returns : tie.Need-returns
 returns c = simp (eq-eqb _ _ (c .if1 .taken), add-one)
 
 returns-2 : tie.Need-returns-2
 returns-2 c =
     simp (ne-eqb _ _ (c .before .before .if1 .left), eq-eqb _ _ (c .before .if2 .taken)) (ap pred (sym (c .if3 .taken)))
-
-sub-result : tie.Need-sub-result
-sub-result c = search needs
 
 returns-3 : tie.Need-returns-3
 returns-3 c = simp (ne-eqb _ _ (c .before .before .if1 .left), eq-eqb _ _ (c .before .if2 .taken), sub-one)
@@ -27,4 +21,7 @@ returns-4 : tie.Need-returns-4
 returns-4 c = simp (ne-eqb _ _ (c .before .if1 .left), ne-eqb _ _ (c .if2 .left))
 
 pub open-after-spec : {M : Type 1} → statement M
-open-after-spec = tie.close (tie.spec add-result returns returns-2 sub-result returns-3 returns-4)
+open-after-spec =
+    tie.close
+    (tie.spec
+    (λ c. search needs) returns returns-2 (λ c. search needs) returns-3 returns-4)

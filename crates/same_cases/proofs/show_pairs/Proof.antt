@@ -42,9 +42,6 @@ part-show-start-2 c = omega arith
 part-show-end-2 : tie.Need-part-show-end-2 Inv-loop μ-loop
 part-show-end-2 c = omega arith
 
-show-requires : tie.Need-show-requires Inv-loop μ-loop
-show-requires c κs = search needs
-
 add-at : tie.Need-add-at Inv-loop μ-loop
 add-at c = omega arith
 
@@ -54,27 +51,10 @@ loop-less c = omega arith
 loop-again : tie.Need-loop-again Inv-loop μ-loop
 loop-again c = omega arith
 
-returns : tie.Need-returns Inv-loop μ-loop
-returns c = search needs
-
 pub show-pairs-spec : {M : Type 1} → statement M
 show-pairs-spec =
     tie.close
     (tie.spec
-    Inv-loop
-    μ-loop
-    loop-holds
-    line-end-requires
-    next-line-requires
-    line-end-requires-2
-    sub-show
-    part-show-start
-    part-show-end
-    sub-show-2
-    part-show-start-2
-    part-show-end-2
-    show-requires
-    add-at
-    loop-less
-    loop-again
-    returns)
+    Inv-loop μ-loop loop-holds line-end-requires next-line-requires line-end-requires-2 sub-show part-show-start
+    part-show-end sub-show-2 part-show-start-2 part-show-end-2 (λ c κs. search needs) add-at loop-less loop-again
+    (λ c. search needs))
