@@ -15,7 +15,7 @@ use Rattle.observers.specs.declared.Compiled.{Compiled}
 use Rattle.observers.specs.declared.Compiled.the-variants.{Equations, Refused}
 use Rattle.observers.specs.Compile as compile-specs
 use Rattle.observers.specs.Compile.{AfterCompile}
-use Rattle.lustre.specs.Write.{AfterWrite, writeReply}
+use Rattle.lustre.specs.Write.{AfterWrite, lengthLimit, writeReply}
 use Rattle.lustre.specs.Read.{AfterRead, loadReply}
 use Rattle.lustre.specs.declared.Written.{Written}
 use Rattle.lustre.specs.declared.Written.the-variants.{Length, Refused as No-text}
@@ -95,7 +95,7 @@ pub record LoadTold (text before : List ℕ) (r : Answer) (after : List ℕ) : T
 
 -- Lengths and numbers of equations that C's answer has room for.
 abbrev pub short : Written → Type 0
-short (Length l) = l ≤ 409700
+short (Length l) = l ≤ lengthLimit
 short (No-text k) = Unit {0}
 
 abbrev pub few : Loaded → Type 0

@@ -13,6 +13,7 @@ use Rattle.lists.specs.Decimal.Numeral.{is, above, missing}
 use Rattle.lists.proofs.Decimals.{digit-range}
 use Rattle.lists.proofs.Choice.{chosen}
 use Rattle.lustre.specs.Decimal.{digit, digits, numberText}
+use Rattle.lustre.proofs.Differ.{false-true, is-missing}
 
 -- Any k that is large enough gives the same digits.
 digits-same : (k m x : ℕ) → x ≤ k → x ≤ m → digits k x ≡ digits m x
@@ -171,12 +172,11 @@ same-number max v w l r h g s t e =
 no-number : (max x : ℕ) (l : List ℕ) → not (isDigit x) ≡ true → numeral max (x ∷ l) ≡ missing
 unfolding numeral isDigit
 no-number max x l h =
-    let other : x ≡ 48 → ⊥ = λ e. let z : _≡_ {A = ℕ} 0 1 = cc (ap (λ (y : ℕ). not (isDigit y)) e) in omega arith in
+    let other : x ≡ 48 → ⊥ = λ e. false-true (rw e at h) in
     rw (ne-eqb x 48 other, not-true (isDigit x) h)
 
 -- A number's text does not begin with a byte that is no digit.
 pub no-clash : (max v : ℕ) (l : List ℕ) (x : ℕ) (r : List ℕ) → v ≤ max → stops l ≡ true → not (isDigit x) ≡ true
     → numberText v ++ l ≡ x ∷ r → ⊥
 no-clash max v l x r h s n e =
-    let a : is v l ≡ missing = sym (reads-back max v l h s) ∙ ap (numeral max) e ∙ no-number max x r n in
-    let z : _≡_ {A = ℕ} 0 1 = cc in omega arith
+    is-missing (sym (reads-back max v l h s) ∙ ap (numeral max) e ∙ no-number max x r n)

@@ -29,6 +29,7 @@ use Rattle.lustre.specs.Scan.{scanned, scan}
 use Rattle.lustre.specs.declared.Form.{Form}
 use Rattle.lustre.specs.declared.Numbers.{Numbers}
 use Rattle.lustre.proofs.Scans.{closed, once, small, scans, apart, never}
+use Rattle.lustre.proofs.Differ.{false-true}
 
 -- A fact for each number from i up to n, as a list of proofs.
 data Each (P : ℕ → Type 0) (n : ℕ) : ℕ → Type 0 where
@@ -191,7 +192,7 @@ Keeps false x y = Unit {0}
 
 kept : (b : Bool) {x y : ℕ} → Keeps b x y → b ≡ true → x ≡ y
 kept true k e = k
-kept false k e = absurd (let z : _≡_ {A = ℕ} 0 1 = cc in omega arith)
+kept false k e = absurd (false-true e)
 
 -- An equation has form f if it has the kind and the numbers that the form settles.
 having : (f k a b c : ℕ) → formOf (equation k a b c) ≡ f → k ≡ formAt f .settled .kind

@@ -1,4 +1,5 @@
 -- Laws of texts, forms and tables, and what holds of writing and reading together.
+pub mod Differ
 pub mod Decimals
 pub mod Scans
 pub mod Forms

@@ -17,6 +17,7 @@ use Rattle.lustre.specs.Form.{highest, Small}
 use Rattle.lustre.specs.Scan.{Scanned, unlike, scanned, afterNumber, afterByte, scan}
 use Rattle.lustre.proofs.Decimals.{stops, reads-back, Stood, stood, higher, nothing, number-stood}
 use Rattle.lustre.proofs.Decimals.{same-number, no-clash}
+use Rattle.lustre.proofs.Differ.{false-true}
 
 -- The letters.
 pub letter : (x : ℕ) → letter? x ≡ true → Letter x
@@ -33,7 +34,7 @@ letter x h = go (ltb 64 x) refl h
 
     go : (b : Bool) → ltb 64 x ≡ b → cond b (ltb x 68) false ≡ true → Letter x
     go true p q = three x (ltb-true 64 x p) (ltb-true x 68 q) (eqb x 65) (eqb x 66) refl refl
-    go false p q = absurd (let z : _≡_ {A = ℕ} 0 1 = cc in omega arith)
+    go false p q = absurd (false-true q)
 
 put-same : (e : Equation) {x : ℕ} (v : ℕ) → Letter x → slot (put e x v) x ≡ v
 put-same e v isA = refl
@@ -41,15 +42,15 @@ put-same e v isB = refl
 put-same e v isC = refl
 
 put-other : (e : Equation) {x y : ℕ} (v : ℕ) → Letter x → Letter y → eqb x y ≡ false → slot (put e y v) x ≡ slot e x
-put-other e v isA isA h = absurd (let z : _≡_ {A = ℕ} 0 1 = cc in omega arith)
+put-other e v isA isA h = absurd (false-true (sym h))
 put-other e v isA isB h = refl
 put-other e v isA isC h = refl
 put-other e v isB isA h = refl
-put-other e v isB isB h = absurd (let z : _≡_ {A = ℕ} 0 1 = cc in omega arith)
+put-other e v isB isB h = absurd (false-true (sym h))
 put-other e v isB isC h = refl
 put-other e v isC isA h = refl
 put-other e v isC isB h = refl
-put-other e v isC isC h = absurd (let z : _≡_ {A = ℕ} 0 1 = cc in omega arith)
+put-other e v isC isC h = absurd (false-true (sym h))
 
 put-kind : (e : Equation) {x : ℕ} (v : ℕ) → Letter x → put e x v .kind ≡ e .kind
 put-kind e v isA = refl
@@ -95,7 +96,7 @@ once (x ∷ f) = cond (letter? x) (absent x f) true && once f
 
 opens-stops : (e : Equation) (f l : List ℕ) → opens f ≡ true → stops (render e f ++ l) ≡ true
 unfolding render
-opens-stops e [] l h = absurd (let z : _≡_ {A = ℕ} 0 1 = cc in omega arith)
+opens-stops e [] l h = absurd (false-true h)
 opens-stops e (x ∷ f) l h =
     let p = and-true (not (letter? x)) _ h in
     rw (not-true (letter? x) (p .0)) (p .1)
@@ -131,7 +132,7 @@ agree-byte e e₀ x f n a = record { kinds = a .kinds; others = λ y j h. a .oth
         go true p =
             let q = ap letter? (eqb-true y x p) in
             let l = lettered y j in
-            absurd (let z : _≡_ {A = ℕ} 0 1 = cc in omega arith)
+            absurd (false-true (sym n ∙ sym q ∙ l))
         go false p = p
 
 -- What is written is scanned.
@@ -237,8 +238,8 @@ apart (x ∷ f) (y ∷ g) =
 pub never : (e e′ : Equation) → Small e → Small e′ → (f g l r : List ℕ) → closed f ≡ true → closed g ≡ true
     → apart f g ≡ true → render e f ++ l ≡ render e′ g ++ r → ⊥
 unfolding render closed apart
-never e e′ s s′ [] g l r p q a m = let z : _≡_ {A = ℕ} 0 1 = cc in omega arith
-never e e′ s s′ (x ∷ f) [] l r p q a m = let z : _≡_ {A = ℕ} 0 1 = cc in omega arith
+never e e′ s s′ [] g l r p q a m = false-true a
+never e e′ s s′ (x ∷ f) [] l r p q a m = false-true a
 never e e′ s s′ (x ∷ f) (y ∷ g) l r p q a m =
     let p′ = and-true (cond (letter? x) (opens f) true) _ p in
     let q′ = and-true (cond (letter? y) (opens g) true) _ q in

@@ -15,11 +15,12 @@ use Rattle.tables.specs.Table.Kind.{countPre, capped, ifElse, compareLiteral, c
 use Rattle.tables.proofs.Checks.{checked-fitting}
 use Rattle.tables.specs.declared.Checked.{Checked}
 use Rattle.tables.specs.declared.Checked.the-variants.{Passed, Refused as Failed}
-use Rattle.lustre.specs.Write.{writeEffect, effectIf, writeChecked, afterText}
+use Rattle.lustre.specs.Write.{lengthLimit, writeEffect, effectIf, writeChecked, afterText}
 use Rattle.lustre.specs.declared.Written.the-variants.{Length}
 use Rattle.lustre.proofs.Decimals.{digits-short}
 use Rattle.lustre.proofs.Theorems.{text-written}
 use Rattle.lustre.specs.Text.{truthText, opText, valueText, lineEnd, lineText, lines, foot, textOf}
+use Rattle.lustre.proofs.Differ.{refused-length}
 
 -- The numbers of an equation are of 32 bits.
 record Words (e : Equation) : Type 0 where
@@ -71,18 +72,18 @@ module _ (t : List ℕ) (small : (i : ℕ) → getD t i 0 < 4294967296) where
   lines-few (suc n) h = simp length-append (omega (arith, lines-few n (omega arith), line-few n (omega arith)))
 
   -- The whole text.
-  pub text-few : (n : ℕ) → n ≤ equationLimit → length (textOf t n) ≤ 409700
+  pub text-few : (n : ℕ) → n ≤ equationLimit → length (textOf t n) ≤ lengthLimit
   unfolding textOf foot
   text-few n h = simp length-append (omega (arith, lines-few n h, digits-short (n - 1) (omega arith)))
 
   -- What a call wrote.
-  pub written-few : (n l : ℕ) (buffer : List ℕ) → writeEffect t n buffer .answer ≡ Length l → l ≤ 409700
+  pub written-few : (n l : ℕ) (buffer : List ℕ) → writeEffect t n buffer .answer ≡ Length l → l ≤ lengthLimit
   unfolding writeEffect afterText
   written-few n l buffer e = go (writeChecked t n buffer) e
     where
-      few : length (textOf t n) ≤ 409700
+      few : length (textOf t n) ≤ lengthLimit
       few = text-few n (checked-fitting t n (text-written t n l buffer e .0) .few)
 
-      go : (c : Checked) → effectIf c t n buffer .answer ≡ Length l → l ≤ 409700
+      go : (c : Checked) → effectIf c t n buffer .answer ≡ Length l → l ≤ lengthLimit
       go Passed q = let k : length (textOf t n) ≡ l = cc in omega (arith, few)
-      go (Failed r) q = absurd (let z : _≡_ {A = ℕ} 0 1 = cc in omega arith)
+      go (Failed r) q = absurd (refused-length q)

@@ -21,6 +21,7 @@ use Rattle.lustre.specs.declared.Written.the-variants.{Length}
 use Rattle.lustre.specs.declared.Loaded.{Loaded}
 use Rattle.lustre.specs.declared.Loaded.the-variants.{Equations}
 use Rattle.lustre.proofs.Tables.{well-plain, same-equations, same-numbers, same-text, same-check}
+use Rattle.lustre.proofs.Differ.{refused-length, refused-equations}
 
 -- Two well-formed tables with the same text are the same table.
 pub same-table : (t u : List ℕ) (n m : ℕ) → checked t n ≡ Passed → checked u m ≡ Passed → textOf t n ≡ textOf u m
@@ -80,7 +81,7 @@ text-written t n l buffer e = go (writeChecked t n buffer) refl e
     go Passed p q =
         let k : length (textOf t n) ≡ l = cc in
         (well (checked t n) refl p, take-at (textOf t n) _ l k)
-    go (Failed r) p q = absurd (let z : _≡_ {A = ℕ} 0 1 = cc in omega arith)
+    go (Failed r) p q = absurd (refused-length q)
 
 -- Read of written is the table: what a call wrote, read into a table with room, is n and the table that was written.
 pub read-of-written : (t : List ℕ) (n l : ℕ) (buffer table : List ℕ) (r : Loaded) (after : List ℕ)
@@ -114,8 +115,8 @@ written-of-read text table buffer n after w h = go (Equations n) after w refl
   where
     go : (r : Loaded) (a : List ℕ) → AfterRead text table r a → r ≡ Equations n
         → writeEffect a n buffer ≡ afterWrite (Length (length text)) (text ++ drop (length text) buffer)
-    go r a (unread k) e = absurd (let z : _≡_ {A = ℕ} 0 1 = cc in omega arith)
-    go r a (no-room v l) e = absurd (let z : _≡_ {A = ℕ} 0 1 = cc in omega arith)
+    go r a (unread k) e = absurd (refused-equations e)
+    go r a (no-room v l) e = absurd (refused-equations e)
     go r a (read {t = u} {n = m} v l) e =
         let y : m ≡ n = cc in
         let f = checked-fitting u m (v .well-formed) .whole in

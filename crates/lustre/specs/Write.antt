@@ -17,6 +17,10 @@ abbrev pub writeReply : Written → Reply
 writeReply (Length l) = gives l
 writeReply (Refused r) = refused r
 
+-- No table's text is longer, at 100 bytes a line (proofs/Sizes.antt).
+abbrev pub lengthLimit : ℕ
+lengthLimit = 409700
+
 -- "Write as Lustre text. 10, 11; 15: the buffer is shorter than that text."
 abbrev pub writeTests : List ℕ → ℕ → List ℕ → List Test
 writeTests t n buffer = tableTests t n ++ (test 15 (leb (length (textOf t n)) (length buffer)) ∷ [])

@@ -23,8 +23,8 @@ fn say_kept(kept: bool) {
 
 // Says whether each number from k on is 7, as in a table that nobody has written.
 fn say_numbers_from(table: &[u32], k: usize) {
-    let fresh = [7u32; 16384];
-    if table.len() <= 16384 {
+    let fresh = [7u32; limits::TABLE];
+    if table.len() <= limits::TABLE {
         if k <= table.len() {
             say_kept(lists::same_numbers(&table[k..], &fresh[k..table.len()]));
         }
@@ -47,7 +47,7 @@ fn say_loaded(loaded: Loaded, table: &[u32]) {
         Loaded::Equations(n) => {
             say(b": equations=");
             say_number(n);
-            if n <= 4096 {
+            if n <= limits::EQUATIONS {
                 say_numbers_from(table, 4 * n);
             }
         },
@@ -60,7 +60,7 @@ fn say_loaded(loaded: Loaded, table: &[u32]) {
 }
 
 fn reads(name: &[u8], text: &[u8]) {
-    let mut table = [7u32; 16384];
+    let mut table = [7u32; limits::TABLE];
     say(name);
     let loaded = read_lustre(text, &mut table);
     say_loaded(loaded, &table);
@@ -68,7 +68,7 @@ fn reads(name: &[u8], text: &[u8]) {
 
 // Reads into a table that is one number too short.
 fn reads_short(name: &[u8], text: &[u8]) {
-    let mut table = [7u32; 16383];
+    let mut table = [7u32; limits::TABLE - 1];
     say(name);
     let loaded = read_lustre(text, &mut table);
     say_loaded(loaded, &table);
@@ -81,7 +81,7 @@ fn compare(table: &[u32], n: usize, bytes: &[u8], text: &[u8]) {
     } else {
         say(b", text OTHERWISE");
     }
-    let mut back = [7u32; 16384];
+    let mut back = [7u32; limits::TABLE];
     let loaded = read_lustre(bytes, &mut back);
     let Loaded::Equations(m) = loaded else {
         say(b", read REFUSED");
@@ -89,7 +89,7 @@ fn compare(table: &[u32], n: usize, bytes: &[u8], text: &[u8]) {
     };
     say(b", read equations=");
     say_number(m);
-    if n <= 4096 {
+    if n <= limits::EQUATIONS {
         if 4 * n <= table.len() {
             if lists::same_numbers(&back[..4 * n], &table[..4 * n]) {
                 say(b", numbers the same");

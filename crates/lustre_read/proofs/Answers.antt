@@ -17,6 +17,7 @@ use Rattle.lustre.specs.declared.Loaded.the-variants.{Equations}
 use Rattle.lustre_read.specs.declared.Proposal.{Proposal}
 use Rattle.lustre_read.specs.declared.Proposal.the-variants.{Nothing, Table}
 use Rattle.lustre.proofs.Tables.{well-plain, same-equations, same-check}
+use Rattle.lustre.proofs.Differ.{failed-passed}
 
 -- What a proposal says, by its cases.
 pub none-proposed : (text u : List ℕ) (r : Proposal) → r ≡ Nothing → proposalSeen text u r
@@ -33,7 +34,7 @@ ill-formed {text} {u} {n} r w l e t m s =
     let c = same-equations (well-plain t m (s .well-formed)) (w .table) (s .exactly ∙ sym (w .says)) in
     let f : checked t n ≡ Passed = rw (← c .0) (s .well-formed) in
     let g : checked u n ≡ Passed = same-check t u n (rw (c .0) at (c .1)) (omega (arith, w .table .few)) f in
-    let z : _≡_ {A = ℕ} 0 1 = cc in omega arith
+    failed-passed (e ∙ g)
 
 -- It proposes one that keeps them.
 pub well-formed : {text u : List ℕ} {n : ℕ} → Proposed text u n → checked u n ≡ Passed → Writes u n text

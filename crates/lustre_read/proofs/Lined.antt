@@ -31,6 +31,7 @@ use Rattle.lustre.proofs.Scans.Seen.{unseen, seen}
 use Rattle.lustre.proofs.Forms.{form-fine, form-plain, end-form, end-as}
 use Rattle.lustre.proofs.Parts.{line-text}
 use Rattle.lustre.proofs.Tables.{lines-same}
+use Rattle.lustre.proofs.Differ.{false-true, unlike-scanned}
 
 -- What the form r finds at p.
 abbrev pub tried : List ℕ → ℕ → Form → Scanned
@@ -55,7 +56,7 @@ end-none text p w e r v h =
     rw (h, end-form e v)
     (scans e (v .fits .small) (formText f) r (equationOf (f .settled)) (form-fine (formOf e) (v .known) .closes)
     (v .fits .agrees)) in
-    let z : _≡_ {A = ℕ} 0 1 = cc in omega arith
+    unlike-scanned (a ∙ b)
 
 -- If a form is found, the text of an equation that has it stands there.
 pub end-found : (text : List ℕ) (p f q : ℕ) (r : Form) (e : Equation) → f < formCount → r ≡ formAt f
@@ -66,7 +67,7 @@ end-found text p f q r e h er g =
   where
     go : (s : Scanned) → scanned e (drop q text) ≡ s
         → Seen (formText (formAt f)) (drop p text) (equationOf (formAt f .settled)) s → EndAt text p e q
-    go unlike k unseen = absurd (let z : _≡_ {A = ℕ} 0 1 = cc in omega arith)
+    go unlike k unseen = absurd (unlike-scanned (sym k))
     go (scanned m l) k (seen b a c) =
         let em : m ≡ e = cc in
         let el : l ≡ drop q text = cc in
@@ -81,7 +82,7 @@ pub scanned-text : (f l r : List ℕ) (e₀ e : Equation) → once f ≡ true �
 scanned-text f l r e₀ e o h = go (scan f l e₀) h (sees f l e₀ o)
   where
     go : (s : Scanned) → scanned e r ≡ s → Seen f l e₀ s → l ≡ render e f ++ r
-    go unlike h unseen = absurd (let z : _≡_ {A = ℕ} 0 1 = cc in omega arith)
+    go unlike h unseen = absurd (unlike-scanned (sym h))
     go (scanned m z) h (seen b _ _) = let p : m ≡ e = cc in let q : z ≡ r = cc in b ∙ rw (p, q)
 
 pub own-small : (i : ℕ) → i ≤ highest → Small (own i)
@@ -91,7 +92,7 @@ pub own-agrees : (i : ℕ) (f : List ℕ) → absent 65 f ≡ false → Agree (o
 own-agrees i f n = record { kinds = refl; others = others }
   where
     others : (x : ℕ) → Letter x → absent x f ≡ true → slot (own i) x ≡ slot (own 0) x
-    others x isA e = absurd (let z : _≡_ {A = ℕ} 0 1 = cc in omega arith)
+    others x isA e = absurd (false-true (sym n ∙ e))
     others x isB e = refl
     others x isC e = refl
 
@@ -109,7 +110,7 @@ module _ (text : List ℕ) (p i : ℕ) (few : i < equationLimit) where
 
   -- No line stands where `fN=` does not,
   pub line-absent : unlike ≡ scan (bytes "fA=") (drop p text) (own 0) → NoLine i (drop p text)
-  line-absent g e r w h = let a = here e r h in let z : _≡_ {A = ℕ} 0 1 = cc in omega arith
+  line-absent g e r w h = unlike-scanned (g ∙ here e r h)
 
   -- nor where N is another number,
   pub line-other : (o : Equation) (q : ℕ) → scanned o (drop q text) ≡ scan (bytes "fA=") (drop p text) (own 0)

@@ -16,6 +16,7 @@ use Rattle.lustre.proofs.Scans.{closed, once, scans}
 use Rattle.lustre.proofs.Tables.{well-plain, foot-stops, same-lines, after-let}
 use Rattle.lustre_read.specs.Inner.{AllLinesAt, Proposed}
 use Rattle.lustre_read.proofs.Lined.{own-small, own-agrees, scanned-text}
+use Rattle.lustre.proofs.Differ.{unlike-scanned}
 
 -- The first line: where it is not found, no table's text stands.
 pub no-opening : (text : List ℕ) (d : Equation) → d ≡ own 0 → unlike ≡ scan opening (drop 0 text) d
@@ -29,7 +30,7 @@ no-opening text d e h t m s =
     let g : Agree (own 0) (own 0) opening = record { kinds = refl; others = λ x i h. refl } in
     let c : scan opening text (own 0) ≡ scanned (own 0) o = rw a (scans (own 0) b opening o (own 0) refl g) in
     let f : unlike ≡ scan opening text (own 0) = h ∙ ap (scan opening text) e in
-    let z : _≡_ {A = ℕ} 0 1 = cc in omega arith
+    unlike-scanned (f ∙ c)
 
 pub opening-found : (text : List ℕ) (p : ℕ) (d e : Equation) → scanned e (drop p text) ≡ scan opening (drop 0 text) d
     → text ≡ opening ++ drop p text
@@ -65,7 +66,7 @@ module _ {text u : List ℕ} {p n q : ℕ} (start : text ≡ opening ++ drop p t
   no-closing d e g t m s =
       let k = last-scans t m s in
       let f = g ∙ ap (scan closing (drop q text)) e in
-      let z : _≡_ {A = ℕ} 0 1 = cc in omega arith
+      unlike-scanned (f ∙ k)
 
   -- bytes follow them,
   pub bytes-left : (d e : Equation) (end : ℕ) → d ≡ own 0 → scanned e (drop end text) ≡ scan closing (drop q text) d

@@ -16,7 +16,7 @@ use Rattle.tables.specs.Table.{Equation, equationAt}
 use Rattle.lustre.specs.Decimal.{digit, numberText}
 use Rattle.lustre.specs.Text.{lineText, lines}
 use Rattle.lustre.specs.Form.{letter?, slot, piece, render, formWidth}
-use Rattle.lustre_write.specs.Placed.{Placed}
+use Rattle.lustre_write.specs.Placed.{Placed, pieceRoom, formRoom, lineRoom}
 use Rattle.lustre.proofs.Decimals.{digits-one, digits-more, digits-short}
 
 -- What stands before is kept.
@@ -77,12 +77,12 @@ pub placed-length : {l : ℕ} {t b a : List ℕ} {r : ℕ} → Placed l t b a r 
 placed-length {t} {b} w = ap length (w .buffer) ∙ length-sets b 0 t
 
 -- A number of one digit, and one of more.
-pub number-one : (x : ℕ) (b a : List ℕ) → x < 10 → a ≡ set b 0 (digit x) → Placed 10 (numberText x) b a 1
+pub number-one : (x : ℕ) (b a : List ℕ) → x < 10 → a ≡ set b 0 (digit x) → Placed pieceRoom (numberText x) b a 1
 number-one x b a h e =
     record { result = rw (digits-one x h); buffer = rw (digits-one x h) e; short = omega arith }
 
-pub number-more : (x r : ℕ) (b m a : List ℕ) → 10 ≤ x → x < 4294967296 → Placed 10 (numberText (x / 10)) b m r
-    → a ≡ set m r (digit (x % 10)) → Placed 10 (numberText x) b a (r + 1)
+pub number-more : (x r : ℕ) (b m a : List ℕ) → 10 ≤ x → x < 4294967296 → Placed pieceRoom (numberText (x / 10)) b m r
+    → a ≡ set m r (digit (x % 10)) → Placed pieceRoom (numberText x) b a (r + 1)
 number-more x r b m a h g w e =
     let n : r + 1 ≡ length (numberText x) = rw (digits-more x h, length-append) (omega (arith, w .result)) in
     let more : sets b 0 (numberText (x / 10) ++ (digit (x % 10) ∷ [])) ≡ set m r (digit (x % 10)) =
@@ -99,15 +99,15 @@ number-length {t} {b} {m} a i v w f = ap length f ∙ length-set m i v ∙ place
 
 -- One byte of a form: the number of a letter, or the byte itself.
 pub piece-letter : (e : Equation) (x s : ℕ) {b a : List ℕ} {r : ℕ} → letter? x ≡ true → s ≡ slot e x
-    → Placed 10 (numberText s) b a r → Placed 10 (piece e x) b a r
+    → Placed pieceRoom (numberText s) b a r → Placed pieceRoom (piece e x) b a r
 piece-letter e x s h es w = rw (h, ← es) w
 
 pub piece-byte : (e : Equation) (x : ℕ) (b a : List ℕ) → letter? x ≡ false → a ≡ set b 0 x
-    → Placed 10 (piece e x) b a 1
+    → Placed pieceRoom (piece e x) b a 1
 piece-byte e x b a h ea = rw h (record { result = refl; buffer = ea; short = omega arith })
 
 -- The first j bytes of a form: none, one more, all.
-pub form-none : (e : Equation) (f b : List ℕ) → Placed (10 * 0) (render e (take 0 f)) b b 0
+pub form-none : (e : Equation) (f b : List ℕ) → Placed (pieceRoom * 0) (render e (take 0 f)) b b 0
 unfolding render
 form-none e f b = record { result = refl; buffer = refl; short = omega arith }
 
@@ -122,14 +122,14 @@ unfolding render
 render-more e f j h = rw (add-one j, take-suc f j 0 h, render-append, append-nil)
 
 pub form-more : (f : List ℕ) (e : Equation) (x q : ℕ) {b m p : List ℕ} {r j k : ℕ}
-    → Placed (10 * j) (render e (take j f)) b m r → j < length f → x ≡ getD f j 0 → q ≡ min r (length m)
-    → Placed 10 (piece e x) (lent m q) p k → Placed (10 * (j + 1)) (render e (take (j + 1) f)) b (back m q p) (r + k)
+    → Placed (pieceRoom * j) (render e (take j f)) b m r → j < length f → x ≡ getD f j 0 → q ≡ min r (length m)
+    → Placed pieceRoom (piece e x) (lent m q) p k → Placed (pieceRoom * (j + 1)) (render e (take (j + 1) f)) b (back m q p) (r + k)
 form-more f e x q {b} {m} {p} {r} {j} {k} w h ex eq v =
-    let n : 10 * j + 10 ≡ 10 * (j + 1) = omega arith in
+    let n : pieceRoom * j + pieceRoom ≡ pieceRoom * (j + 1) = omega arith in
     rw (render-more e f j h, ← ex, ← n) (joined q w eq v)
 
-pub form-all : (f : List ℕ) (e : Equation) {b a : List ℕ} {r j : ℕ} → Placed (10 * j) (render e (take j f)) b a r
-    → length f ≤ j → j ≤ formWidth → Placed 220 (render e f) b a r
+pub form-all : (f : List ℕ) (e : Equation) {b a : List ℕ} {r j : ℕ} → Placed (pieceRoom * j) (render e (take j f)) b a r
+    → length f ≤ j → j ≤ formWidth → Placed formRoom (render e f) b a r
 form-all f e {b} {a} {r} {j} w h g =
     let z : take j f ≡ f = take-all j f h in
     record { result = w .result ∙ rw z; buffer = w .buffer ∙ rw z; short = omega (arith, w .short) }
@@ -139,10 +139,10 @@ pub lines-none : (t b : List ℕ) → Placed 0 (lines t 0) b b 0
 unfolding lines
 lines-none t b = record { result = refl; buffer = refl; short = omega arith }
 
-pub lines-more : (t : List ℕ) (i q : ℕ) {b m p : List ℕ} {r k : ℕ} → Placed (440 * i) (lines t i) b m r
-    → q ≡ min r (length m) → Placed 440 (lineText i (equationAt t i)) (lent m q) p k
-    → Placed (440 * (i + 1)) (lines t (i + 1)) b (back m q p) (r + k)
+pub lines-more : (t : List ℕ) (i q : ℕ) {b m p : List ℕ} {r k : ℕ} → Placed (lineRoom * i) (lines t i) b m r
+    → q ≡ min r (length m) → Placed lineRoom (lineText i (equationAt t i)) (lent m q) p k
+    → Placed (lineRoom * (i + 1)) (lines t (i + 1)) b (back m q p) (r + k)
 unfolding lines
 lines-more t i q w eq v =
-    let n : 440 * i + 440 ≡ 440 * (i + 1) = omega arith in
+    let n : lineRoom * i + lineRoom ≡ lineRoom * (i + 1) = omega arith in
     rw (← n, add-one i) (joined q w eq v)

@@ -20,7 +20,7 @@ use Rattle.lustre.specs.declared.Written.the-variants.{Length, Refused}
 use Rattle.lustre.proofs.Forms.{form-fine, form-room, end-form}
 use Rattle.lustre.proofs.Parts.{opening, closing, opening-text, foot-text, line-text}
 use Rattle.lustre.proofs.Theorems.{write-passed}
-use Rattle.lustre_write.specs.Placed.{Placed}
+use Rattle.lustre_write.specs.Placed.{Placed, formRoom}
 use Rattle.lustre_write.proofs.Placing.{lent, back, joined, placed-as}
 
 -- The form r that was fetched for an equation.
@@ -46,10 +46,10 @@ line-placed i q d e e′ h g w c v =
     (joined q (placed-as (ap (λ (x : Equation). render x (bytes "fA=")) h) w) c v)
 
 pub text-placed : (t : List ℕ) (n q u : ℕ) (d f : Equation) {l : ℕ} {b m p s : List ℕ} {r k j : ℕ}
-    → Placed 220 (render d opening) b m r → q ≡ min r (length m) → Placed l (lines t n) (lent m q) p k
+    → Placed formRoom (render d opening) b m r → q ≡ min r (length m) → Placed l (lines t n) (lent m q) p k
     → u ≡ min (r + k) (length (back m q p)) → f ≡ own (n - 1)
-    → Placed 220 (render f closing) (lent (back m q p) u) s j
-    → Placed (220 + l + 220) (textOf t n) b (back (back m q p) u s) (r + k + j)
+    → Placed formRoom (render f closing) (lent (back m q p) u) s j
+    → Placed (formRoom + l + formRoom) (textOf t n) b (back (back m q p) u s) (r + k + j)
 unfolding textOf
 text-placed t n q u d f w c v c′ e x =
     joined u (joined q (placed-as (opening-text d) w) c v) c′

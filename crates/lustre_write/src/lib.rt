@@ -17,7 +17,7 @@ ghost use Rattle.lustre.specs.Decimal.{numberText};
 ghost use Rattle.lustre.specs.Text.{lineEnd, lineText, lines, textOf};
 ghost use Rattle.lustre.specs.Write.{afterWrite, writeEffect};
 ghost use Rattle.lustre.specs.Form.{equationOf, slot, piece, render, formWidth, formOf, Plain, PlainTable};
-ghost use Rattle.lustre_write.specs.Placed.{Placed};
+ghost use Rattle.lustre_write.specs.Placed.{Placed, pieceRoom, formRoom, lineRoom};
 
 // A byte at i; past the end nothing is stored.
 fn store(out: &mut [u8], i: usize, x: u8)
@@ -48,7 +48,7 @@ fn number_of(e: Numbers, x: u8) -> u32
 
 // The decimal digits of x. This and every writer below stores what has room and returns the length of the whole text.
 fn write_number(x: u32, out: &mut [u8]) -> usize
-    ensures { λ r. ⌜ Placed 10 (numberText x) (now (out .entry)) (now (out .exit)) r ⌝ }
+    ensures { λ r. ⌜ Placed pieceRoom (numberText x) (now (out .entry)) (now (out .exit)) r ⌝ }
 {
     if x < 10 {
         store(out, 0, b'0' + x as u8);
@@ -61,7 +61,7 @@ fn write_number(x: u32, out: &mut [u8]) -> usize
 
 // A byte of a form, or the number that it stands for.
 fn write_piece(e: Numbers, x: u8, out: &mut [u8]) -> usize
-    ensures { λ r. ⌜ Placed 10 (piece (equationOf e) x) (now (out .entry)) (now (out .exit)) r ⌝ }
+    ensures { λ r. ⌜ Placed pieceRoom (piece (equationOf e) x) (now (out .entry)) (now (out .exit)) r ⌝ }
 {
     if is_letter(x) {
         return write_number(number_of(e, x), out);
@@ -73,7 +73,7 @@ fn write_piece(e: Numbers, x: u8, out: &mut [u8]) -> usize
 // The text of a form.
 fn write_form(form: &[u8], e: Numbers, out: &mut [u8]) -> usize
     requires { ⌜ length (now form) ≤ formWidth ⌝ }
-    ensures { λ r. ⌜ Placed 220 (render (equationOf e) (now (form .entry))) (now (out .entry)) (now (out .exit)) r ⌝ }
+    ensures { λ r. ⌜ Placed formRoom (render (equationOf e) (now (form .entry))) (now (out .entry)) (now (out .exit)) r ⌝ }
 {
     let mut at = 0;
     let mut j = 0;
@@ -123,7 +123,7 @@ fn form_of(e: Numbers) -> usize
 // What follows `fN=` in the line of an equation.
 fn write_end(e: Numbers, out: &mut [u8]) -> usize
     requires { ⌜ Plain (equationOf e) ⌝ }
-    ensures { λ r. ⌜ Placed 220 (lineEnd (equationOf e)) (now (out .entry)) (now (out .exit)) r ⌝ }
+    ensures { λ r. ⌜ Placed formRoom (lineEnd (equationOf e)) (now (out .entry)) (now (out .exit)) r ⌝ }
 {
     let form = form_at(form_of(e));
     let text = form.text;
@@ -134,7 +134,7 @@ fn write_end(e: Numbers, out: &mut [u8]) -> usize
 // The line of equation i, into the unfilled tail of the text.
 fn write_line(table: &[u32], i: usize, out: &mut [u8]) -> usize
     requires { ⌜ (i < equationLimit) × Plain (equationAt (now table) i) ⌝ }
-    ensures { λ r. ⌜ Placed 440 (lineText i (equationAt (now (table .entry)) i))
+    ensures { λ r. ⌜ Placed lineRoom (lineText i (equationAt (now (table .entry)) i))
         (now (out .entry)) (now (out .exit)) r ⌝ }
 {
     let p = write_form(b"fA=", only(i), out);
@@ -145,7 +145,7 @@ fn write_line(table: &[u32], i: usize, out: &mut [u8]) -> usize
 // The lines of the first n equations.
 fn write_lines(table: &[u32], n: usize, out: &mut [u8]) -> usize
     requires { ⌜ PlainTable (now table) n ⌝ }
-    ensures { λ r. ⌜ Placed (440 * n) (lines (now (table .entry)) n) (now (out .entry)) (now (out .exit)) r ⌝ }
+    ensures { λ r. ⌜ Placed (lineRoom * n) (lines (now (table .entry)) n) (now (out .entry)) (now (out .exit)) r ⌝ }
 {
     let mut at = 0;
     let mut i = 0;
@@ -160,7 +160,7 @@ fn write_lines(table: &[u32], n: usize, out: &mut [u8]) -> usize
 // The text of a table.
 fn write_text(table: &[u32], n: usize, out: &mut [u8]) -> usize
     requires { ⌜ PlainTable (now table) n ⌝ }
-    ensures { λ r. ⌜ Placed (220 + 440 * n + 220) (textOf (now (table .entry)) n)
+    ensures { λ r. ⌜ Placed (formRoom + lineRoom * n + formRoom) (textOf (now (table .entry)) n)
         (now (out .entry)) (now (out .exit)) r ⌝ }
 {
     let last = n - 1;

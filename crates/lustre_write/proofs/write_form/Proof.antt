@@ -6,14 +6,14 @@ use native.Mathlib.Omega.{arith}
 use borrow.Author.Needs.{needs}
 use lib.ListN.{length, take}
 use Rattle.lustre.specs.Form.{equationOf, render}
-use Rattle.lustre_write.specs.Placed.{Placed}
+use Rattle.lustre_write.specs.Placed.{Placed, pieceRoom}
 use Rattle.lustre_write.proofs.Placing.{placed-length, form-none, form-more, form-all}
 use Rattle.lustre_write.proofs.write_form.Statement.{statement}
 use Rattle.lustre_write.proofs.write_form.Tie as tie
 
 abbrev Inv-loop : tie.InvT-loop
 Inv-loop form e out₀ at₀ j₀ out at j =
-    (j ≤ length form) × Placed (10 * j) (render (equationOf e) (take j form)) out₀ out at
+    (j ≤ length form) × Placed (pieceRoom * j) (render (equationOf e) (take j form)) out₀ out at
 
 abbrev μ-loop : tie.MeasureT-loop
 μ-loop form e out₀ at₀ j₀ out at j = length form - j

@@ -5,13 +5,13 @@ use mathlib.Core.Path.{_≡_}
 use Prim.Native.Nat.{_≤_, _-_, _*_}
 use native.Mathlib.Omega.{arith}
 use Rattle.lustre.specs.Text.{lines}
-use Rattle.lustre_write.specs.Placed.{Placed}
+use Rattle.lustre_write.specs.Placed.{Placed, lineRoom}
 use Rattle.lustre_write.proofs.Placing.{placed-length, lines-none, lines-more}
 use Rattle.lustre_write.proofs.write_lines.Statement.{statement}
 use Rattle.lustre_write.proofs.write_lines.Tie as tie
 
 abbrev Inv-loop : tie.InvT-loop
-Inv-loop table n out₀ at₀ i₀ out at i = (i ≤ n) × Placed (440 * i) (lines table i) out₀ out at
+Inv-loop table n out₀ at₀ i₀ out at i = (i ≤ n) × Placed (lineRoom * i) (lines table i) out₀ out at
 
 abbrev μ-loop : tie.MeasureT-loop
 μ-loop table n out₀ at₀ i₀ out at i = n - i
