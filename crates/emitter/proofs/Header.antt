@@ -9,6 +9,7 @@ use native.Mathlib.Omega.{arith}
 use lib.ListN.{getD, set, length, length-append}
 use lib.Seq.{getD-at, set-at}
 use Rattle.traces.specs.Trace.{nonzero}
+use Rattle.tables.specs.Kind.{SIGNAL, START, NOT}
 use Rattle.tables.specs.Table.{Equation}
 use Rattle.limits.specs.Limits.{signalCount}
 use Rattle.scheme.specs.Scheme.{equation}
@@ -19,16 +20,16 @@ use Rattle.emitter.proofs.Written.{written-append}
 
 -- The start flow and its negation.
 abbrev pub first-two : List Equation
-first-two = equation 1 0 0 0 ∷ equation 3 0 0 0 ∷ []
+first-two = equation START 0 0 0 ∷ equation NOT 0 0 0 ∷ []
 
-pub first-two-is : (t : List ℕ) {t₁ t₂ : List ℕ} → t₁ ≡ written t 0 (equation 1 0 0 0 ∷ [])
-    → t₂ ≡ written t₁ 1 (equation 3 0 0 0 ∷ []) → t₂ ≡ written t 0 first-two
-first-two-is t e₁ e₂ = rw (e₂, e₁, written-append (equation 1 0 0 0 ∷ []) (equation 3 0 0 0 ∷ []) t 0)
+pub first-two-is : (t : List ℕ) {t₁ t₂ : List ℕ} → t₁ ≡ written t 0 (equation START 0 0 0 ∷ [])
+    → t₂ ≡ written t₁ 1 (equation NOT 0 0 0 ∷ []) → t₂ ≡ written t 0 first-two
+first-two-is t e₁ e₂ = rw (e₂, e₁, written-append (equation START 0 0 0 ∷ []) (equation NOT 0 0 0 ∷ []) t 0)
 
 -- ---- one signal
 
 pub settled-named : (t named : List ℕ) (j o flag : ℕ) {t′ named′ : List ℕ} → flag ≡ getD named j 0 → (flag ≡ 0 → ⊥)
-    → named′ ≡ set named j o → t′ ≡ written t o (equation 0 j 0 0 ∷ [])
+    → named′ ≡ set named j o → t′ ≡ written t o (equation SIGNAL j 0 0 ∷ [])
     → headerOf t′ named′ (o + 1) ≡ settled j (headerOf t named o)
 unfolding settled
 settled-named t named j o zero e h e-named e-t = absurd (h refl)
@@ -94,7 +95,7 @@ settling-all {named = named} {j = j} e-t e h =
 -- Signal j, whose mark is x.
 settled-at : (done : List ℕ) (x : ℕ) (rest t : List ℕ) (o j : ℕ) → length done ≡ j →
     settled j (headerOf t (done ++ (x ∷ rest)) o)
-    ≡ headerOf (cond (nonzero x) (written t o (equation 0 j 0 0 ∷ [])) t) ((done ++ (o ∷ [])) ++ rest)
+    ≡ headerOf (cond (nonzero x) (written t o (equation SIGNAL j 0 0 ∷ [])) t) ((done ++ (o ∷ [])) ++ rest)
     (cond (nonzero x) (suc o) o)
 unfolding settled
 settled-at done x rest t o j e =
@@ -102,14 +103,14 @@ settled-at done x rest t o j e =
 
 -- Its equation before those of the m signals after it.
 signals-one : (ν : ℕ → Bool) (done t : List ℕ) (o j m : ℕ) (b : Bool) → ν j ≡ b →
-    headerOf (written (cond b (written t o (equation 0 j 0 0 ∷ [])) t) (cond b (suc o) o) (signals ν (suc j) m))
+    headerOf (written (cond b (written t o (equation SIGNAL j 0 0 ∷ [])) t) (cond b (suc o) o) (signals ν (suc j) m))
     ((done ++ (o ∷ [])) ++ places ν (suc j) (cond b (suc o) o) m) (after (cond b (suc o) o) (signals ν (suc j) m))
     ≡ headerOf (written t o (signals ν j (suc m))) (done ++ places ν j o (suc m)) (after o (signals ν j (suc m)))
 signals-one ν done t o j m true e =
     rw (
       e,
       append-assoc done (o ∷ []) (places ν (suc j) (suc o) m),
-      written-append (equation 0 j 0 0 ∷ []) (signals ν (suc j) m) t o,
+      written-append (equation SIGNAL j 0 0 ∷ []) (signals ν (suc j) m) t o,
     )
 signals-one ν done t o j m false e = rw (e, append-assoc done (o ∷ []) (places ν (suc j) o m))
 
@@ -126,7 +127,7 @@ settle-is ν (x ∷ rest) done t o j e h =
     let those : (i : ℕ) → i < m → ν (suc j + i) ≡ nonzero (getD rest i 0) =
     λ i k. ap ν (suc-add j i ∙ sym (add-suc j i)) ∙ h (suc i) (omega arith) in
     let long : length (done ++ (o ∷ [])) ≡ suc j = length-append done (o ∷ []) ∙ rw e (omega arith) in
-    let t′ : List ℕ = cond (nonzero x) (written t o (equation 0 j 0 0 ∷ [])) t in
+    let t′ : List ℕ = cond (nonzero x) (written t o (equation SIGNAL j 0 0 ∷ [])) t in
     let o′ : ℕ = cond (nonzero x) (suc o) o in
     ap (settle m (suc j)) (settled-at done x rest t o j e)
     ∙ settle-is ν rest (done ++ (o ∷ [])) t′ o′ (suc j) long those

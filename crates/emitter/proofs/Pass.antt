@@ -15,12 +15,13 @@ use Rattle.formulas.specs.Arena.{numValue}
 use Rattle.formulas.specs.Arena.{row, flat}
 use Rattle.formulas.proofs.Formulas.{rawP, raw}
 use Rattle.tables.specs.Table.{Equation}
-use Rattle.scheme.specs.Scheme.{_⊕_}
-use Rattle.scheme.specs.Emit.{Block, after, emitP, emit, not-block, join-block, atom-block, not-es, and-es, or-es}
+use Rattle.scheme.specs.Scheme.{_⊕_, Node, nodeOf, beginNode, pointNode, heldNode, keptNode, sumNode, ageNode}
+use Rattle.scheme.specs.Emit.{Block, after, ownFlow, emitP, emit, not-block, join-block, atom-block, not-es, and-es, or-es}
 use Rattle.scheme.specs.Emit.{begin-es, point-es, held-es, kept-es, sum-es, age-es, lead-end-es, then-es}
-use Rattle.emitter.specs.Machine.{written, nodes, nodeOf, State, state, before, recordOf}
+use Rattle.emitter.specs.Machine.{written, State, state, before, recordOf}
 use Rattle.emitter.specs.Machine.{valuesAt, applied, step, run}
-use Rattle.emitter.proofs.Written.{written-none, written-append, after-append}
+use Rattle.scheme.proofs.Places.{after-append}
+use Rattle.emitter.proofs.Written.{written-none, written-append}
 
 -- ---- blocks of equations in a state
 
@@ -80,14 +81,14 @@ module _ (places : List ℕ) where
       (joined (done x s) (y .es) (join o (x .out) (y .out)) (s .idle) (s .idle) (y .out ∷ st) (o ∷ s .stack)
       ∙ joined s (x .es) (y .es ++ join o (x .out) (y .out)) (s .idle) (s .idle) st (o ∷ s .stack))
 
-  atom-done : (rest : ℕ → ℕ → List Equation) (k : ℕ) (x : Block) (r : List ℕ) (s : State) →
+  atom-done : (rest : ℕ → ℕ → List Equation) (d : Node) (x : Block) (r : List ℕ) (s : State) →
       (let o : ℕ = after (s .next) (x .es) in
-      run places r (all (done x s) (rest o (x .out)) (s .idle) ((o ⊕ k) ∷ s .stack))
-      ≡ run places r (done (atom-block rest k (s .next) x) s))
-  atom-done rest k x r s =
+      run places r (all (done x s) (rest o (x .out)) (s .idle) (ownFlow o (d .result) ∷ s .stack))
+      ≡ run places r (done (atom-block rest d (s .next) x) s))
+  atom-done rest d x r s =
       let o : ℕ = after (s .next) (x .es) in
       ap (run places r)
-      (joined s (x .es) (rest o (x .out)) (s .idle) (s .idle) (x .out ∷ s .stack) ((o ⊕ k) ∷ s .stack))
+      (joined s (x .es) (rest o (x .out)) (s .idle) (s .idle) (x .out ∷ s .stack) (ownFlow o (d .result) ∷ s .stack))
 
   -- ---- propositions
 
@@ -95,7 +96,7 @@ module _ (places : List ℕ) where
   blockP p s = emitP flowOf p (s .next)
 
   run-prop : (p : Prop) → Runs (flat (rawP p)) (blockP p)
-  unfolding nodes nodeOf valuesAt applied step run
+  unfolding nodeOf valuesAt applied step run
   run-prop (constant c) r s = refl
   run-prop (signal j) r s = refl
   run-prop (negP p) r s = one (flat (rawP p)) (blockP p) (run-prop p) NOT 0 0 0 r s ∙ not-done (blockP p s) r s
@@ -127,19 +128,19 @@ module _ (places : List ℕ) where
   block f s = emit flowOf f (before (s .idle)) (s .idle) (s .next)
 
   pub run-formula : (f : Formula) → Runs (flat (raw f)) (block f)
-  unfolding nodes nodeOf valuesAt applied step run
+  unfolding nodeOf valuesAt applied step run
   run-formula (test begin p) r s =
-      of-test begin p r s ∙ atom-done (begin-es (before (s .idle)) (s .idle)) 3 (blockP p s) r s
+      of-test begin p r s ∙ atom-done (begin-es (before (s .idle)) (s .idle)) beginNode (blockP p s) r s
   run-formula (test end p) r s =
       let x : Block = blockP p s in
       of-test end p r s ∙ ap (run places r) (rw (written-none (done x s .table) (done x s .next)))
-  run-formula (test point p) r s = of-test point p r s ∙ atom-done (point-es (before (s .idle))) 0 (blockP p s) r s
+  run-formula (test point p) r s = of-test point p r s ∙ atom-done (point-es (before (s .idle))) pointNode (blockP p s) r s
   run-formula (test held p) r s =
-      of-test held p r s ∙ atom-done (held-es (before (s .idle)) (s .idle)) 3 (blockP p s) r s
-  run-formula (test kept p) r s = of-test kept p r s ∙ atom-done (kept-es (before (s .idle))) 1 (blockP p s) r s
+      of-test held p r s ∙ atom-done (held-es (before (s .idle)) (s .idle)) heldNode (blockP p s) r s
+  run-formula (test kept p) r s = of-test kept p r s ∙ atom-done (kept-es (before (s .idle))) keptNode (blockP p s) r s
   run-formula (len o n) r s = refl
-  run-formula (count sum p o n) r s = of-count sum p o n r s ∙ atom-done (sum-es (s .idle) o n) 3 (blockP p s) r s
-  run-formula (count age p o n) r s = of-count age p o n r s ∙ atom-done (age-es (s .idle) o n) 4 (blockP p s) r s
+  run-formula (count sum p o n) r s = of-count sum p o n r s ∙ atom-done (sum-es (s .idle) o n) sumNode (blockP p s) r s
+  run-formula (count age p o n) r s = of-count age p o n r s ∙ atom-done (age-es (s .idle) o n) ageNode (blockP p s) r s
   run-formula (neg f) r s = one (flat (raw f)) (block f) (run-formula f) NOT 0 0 0 r s ∙ not-done (block f s) r s
   run-formula (and f g) r s =
       let x : Block = block f s in

@@ -8,10 +8,11 @@ use native.Mathlib.Omega.{arith}
 use borrow.Author.Tests.{ne-eqb}
 use lib.ListN.{getD, set, drop, length, length-drop}
 use lib.Seq.{drop-cons}
-use Rattle.formulas.specs.Arena.{SIGNAL}
-use Rattle.emitter.specs.Machine.{stackSize, widest, WHOLE, State, state, step, run, ran, stacked}
+use Rattle.formulas.specs.Arena.{SIGNAL, WHOLE}
+use Rattle.scheme.specs.Scheme.{widest}
+use Rattle.emitter.specs.Machine.{stackSize, State, state, step, run, ran, stacked}
 use Rattle.emitter.specs.Machine.{recordOf, recordAt, marked, marks}
-use Rattle.emitter.specs.Contract.{Stepped, Ran, stateOf}
+use Rattle.emitter.specs.Contract.{Entered, Ran, stateOf}
 use Rattle.emitter.specs.declared.Place.{Place}
 use Rattle.emitter.specs.declared.Record.{Record}
 
@@ -71,7 +72,7 @@ entering-none h =
 -- One more record is entered.
 pub entering-one : {arena places t₀ : List ℕ} {o : ℕ} {t stack : List ℕ} {m : Place} {i : ℕ} {x : Record}
     {t′ stack′ : List ℕ} {m′ : Place} → Entering arena places t₀ o t stack m i → i + 4 ≤ length arena
-    → x ≡ recordAt arena i → Stepped places x t stack m t′ stack′ m′ → length t′ ≡ length t
+    → x ≡ recordAt arena i → Entered places x t stack m t′ stack′ m′ → length t′ ≡ length t
     → length stack′ ≡ length stack → Entering arena places t₀ o t′ stack′ m′ (i + 4)
 entering-one {arena} {places} {t₀} {o} {t} {stack} {m} {i} {x} {t′} {stack′} {m′} e h e-x d e-t e-stack =
     record {
@@ -89,7 +90,7 @@ entering-one {arena} {places} {t₀} {o} {t} {stack} {m} {i} {x} {t′} {stack�
 -- All are, and the whole rule's node.
 pub entering-all : {arena places t₀ : List ℕ} {o : ℕ} {t stack : List ℕ} {m : Place} {i : ℕ} {t′ stack′ : List ℕ}
     {m′ : Place} → Entering arena places t₀ o t stack m i → length arena < i + 4
-    → Stepped places (recordOf WHOLE 0 0 0) t stack m t′ stack′ m′ → Ran arena places t₀ o t′ (m′ .next)
+    → Entered places (recordOf WHOLE 0 0 0) t stack m t′ stack′ m′ → Ran arena places t₀ o t′ (m′ .next)
 entering-all {arena} {places} {t₀} {o} {t} {stack} {m} {i} {t′} {stack′} {m′} e h d =
     let s : State = stateOf t stack m in
     let done : s ≡ run places arena (state t₀ o 1 []) =

@@ -8,19 +8,19 @@ use lib.ListN.{length, drop}
 use lib.Seq.{sets, sets-eq}
 use Rattle.formulas.specs.Formula.{Formula}
 use Rattle.tables.specs.Table.{Equation}
-use Rattle.limits.specs.Limits.{equationLimit}
+use Rattle.limits.specs.Limits.{equationLimit, tableRoom}
 use Rattle.scheme.specs.Emit.{observer, numbersOf}
-use Rattle.emitter.proofs.Written.{numbers-length}
+use Rattle.scheme.proofs.Places.{length-numbers}
 
 -- "9: the lent table has under 16,384 numbers.": in a table of that many, an observer's equations stand at the front,
 -- and what comes after them is kept.
-pub observer-front : (f : Formula) (t : List ℕ) → length (observer f) ≤ equationLimit → 16384 ≤ length t →
+pub observer-front : (f : Formula) (t : List ℕ) → length (observer f) ≤ equationLimit → tableRoom ≤ length t →
     sets t 0 (numbersOf (observer f)) ≡ numbersOf (observer f) ++ drop (4 * length (observer f)) t
 observer-front f t few room = front (observer f) few
   where
     front : (es : List Equation) → length es ≤ equationLimit →
         sets t 0 (numbersOf es) ≡ numbersOf es ++ drop (4 * length es) t
     front es h =
-        let long : length (numbersOf es) ≡ 4 * length es = numbers-length es in
+        let long : length (numbersOf es) ≡ 4 * length es = length-numbers es in
         sets-eq (numbersOf es) t 0 (omega arith)
         ∙ ap (λ (n : ℕ). numbersOf es ++ drop n t) (zero-add (length (numbersOf es)) ∙ long)

@@ -1,25 +1,26 @@
 -- The first numbers of an array as a stack, one node added and one record entered. Assumes nothing.
 use mathlib.Core.List.{List, _∷_}
-use mathlib.Core.Path.{_≡_, refl, sym, ap, _∙_}
+use mathlib.Core.Path.{_≡_, refl, ap, ap₂, _∙_}
 use Prim.Native.Nat.{ℕ, zero, suc, _+_, _-_, _≤_, _<_}
-use native.Mathlib.Nat.{add-zero, add-suc, zero-sub, sub-zero, suc-sub-suc}
+use native.Mathlib.Nat.{zero-sub, sub-zero, suc-sub-suc}
 use native.Mathlib.Numerals.{add-one}
 use native.Mathlib.Omega.{arith}
 use lib.ListN.{getD, set, drop, length}
 use lib.Seq.{getD-set-same, getD-set-other}
-use Rattle.scheme.specs.Scheme.{_⊕_, fill}
-use Rattle.emitter.specs.Machine.{widest, written, Node, node, nodeOf, before, stacked, valuesAt, applied, step}
-use Rattle.emitter.specs.Contract.{Pushed, Added, Stepped}
+use Rattle.scheme.specs.Scheme.{valueOf, filled, nodeOf, asNode, rowsIn}
+use Rattle.scheme.specs.declared.Node.{Node as CodeNode}
+use Rattle.scheme.specs.declared.Row.{Row}
+use Rattle.scheme.specs.declared.Values.{Values}
+use Rattle.scheme.proofs.Offsets.{⊕-add}
+use Rattle.scheme.proofs.ByKind.{rows-few, own-rows}
+use Rattle.emitter.specs.Machine.{written, before, stacked, valuesAt, applied, step}
+use Rattle.emitter.specs.Contract.{Pushed, Added, Entered}
 use Rattle.emitter.specs.declared.Place.{Place}
 use Rattle.emitter.specs.declared.Record.{Record}
 
 pub before-is : (n : ℕ) → (n ≡ 0 → ⊥) → n - 1 ≡ before n
 before-is zero h = absurd (h refl)
 before-is (suc n) h = omega arith
-
-pub ⊕-add : (o k : ℕ) → o ⊕ k ≡ o + k
-⊕-add o zero = sym (add-zero o)
-⊕-add o (suc k) = ap suc (⊕-add o k) ∙ sym (add-suc o k)
 
 -- ---- reading
 
@@ -72,19 +73,35 @@ pushed {stack} {h} {t} {v} {stack′} {low} e l s =
 
 -- ---- one node: what the calls of `add_node` gave
 
-pub added : {vs t stack : List ℕ} {m : Place} {first count takes result idle : ℕ} {t′ stack′ : List ℕ} {v n h : ℕ}
-    → count ≤ widest → t′ ≡ written t (m .next) (fill vs first count) → v ≡ getD vs result 0 → n ≡ getD vs idle 0
-    → Pushed stack (m .height) takes v stack′ h
-    → Added (node first count takes result idle) vs t stack m t′ stack′
-    (record { next = m .next + count; idle = n; height = h })
+pub added : (k : ℕ) {v : Values} {t stack : List ℕ} {m : Place} {d : CodeNode} {t′ stack′ : List ℕ} {out n h : ℕ}
+    → v .place ≡ m .next → d ≡ asNode (nodeOf k) → t′ ≡ written t (v .place) (filled v (rowsIn d))
+    → out ≡ valueOf v (d .result) → n ≡ valueOf v (d .idle) → Pushed stack (m .height) (d .takes) out stack′ h
+    → Added (nodeOf k) v t stack m t′ stack′ (record { next = m .next + d .count; idle = n; height = h })
 unfolding applied
-added {m = m} {count = count} few e-t e-v e-n e-h =
-    record { stands = cc (⊕-add (m .next) count, e-h .holds); near = omega arith; low = e-h .low }
+added k {v} {t} {stack} {m} {d} {t′} placed e-d e-t e-out e-n e-h =
+    let few = rows-few k in
+    let count : d .count ≡ length (nodeOf k .rows) = ap (λ (x : CodeNode). x .count) e-d in
+    let rows : rowsIn d ≡ nodeOf k .rows = ap rowsIn e-d ∙ own-rows k in
+    let table : t′ ≡ written t (m .next) (filled v (nodeOf k .rows)) =
+    e-t ∙ ap₂ (λ (o : ℕ) (rs : List Row). written t o (filled v rs)) placed rows in
+    let result : d .result ≡ nodeOf k .result = ap (λ (x : CodeNode). x .result) e-d in
+    let idle : d .idle ≡ nodeOf k .idle = ap (λ (x : CodeNode). x .idle) e-d in
+    let takes : d .takes ≡ nodeOf k .takes = ap (λ (x : CodeNode). x .takes) e-d in
+    record {
+      stands = cc (⊕-add (m .next) (length (nodeOf k .rows)), e-h .holds);
+      near = omega arith;
+      low = e-h .low;
+    }
 
--- One record, whose node was added.
-pub entered : {places : List ℕ} {x : Record} {t stack : List ℕ} {m : Place} {d : Node} {vs t′ stack′ : List ℕ}
-    {m′ : Place} → nodeOf (x .kind) ≡ d
-    → vs ≡ valuesAt places (m .next) (m .idle) (stacked stack (m .height)) x → Added d vs t stack m t′ stack′ m′
-    → Stepped places x t stack m t′ stack′ m′
+-- One record of the kind k, whose node was added.
+pub entered : {places : List ℕ} {x : Record} {k : ℕ} {t stack : List ℕ} {m : Place} {v : Values} {t′ stack′ : List ℕ}
+    {m′ : Place} → x .kind ≡ k → v ≡ valuesAt places (m .next) (m .idle) (stacked stack (m .height)) x
+    → Added (nodeOf k) v t stack m t′ stack′ m′ → Entered places x t stack m t′ stack′ m′
 unfolding step
-entered e-d e-vs h = record { stands = cc (e-d, e-vs, h .stands); near = h .near; low = h .low }
+entered e-k e-v h = record { stands = cc (ap nodeOf e-k, e-v, h .stands); near = h .near; low = h .low }
+
+-- The values' place is where the pass stands.
+pub values-place : (places stack : List ℕ) (o n : ℕ) (x : Record) {v : Values} → v ≡ valuesAt places o n stack x
+    → v .place ≡ o
+unfolding valuesAt
+values-place places stack o n x e = ap (λ (v : Values). v .place) e

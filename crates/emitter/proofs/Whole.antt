@@ -7,16 +7,17 @@ use native.Mathlib.Omega.{arith}
 use lib.ListN.{getD, length, replicate}
 use Rattle.traces.specs.Trace.{nonzero}
 use Rattle.formulas.specs.Formula.{Formula}
-use Rattle.formulas.specs.Arena.{flat}
+use Rattle.formulas.specs.Arena.{WHOLE, flat}
 use Rattle.formulas.proofs.Formulas.{raw}
 use Rattle.tables.specs.Table.{Equation}
-use Rattle.limits.specs.Limits.{signalCount}
-use Rattle.scheme.specs.Scheme.{_⊕_}
+use Rattle.limits.specs.Limits.{arenaLimit, signalCount}
+use Rattle.scheme.specs.Scheme.{_⊕_, nodeOf}
 use Rattle.scheme.specs.Emit.{Block, after, emit, names, signals, places, whole-es}
-use Rattle.emitter.specs.Machine.{arenaLimit, WHOLE, written, nodes, nodeOf, State, state, recordOf, valuesAt}
+use Rattle.emitter.specs.Machine.{written, State, state, recordOf, valuesAt}
 use Rattle.emitter.specs.Machine.{applied, step, run, ran, marks, Header, headerOf, settle, headed}
 use Rattle.emitter.specs.Contract.{Emitted, Ran, Headed}
-use Rattle.emitter.proofs.Written.{after-length, after-append, written-append}
+use Rattle.scheme.proofs.Places.{after-length, after-append}
+use Rattle.emitter.proofs.Written.{written-append}
 use Rattle.emitter.proofs.Header.{first-two, settle-is}
 use Rattle.emitter.proofs.Named.{named-long, named-at}
 use Rattle.emitter.proofs.Pass.{done, run-formula}
@@ -53,7 +54,7 @@ whole-is : (x : Block) (ps t : List ℕ) (o : ℕ) →
     step ps (recordOf WHOLE 0 0 0) (done x (state t o 1 []))
     ≡ state (written (written t o (x .es)) o′ (whole-es 0 o′ (x .out))) (after o′ (whole-es 0 o′ (x .out))) 1
     ((o′ ⊕ 3) ∷ []))
-unfolding nodes nodeOf valuesAt applied step
+unfolding nodeOf valuesAt applied step
 whole-is x ps t o = refl
 
 -- ---- what the three calls of `emit_observer` gave

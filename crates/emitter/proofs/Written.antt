@@ -1,36 +1,27 @@
 -- Equations one after the other in a table: where they end, and what writing them leaves. Assumes nothing.
 use mathlib.Core.List.{List, [], _∷_, _++_}
 use mathlib.Core.Path.{_≡_, refl, sym, ap, _∙_}
-use Prim.Native.Nat.{ℕ, suc, _+_, _-_, _*_, _≤_, _<_}
-use native.Mathlib.Nat.{add-zero, add-suc, suc-add, sub-zero}
+use Prim.Native.Nat.{ℕ, suc, _+_, _*_, _≤_}
 use native.Mathlib.Numerals.{add-one, add-two, add-three}
 use native.Mathlib.Omega.{arith}
-use lib.ListN.{length, getD, set}
-use lib.Seq.{sets}
+use lib.ListN.{length, set, take}
+use lib.Seq.{sets, take-all}
 use Rattle.lists.proofs.Buffers.{sets-append}
 use Rattle.tables.specs.Table.{Equation}
-use Rattle.scheme.specs.Scheme.{equation, rowAt, resolved, fill}
+use Rattle.scheme.specs.Scheme.{equation, widest, valueOf, kindFor, resolved, filled, rowsIn}
+use Rattle.scheme.specs.declared.Node.{Node}
+use Rattle.scheme.specs.declared.Row.{Row}
+use Rattle.scheme.specs.declared.Values.{Values}
 use Rattle.scheme.specs.Emit.{after, numbersOf}
-use Rattle.emitter.specs.Machine.{written, rowOf}
-use Rattle.emitter.specs.declared.Row.{Row}
+use Rattle.scheme.proofs.Places.{after-append, after-length, length-numbers}
+use Rattle.scheme.proofs.Roles.{filled-length}
+use Rattle.emitter.specs.Machine.{written}
 
--- ---- the numbers of equations, and the place after them
+-- ---- the numbers of equations
 
 numbers-append : (xs ys : List Equation) → numbersOf (xs ++ ys) ≡ numbersOf xs ++ numbersOf ys
 numbers-append [] ys = refl
 numbers-append (e ∷ xs) ys = ap (λ (l : List ℕ). e .kind ∷ e .a ∷ e .b ∷ e .c ∷ l) (numbers-append xs ys)
-
-pub numbers-length : (es : List Equation) → length (numbersOf es) ≡ 4 * length es
-numbers-length [] = refl
-numbers-length (e ∷ es) = omega (arith, numbers-length es)
-
-pub after-length : (es : List Equation) (o : ℕ) → after o es ≡ o + length es
-after-length [] o = sym (add-zero o)
-after-length (e ∷ es) o = after-length es (suc o) ∙ suc-add o (length es) ∙ sym (add-suc o (length es))
-
-pub after-append : (xs ys : List Equation) (o : ℕ) → after o (xs ++ ys) ≡ after (after o xs) ys
-after-append [] ys o = refl
-after-append (e ∷ xs) ys o = after-append xs ys (suc o)
 
 -- ---- writing
 
@@ -43,7 +34,7 @@ pub written-append : (xs ys : List Equation) (t : List ℕ) (o : ℕ) →
     written t o (xs ++ ys) ≡ written (written t o xs) (after o xs) ys
 unfolding written
 written-append xs ys t o =
-    let end : 4 * o + length (numbersOf xs) ≡ 4 * after o xs = omega (arith, numbers-length xs, after-length xs o) in
+    let end : 4 * o + length (numbersOf xs) ≡ 4 * after o xs = omega (arith, length-numbers xs, after-length xs o) in
     ap (sets t (4 * o)) (numbers-append xs ys)
     ∙ sym (sets-append t (4 * o) (numbersOf xs) (numbersOf ys))
     ∙ ap (λ (n : ℕ). sets (sets t (4 * o) (numbersOf xs)) n (numbersOf ys)) end
@@ -55,55 +46,50 @@ pub written-one : (t : List ℕ) (o kind a b c : ℕ) →
 unfolding written
 written-one t o kind a b c = rw (add-one (4 * o), add-two (4 * o), add-three (4 * o))
 
--- A row of the scheme with its four names looked up, written at o.
-pub written-row : (t vs : List ℕ) (o i : ℕ) {e : Row} {kind a b c : ℕ} {t′ : List ℕ} → e ≡ rowOf i
-    → kind ≡ getD vs (e .0) 0 → a ≡ getD vs (e .1) 0 → b ≡ getD vs (e .2) 0 → c ≡ getD vs (e .3) 0
-    → t′ ≡ written t o (equation kind a b c ∷ []) → t′ ≡ written t o (resolved vs (rowAt i) ∷ [])
-unfolding rowOf
-written-row t vs o i e-row e-kind e-a e-b e-c e-t =
-    rw (e-kind, e-a, e-b, e-c) at e-t
-    ∙ ap
-    (λ (x : Row).
-    written t o (equation (getD vs (x .0) 0) (getD vs (x .1) 0) (getD vs (x .2) 0) (getD vs (x .3) 0) ∷ []))
-    e-row
+-- A row with its names looked up, written at o.
+pub written-row : (t : List ℕ) (o : ℕ) (v : Values) (r : Row) {kind a b c : ℕ} {t′ : List ℕ} → kind ≡ kindFor v (r .0)
+    → a ≡ valueOf v (r .1) → b ≡ valueOf v (r .2) → c ≡ valueOf v (r .3)
+    → t′ ≡ written t o (equation kind a b c ∷ []) → t′ ≡ written t o (resolved v r ∷ [])
+written-row t o v r e-kind e-a e-b e-c e-t = rw (e-kind, e-a, e-b, e-c) at e-t
 
--- ---- the loop of `fill`
+-- ---- rows one after the other
 
--- i of n rows from row f on are written.
-pub record Filling (t₀ : List ℕ) (o : ℕ) (vs : List ℕ) (f n : ℕ) (t : List ℕ) (i : ℕ) : Type 0 where
-  pub passed : i ≤ n
-  pub same : length t ≡ length t₀
-  pub left : written t (o + i) (fill vs (f + i) (n - i)) ≡ written t₀ o (fill vs f n)
+module _ (v : Values) where
+  filled-append : (rs qs : List Row) → filled v (rs ++ qs) ≡ filled v rs ++ filled v qs
+  filled-append [] qs = refl
+  filled-append (r ∷ rs) qs = ap (λ (l : List Equation). resolved v r ∷ l) (filled-append rs qs)
 
-pub filling-none : {t : List ℕ} {o : ℕ} {vs : List ℕ} {f n : ℕ} → Filling t o vs f n t 0
-filling-none = record { passed = omega arith; same = refl; left = rw (add-zero, add-zero, sub-zero) }
+-- The rows rs are written at their place.
+abbrev pub RowsWritten : List ℕ → Values → List Row → List ℕ → Type 0
+RowsWritten t v rs t′ = t′ ≡ written t (v .place) (filled v rs)
 
-pub filling-one : {t₀ : List ℕ} {o : ℕ} {vs : List ℕ} {f n : ℕ} {t t′ : List ℕ} {i : ℕ} → Filling t₀ o vs f n t i
-    → i < n → t′ ≡ written t (o + i) (resolved vs (rowAt (f + i)) ∷ []) → length t′ ≡ length t
-    → Filling t₀ o vs f n t′ (i + 1)
-filling-one {t₀} {o} {vs} {f} {n} {t} {t′} {i} g h e long =
-    let rest : n - i ≡ suc (n - (i + 1)) = omega arith in
-    let place : o + (i + 1) ≡ suc (o + i) = omega arith in
-    let row : f + (i + 1) ≡ suc (f + i) = omega arith in
-    let es : List Equation = fill vs (suc (f + i)) (n - (i + 1)) in
-    record {
-      passed = omega arith;
-      same = long ∙ g .same;
-      left =
-          rw (e, place, row)
-          (sym (written-append (resolved vs (rowAt (f + i)) ∷ []) es t (o + i))
-          ∙ ap (λ (k : ℕ). written t (o + i) (fill vs (f + i) k)) (sym rest)
-          ∙ g .left);
-    }
+-- One row more.
+pub row-more : (t : List ℕ) (v : Values) (rs : List Row) (r : Row) {t₁ t₂ : List ℕ} → RowsWritten t v rs t₁
+    → t₂ ≡ written t₁ (v .place + length rs) (resolved v r ∷ []) → RowsWritten t v (rs ++ (r ∷ [])) t₂
+row-more t v rs r e₁ e₂ =
+    let long : length (filled v rs) ≡ length rs = filled-length v rs in
+    let place : after (v .place) (filled v rs) ≡ v .place + length rs =
+    after-length (filled v rs) (v .place) ∙ ap (λ (n : ℕ). v .place + n) long in
+    e₂
+    ∙ ap (λ (l : List ℕ). written l (v .place + length rs) (resolved v r ∷ [])) e₁
+    ∙ ap (λ (n : ℕ). written (written t (v .place) (filled v rs)) n (resolved v r ∷ [])) (sym place)
+    ∙ sym (written-append (filled v rs) (resolved v r ∷ []) t (v .place))
+    ∙ ap (written t (v .place)) (sym (filled-append v rs (r ∷ [])))
 
-pub filling-first : {t : List ℕ} {o : ℕ} {vs : List ℕ} {f n : ℕ} {t′ : List ℕ} → 0 < n
-    → t′ ≡ written t o (resolved vs (rowAt f) ∷ []) → length t′ ≡ length t → Filling t o vs f n t′ 1
-filling-first {t} {o} {vs} {f} {n} {t′} h e long =
-    let at : t′ ≡ written t (o + 0) (resolved vs (rowAt (f + 0)) ∷ []) = e ∙ rw (add-zero, add-zero) in
-    filling-one filling-none h at long
+-- No rows, all n of them, and five.
+pub no-rows : (t : List ℕ) (v : Values) → RowsWritten t v [] t
+no-rows t v = sym (written-none t (v .place))
 
-pub filling-all : {t₀ : List ℕ} {o : ℕ} {vs : List ℕ} {f n : ℕ} {t : List ℕ} {i : ℕ} → Filling t₀ o vs f n t i
-    → n ≤ i → t ≡ written t₀ o (fill vs f n)
-filling-all {o = o} {n = n} {t = t} {i = i} g h =
-    let none : n - i ≡ 0 = omega arith in
-    sym (written-none t (o + i)) ∙ rw none at (g .left)
+abbrev five : Node → List Row
+five d = d .first ∷ d .second ∷ d .third ∷ d .fourth ∷ d .fifth ∷ []
+
+pub rows-all : (t : List ℕ) (v : Values) (d : Node) (n : ℕ) {t′ : List ℕ} → d .count ≡ n
+    → RowsWritten t v (take n (five d)) t′ → RowsWritten t v (rowsIn d) t′
+unfolding rowsIn
+rows-all t v d n e h = h ∙ ap (λ (k : ℕ). written t (v .place) (filled v (take k (five d)))) (sym e)
+
+pub rows-five : (t : List ℕ) (v : Values) (d : Node) {t′ : List ℕ} → widest ≤ d .count → RowsWritten t v (five d) t′
+    → RowsWritten t v (rowsIn d) t′
+rows-five t v d few h =
+    rows-all t v d (d .count) refl
+    (h ∙ ap (λ (l : List Row). written t (v .place) (filled v l)) (sym (take-all (d .count) (five d) few)))

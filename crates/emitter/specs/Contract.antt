@@ -9,7 +9,9 @@ use Rattle.formulas.specs.Arena.{flat}
 use Rattle.formulas.specs.Raw.{raw}
 use Rattle.limits.specs.Limits.{equationLimit, signalCount}
 use Rattle.scheme.specs.Emit.{observer, numbersOf}
-use Rattle.emitter.specs.Machine.{State, state, Node, applied, step, ran, stacked, widest, headerOf, headed}
+use Rattle.scheme.specs.Scheme.{Node, widest}
+use Rattle.scheme.specs.declared.Values.{Values}
+use Rattle.emitter.specs.Machine.{State, state, applied, step, ran, stacked, headerOf, headed}
 use Rattle.emitter.specs.declared.Place.{Place}
 use Rattle.emitter.specs.declared.Record.{Record}
 
@@ -38,13 +40,13 @@ pub record Pushed (stack : List ℕ) (height takes v : ℕ) (stack′ : List ℕ
   pub low : height′ ≤ height + 1
 
 -- The node d was added, with its values.
-pub record Added (d : Node) (vs t stack : List ℕ) (m : Place) (t′ stack′ : List ℕ) (m′ : Place) : Type 0 where
-  pub stands : stateOf t′ stack′ m′ ≡ applied d vs (stateOf t stack m)
+pub record Added (d : Node) (v : Values) (t stack : List ℕ) (m : Place) (t′ stack′ : List ℕ) (m′ : Place) : Type 0 where
+  pub stands : stateOf t′ stack′ m′ ≡ applied d v (stateOf t stack m)
   pub near : m′ .next ≤ m .next + widest
   pub low : m′ .height ≤ m .height + 1
 
 -- One record was entered.
-pub record Stepped (places : List ℕ) (x : Record) (t stack : List ℕ) (m : Place) (t′ stack′ : List ℕ) (m′ : Place)
+pub record Entered (places : List ℕ) (x : Record) (t stack : List ℕ) (m : Place) (t′ stack′ : List ℕ) (m′ : Place)
     : Type 0 where
   pub stands : stateOf t′ stack′ m′ ≡ step places x (stateOf t stack m)
   pub near : m′ .next ≤ m .next + widest

@@ -13,6 +13,10 @@ wordLimit = 240
 abbrev pub arenaLimit : ℕ
 arenaLimit = 1920
 
+-- The records of a tree.
+abbrev pub recordLimit : ℕ
+recordLimit = 480
+
 -- "signal 0 to 63"
 abbrev pub signalCount : ℕ
 signalCount = 64

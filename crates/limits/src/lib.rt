@@ -9,6 +9,9 @@ pub const WORDS: usize = 240;
 // The numbers of a tree's records: at most two records of four for each word.
 pub const ARENA: usize = 1920;
 
+// The records of a tree.
+pub const RECORDS: usize = 480;
+
 // How many signals, truth values, operators, literals and parameters there are.
 pub const SIGNALS: u32 = 64;
 

@@ -21,3 +21,5 @@ pub mod Parts
 pub mod Formed
 pub mod Sizes
 pub mod Memories
+-- The nodes that the code has:
+pub mod ByKind

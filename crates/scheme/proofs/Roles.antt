@@ -118,7 +118,7 @@ KindAt t i e = kindAt t i ≡ kindOf (e .kind)
 
 -- The equations of rows.
 module _ (v : Values) where
-  filled-length : (rs : List Row) → length (filled v rs) ≡ length rs
+  pub filled-length : (rs : List Row) → length (filled v rs) ≡ length rs
   filled-length [] = refl
   filled-length (r ∷ rs) = ap suc (filled-length rs)
 

@@ -5,7 +5,7 @@ use mathlib.Core.Bool.{cond}
 use mathlib.Core.List.{List, [], _∷_, _++_}
 use Prim.Native.Nat.{ℕ, zero, suc}
 use lib.Dec.{eqb}
-use lib.ListN.{getD, length}
+use lib.ListN.{getD, length, take}
 use Rattle.formulas.specs.Arena.{LITERAL}
 use Rattle.tables.specs.Table.{Equation}
 use Rattle.tables.specs.Kind.{CONSTANT, NOT, AND, OR, BOOLEAN-PRE, COUNT-PRE, CAPPED, IF}
@@ -239,3 +239,7 @@ asNode d =
       fourth = rowAt (d .rows) 3;
       fifth = rowAt (d .rows) 4;
     }
+
+-- Its rows.
+unfoldable pub rowsIn : CodeNode → List Row
+rowsIn d = take (d .count) (d .first ∷ d .second ∷ d .third ∷ d .fourth ∷ d .fifth ∷ [])

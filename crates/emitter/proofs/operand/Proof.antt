@@ -7,7 +7,7 @@ use Rattle.emitter.proofs.operand.Tie as tie
 
 returns : tie.Need-returns
 returns c =
-    let the-at = c .at in
+    let the-at = c .number-at in
     let the-args = c .before .before .before .args in
     let the-if1 = c .before .if1 in
     the-at .ensures ∙ operand-in (the-args .stack .now) (the-args .height) (the-args .back) (the-if1 .taken)
@@ -18,21 +18,21 @@ returns-2 c =
     let the-if1 = c .if1 in
     operand-out (the-args .stack .now) (the-args .height) (the-args .back) (the-if1 .left)
 
-sub-at : tie.Need-sub-at
-sub-at c = search needs
+sub-number-at : tie.Need-sub-number-at
+sub-number-at c = search needs
 
-sub-at-2 : tie.Need-sub-at-2
-sub-at-2 c = search needs
+sub-number-at-2 : tie.Need-sub-number-at-2
+sub-number-at-2 c = search needs
 
-at-requires : tie.Need-at-requires
-at-requires c κs = search needs
+number-at-requires : tie.Need-number-at-requires
+number-at-requires c κs = search needs
 
 pub operand-spec : {M : Type 1} → statement M
 operand-spec =
     tie.close
     (tie.spec
-    sub-at
-    sub-at-2
-    at-requires
+    sub-number-at
+    sub-number-at-2
+    number-at-requires
     returns
     returns-2)

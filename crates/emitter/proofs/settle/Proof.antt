@@ -8,7 +8,7 @@ returns : tie.Need-returns
 returns c =
     let back = c .before .before .before .before .before .before .before .before in
     let the-args = back .before .args in
-    let the-at = c .before .before .before .before .before .at in
+    let the-at = c .before .before .before .before .before .number-at in
     let the-if1 = c .if1 in
     let the-store = c .before .before .before .store in
     settled-other (the-args .table .now) (the-args .named .now) (the-args .j) (the-args .next)
@@ -18,15 +18,15 @@ returns-2 : tie.Need-returns-2
 returns-2 c =
     let back = c .before .before .before .before .before .before .before .before in
     let the-args = back .before .before .before .before .before .args in
-    let the-at = back .before .at in
+    let the-at = back .before .number-at in
     let the-if1 = c .before .before .before .before .if1 in
     let the-store = c .before .before .before .before .before .before .before .store in
     let the-put = c .before .before .put in
     settled-named (the-args .table .now) (the-args .named .now) (the-args .j) (the-args .next) (the-at .result)
     (the-at .ensures) (the-if1 .left) (the-store .ensures) (the-put .ensures)
 
-at-requires : tie.Need-at-requires
-at-requires c κs = search needs
+number-at-requires : tie.Need-number-at-requires
+number-at-requires c κs = search needs
 
 store-requires : tie.Need-store-requires
 store-requires c κs = search needs
@@ -53,7 +53,7 @@ pub settle-spec : {M : Type 1} → statement M
 settle-spec =
     tie.close
     (tie.spec
-    at-requires
+    number-at-requires
     store-requires
     same-length
     returns
