@@ -12,7 +12,7 @@ use lib.Seq.{getD-drop}
 use borrow.Author.Tests.{eqb-true, ltb-true, ltb-false}
 use Rattle.traces.specs.Trace.{bit}
 use Rattle.cards.specs.Ticks.{hexOf, hexes, tickLine}
-use Rattle.cards.specs.declared.Ticked.the-variants.{Is}
+use Rattle.cards.specs.declared.TickLine.the-variants.{Is}
 use Rattle.cards.proofs.Hex.{passed, not-failed}
 
 -- One more digit is the four lowest bits, and moves the others up by four.

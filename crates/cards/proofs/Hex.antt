@@ -1,9 +1,9 @@
 -- How hexadecimal digits (specs/Ticks.antt) go on at a place of a line, that sixteen of them fit 64 bits, and the table
 -- of their values. Assumes nothing.
 use mathlib.Core.Path.{_≡_, refl, _∙_, sym, ap}
-use mathlib.Core.Bool.{Bool, true, false, cond, _&&_}
-use mathlib.Core.List.{List}
-use Prim.Native.Nat.{ℕ, _+_, _-_, _*_, _^_, _≤_, _<_}
+use mathlib.Core.Bool.{Bool, true, false, cond}
+use mathlib.Core.List.{List, [], _∷_}
+use Prim.Native.Nat.{ℕ, zero, suc, _+_, _-_, _*_, _^_, _≤_, _<_}
 use native.Mathlib.Omega.{arith}
 use native.Mathlib.Nat.{pow-suc, pow-le-pow-right}
 use native.Mathlib.Numerals.{add-one}
@@ -12,11 +12,9 @@ use lib.ListN.{length, getD, drop, drop-of-length-le}
 use lib.Seq.{drop-cons}
 use borrow.Author.Tests.{eq-eqb, lt-ltb, le-ltb, le-leb, lt-leb, eqb-true, leb-true}
 use Rattle.lists.specs.Text.{bytes}
-use Rattle.tables.specs.Table.{all}
-use Rattle.tables.proofs.Tests.{and-true, all-at}
 use Rattle.cards.specs.Ticks.{hexOf, hexes, tickLine}
-use Rattle.cards.specs.declared.Ticked.{Ticked}
-use Rattle.cards.specs.declared.Ticked.the-variants.{Is, Broken}
+use Rattle.cards.specs.declared.TickLine.{TickLine}
+use Rattle.cards.specs.declared.TickLine.the-variants.{Is, Broken}
 
 -- The digits from place i on, x being the number so far.
 module _ (s : List ℕ) (i start x : ℕ) where
@@ -59,33 +57,55 @@ module _ (b : ℕ) where
 abbrev digits : List ℕ
 digits = bytes "0123456789@@@@@@@@@@@@@@@@@@@@@@@@@@@@@@@@@@@@@@@:;<=>?"
 
-abbrev right : ℕ → Bool
-right i = eqb (getD digits i 0) (hexOf (48 + i) + 48) && leb (getD digits i 0) 64
+-- Each number of ds is 48 more than the value of its byte, the first one's byte being b.
+unfoldable values : List ℕ → ℕ → Bool
+values [] b = true
+values (d ∷ ds) b = cond (eqb d (hexOf b + 48)) (cond (leb d 64) (values ds (suc b)) false) false
 
-all-right : all right 55 ≡ true
-unfolding all hexOf
-all-right = refl
+both : (t u : Bool) → cond t u false ≡ true → (t ≡ true) × (u ≡ true)
+both true u e = (refl, e)
+both false u e = (e, cc)
+
+-- So is each, by its place.
+abbrev ValueAt : List ℕ → ℕ → ℕ → Type 0
+ValueAt ds b i = (getD ds i 0 ≡ hexOf (b + i) + 48) × (getD ds i 0 ≤ 64)
+
+values-at : (ds : List ℕ) (b i : ℕ) → values ds b ≡ true → i < length ds → ValueAt ds b i
+unfolding values
+values-at [] b i e h = absurd (omega arith)
+values-at (d ∷ ds) b zero e h =
+    let one = both (eqb d (hexOf b + 48)) _ e in
+    let z : b + zero ≡ b = omega arith in
+    (rw z (eqb-true _ _ (one .0)), leb-true _ _ (both (leb d 64) _ (one .1) .0))
+values-at (d ∷ ds) b (suc i) e h =
+    let more = both (leb d 64) _ (both (eqb d (hexOf b + 48)) _ e .1) in
+    let z : b + suc i ≡ suc b + i = omega arith in
+    rw z (values-at ds (suc b) i (more .1) (omega arith))
+
+digits-right : values digits 48 ≡ true
+unfolding values hexOf
+digits-right = refl
 
 module _ (b : ℕ) (low : 48 ≤ b) (high : b ≤ 102) where
-  right-at : right (b - 48) ≡ true
-  right-at = all-at right 55 all-right (b - 48) (omega arith)
+  right-at : (getD digits (b - 48) 0 ≡ hexOf b + 48) × (getD digits (b - 48) 0 ≤ 64)
+  right-at =
+      let z : 48 + (b - 48) ≡ b = omega arith in
+      let h = values-at digits 48 (b - 48) digits-right (omega arith) in
+      (h .0 ∙ ap (λ (n : ℕ). hexOf n + 48) z, h .1)
 
   pub digit-at : getD digits (b - 48) 0 ≡ hexOf b + 48
-  digit-at =
-      let z : 48 + (b - 48) ≡ b = omega arith in
-      eqb-true _ _ (and-true (eqb (getD digits (b - 48) 0) (hexOf (48 + (b - 48)) + 48)) _ right-at .0)
-      ∙ ap (λ (n : ℕ). hexOf n + 48) z
+  digit-at = right-at .0
 
   pub digit-small : getD digits (b - 48) 0 ≤ 64
-  digit-small = leb-true _ _ (and-true (eqb (getD digits (b - 48) 0) (hexOf (48 + (b - 48)) + 48)) _ right-at .1)
+  digit-small = right-at .1
 
 -- A line that is not broken passes each of its tests.
 module _ {start signals : ℕ} where
-  pub passed : (t : Bool) {a : Ticked} → cond t a Broken ≡ Is start signals → (t ≡ true) × (a ≡ Is start signals)
+  pub passed : (t : Bool) {a : TickLine} → cond t a Broken ≡ Is start signals → (t ≡ true) × (a ≡ Is start signals)
   passed true e = (refl, e)
   passed false e = (cc, cc)
 
-  pub not-failed : (t : Bool) {a : Ticked} → cond t Broken a ≡ Is start signals
+  pub not-failed : (t : Bool) {a : TickLine} → cond t Broken a ≡ Is start signals
       → (t ≡ false) × (a ≡ Is start signals)
   not-failed true e = (cc, cc)
   not-failed false e = (refl, e)

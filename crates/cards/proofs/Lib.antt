@@ -1,15 +1,9 @@
--- Laws behind the functions' proofs, and the theorems on cards in pieces and on the verdicts that a card prints.
-pub mod Reading
+-- Laws behind the functions' proofs, and laws of lines and of what they say.
+pub mod Numbers
 pub mod Hex
 pub mod Bits
-pub mod Cutting
-pub mod Moving
-pub mod Paying
-pub mod Resuming
-pub mod Feeding
-pub mod Ticking
-pub mod Pieces
-pub mod Rows
 pub mod Sized
-pub mod Ending
-pub mod Meant
+pub mod Lines
+pub mod Front
+pub mod Stages
+pub mod Rows

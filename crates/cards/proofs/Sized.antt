@@ -4,26 +4,26 @@ use mathlib.Core.Bool.{Bool, true, false, cond}
 use mathlib.Core.List.{List, [], _∷_, _++_}
 use Prim.Native.Nat.{ℕ, zero, suc, _+_, _-_, _*_, _≤_, _<_}
 use native.Mathlib.Omega.{arith}
-use lib.Dec.{ltb, eqb}
+use lib.Dec.{leb, eqb}
 use lib.ListN.{length, getD, drop, length-drop}
-use borrow.Author.Tests.{ltb-false, eqb-false}
+use borrow.Author.Tests.{leb-false, eqb-false}
+use Rattle.limits.specs.Limits.{literalCount, lineLimit}
 use Rattle.lists.specs.Text.{bytes}
-use Rattle.cards.specs.Numbers.{Parsed, isDigit, digits, number, starts, Listed, beforeComma, atEnd, numbers}
+use Rattle.cards.specs.Numbers.{Parsed, isDigit, digits, number, hasPrefix, Listed, beforeComma, atEnd, numbers}
 use Rattle.cards.specs.Numbers.{parametersOf, wholly, countOf}
 use Rattle.cards.specs.Numbers.Parsed.{done, none}
 use Rattle.cards.specs.Numbers.Listed.{are, broken}
-use Rattle.cards.specs.Lines.{longestLine}
 use Rattle.cards.specs.declared.Count.{Count}
 use Rattle.cards.specs.declared.Count.the-variants as K
-use Rattle.cards.proofs.Reading.{digit-range}
+use Rattle.cards.proofs.Numbers.{digit-range}
 
 -- ---- how large
 
 -- No number is above 999,999.
 abbrev pub Low : List ℕ → Type 0
-Low ps = (j : ℕ) → getD ps j 0 < 1000000
+Low ps = (j : ℕ) → getD ps j 0 < literalCount
 
-append-low : (got : List ℕ) (v : ℕ) → Low got → v < 1000000 → Low (got ++ (v ∷ []))
+append-low : (got : List ℕ) (v : ℕ) → Low got → v < literalCount → Low (got ++ (v ∷ []))
 append-low [] v h l zero = l
 append-low [] v h l (suc j) = omega arith
 append-low (x ∷ got) v h l zero = h 0
@@ -31,21 +31,21 @@ append-low (x ∷ got) v h l (suc j) = append-low got v (λ i. h (suc i)) l j
 
 -- A number that was read is at most 999,999.
 abbrev Small : Parsed → Type 0
-Small (done v r) = v < 1000000
+Small (done v r) = v < literalCount
 Small none = Unit {0}
 
-digit-small : (b v : ℕ) (l : List ℕ) (d o : Bool) → ltb 999999 (v * 10 + (b - 48)) ≡ o → v < 1000000
-    → (v * 10 + (b - 48) < 1000000 → Small (digits (v * 10 + (b - 48)) l))
+digit-small : (b v : ℕ) (l : List ℕ) (d o : Bool) → leb literalCount (v * 10 + (b - 48)) ≡ o → v < literalCount
+    → (v * 10 + (b - 48) < literalCount → Small (digits (v * 10 + (b - 48)) l))
     → Small (cond d (cond o none (digits (v * 10 + (b - 48)) l)) (done v (b ∷ l)))
 digit-small b v l true true e h ih = tt
-digit-small b v l true false e h ih = ih (omega (arith, ltb-false 999999 (v * 10 + (b - 48)) e))
+digit-small b v l true false e h ih = ih (omega (arith, leb-false literalCount (v * 10 + (b - 48)) e))
 digit-small b v l false o e h ih = h
 
-digits-small : (l : List ℕ) (v : ℕ) → v < 1000000 → Small (digits v l)
+digits-small : (l : List ℕ) (v : ℕ) → v < literalCount → Small (digits v l)
 unfolding digits
 digits-small [] v h = h
 digits-small (b ∷ l) v h =
-    digit-small b v l (isDigit b) (ltb 999999 (v * 10 + (b - 48))) refl h (λ z. digits-small l (v * 10 + (b - 48)) z)
+    digit-small b v l (isDigit b) (leb literalCount (v * 10 + (b - 48))) refl h (λ z. digits-small l (v * 10 + (b - 48)) z)
 
 first-small : (b : ℕ) (l : List ℕ) (z d : Bool) → isDigit b ≡ d
     → Small (cond z (done 0 l) (cond d (digits (b - 48) l) none))
@@ -73,7 +73,7 @@ if-low : (b : Bool) (x : Listed) → AllLow x → AllLow (cond b x broken)
 if-low true x h = h
 if-low false x h = tt
 
-comma-low : (p : Parsed) (k : ℕ → List ℕ → Listed) → Small p → ((v : ℕ) (r : List ℕ) → v < 1000000 → AllLow (k v r))
+comma-low : (p : Parsed) (k : ℕ → List ℕ → Listed) → Small p → ((v : ℕ) (r : List ℕ) → v < literalCount → AllLow (k v r))
     → AllLow (beforeComma p k)
 unfolding beforeComma
 comma-low none k s h = tt
@@ -90,11 +90,11 @@ pub parameters-low : (l ps : List ℕ) → parametersOf l ≡ are ps → Low ps
 unfolding parametersOf
 parameters-low l ps e =
     subst AllLow e
-    (if-low (starts (bytes "k=") l) (numbers 7 [] (drop 2 l)) (numbers-low 7 [] (drop 2 l) (λ j. omega arith)))
+    (if-low (hasPrefix (bytes "k=") l) (numbers 7 [] (drop 2 l)) (numbers-low 7 [] (drop 2 l) (λ j. omega arith)))
 
 -- So is a number of ticks.
 abbrev pub CountLow : Count → Type 0
-CountLow (K.Is k) = k < 1000000
+CountLow (K.Is k) = k < literalCount
 CountLow K.Broken = Unit {0}
 
 wholly-low : (p : Parsed) → Small p → CountLow (wholly p)
@@ -110,7 +110,7 @@ if-count false x h = tt
 pub count-low : (l : List ℕ) → CountLow (countOf l)
 unfolding countOf
 count-low l =
-    if-count (starts (bytes "ticks=") l) (wholly (number (drop 6 l)))
+    if-count (hasPrefix (bytes "ticks=") l) (wholly (number (drop 6 l)))
     (wholly-low (number (drop 6 l)) (number-small (drop 6 l)))
 
 -- ---- how long
@@ -126,7 +126,7 @@ one-more m b l none h = tt
 
 -- From this number on, k digits more are too many: they would make it 1,000,000 or more.
 abbrev least : ℕ → ℕ
-least zero = 1000000
+least zero = literalCount
 least (suc zero) = 100000
 least (suc (suc zero)) = 10000
 least (suc (suc (suc zero))) = 1000
@@ -143,21 +143,21 @@ least-step (suc (suc (suc (suc zero)))) = omega arith
 least-step (suc (suc (suc (suc (suc zero))))) = omega arith
 least-step (suc (suc (suc (suc (suc (suc k)))))) = omega arith
 
-digit-takes : (k b v : ℕ) (l : List ℕ) (d o : Bool) → ltb 999999 (v * 10 + (b - 48)) ≡ o → least k ≤ v → v < 1000000
-    → ((m : ℕ) → least m ≤ v * 10 + (b - 48) → v * 10 + (b - 48) < 1000000 → Takes m l (digits (v * 10 + (b - 48)) l))
+digit-takes : (k b v : ℕ) (l : List ℕ) (d o : Bool) → leb literalCount (v * 10 + (b - 48)) ≡ o → least k ≤ v → v < literalCount
+    → ((m : ℕ) → least m ≤ v * 10 + (b - 48) → v * 10 + (b - 48) < literalCount → Takes m l (digits (v * 10 + (b - 48)) l))
     → Takes k (b ∷ l) (cond d (cond o none (digits (v * 10 + (b - 48)) l)) (done v (b ∷ l)))
 digit-takes k b v l true true e h u ih = tt
 digit-takes zero b v l true false e h u ih = absurd (omega arith)
 digit-takes (suc k) b v l true false e h u ih =
     one-more k b l (digits (v * 10 + (b - 48)) l)
-    (ih k (omega (arith, h, least-step k)) (omega (arith, ltb-false 999999 (v * 10 + (b - 48)) e)))
+    (ih k (omega (arith, h, least-step k)) (omega (arith, leb-false literalCount (v * 10 + (b - 48)) e)))
 digit-takes k b v l false o e h u ih = omega arith
 
-digits-take : (l : List ℕ) (k v : ℕ) → least k ≤ v → v < 1000000 → Takes k l (digits v l)
+digits-take : (l : List ℕ) (k v : ℕ) → least k ≤ v → v < literalCount → Takes k l (digits v l)
 unfolding digits
 digits-take [] k v h u = omega arith
 digits-take (b ∷ l) k v h u =
-    digit-takes k b v l (isDigit b) (ltb 999999 (v * 10 + (b - 48))) refl h u
+    digit-takes k b v l (isDigit b) (leb literalCount (v * 10 + (b - 48))) refl h u
     (λ m g w. digits-take l m (v * 10 + (b - 48)) g w)
 
 first-takes : (b : ℕ) (l : List ℕ) (z d : Bool) → eqb b 48 ≡ z → isDigit b ≡ d
@@ -213,12 +213,12 @@ if-spans m l true x h = h
 if-spans m l false x h = tt
 
 -- The lines of the parameters and of the number of ticks are not over-long.
-pub parameters-short : (l ps : List ℕ) → parametersOf l ≡ are ps → length l ≤ longestLine
+pub parameters-short : (l ps : List ℕ) → parametersOf l ≡ are ps → length l < lineLimit
 unfolding parametersOf
 parameters-short l ps e =
     let rest = drop 2 l in
     let most : length rest ≤ 63 =
-    subst (Spans 63 rest) e (if-spans 63 rest (starts (bytes "k=") l) (numbers 7 [] rest) (numbers-span 7 [] rest)) in
+    subst (Spans 63 rest) e (if-spans 63 rest (hasPrefix (bytes "k=") l) (numbers 7 [] rest) (numbers-span 7 [] rest)) in
     omega (arith, most, length-drop 2 l)
 
 abbrev Counts : ℕ → List ℕ → Count → Type 0
@@ -235,12 +235,12 @@ if-counts : (m : ℕ) (l : List ℕ) (b : Bool) (x : Count) → Counts m l x →
 if-counts m l true x h = h
 if-counts m l false x h = tt
 
-pub count-short : (l : List ℕ) (k : ℕ) → countOf l ≡ K.Is k → length l ≤ longestLine
+pub count-short : (l : List ℕ) (k : ℕ) → countOf l ≡ K.Is k → length l < lineLimit
 unfolding countOf
 count-short l k e =
     let rest = drop 6 l in
     let most : length rest ≤ 7 =
     subst (Counts 7 rest) e
-    (if-counts 7 rest (starts (bytes "ticks=") l) (wholly (number rest))
+    (if-counts 7 rest (hasPrefix (bytes "ticks=") l) (wholly (number rest))
     (wholly-counts rest (number rest) (number-takes rest))) in
     omega (arith, most, length-drop 6 l)

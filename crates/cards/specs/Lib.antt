@@ -1,8 +1,5 @@
--- What a card prints, from its bytes on.
+-- What a line of a card is, and what it says.
 pub mod Numbers
-pub mod Ticks
 pub mod Lines
-pub mod Card
-pub mod Feed
-pub mod Pieces
-pub mod Meant
+pub mod Ticks
+pub mod Says

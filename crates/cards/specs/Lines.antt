@@ -1,17 +1,18 @@
 -- Bytes cut into lines. Definitions only. The sentences quoted are document 01's, from "towerwatch".
-use mathlib.Core.Bool.{cond}
+use mathlib.Core.Bool.{Bool, cond}
 use mathlib.Core.List.{List, [], _∷_}
 use Prim.Native.Nat.{ℕ}
-use lib.Dec.{eqb}
-use lib.ListN.{drop}
+use lib.Dec.{eqb, leb}
+use lib.ListN.{length, drop}
+use Rattle.limits.specs.Limits.{lineLimit}
 
 -- "Lines end in byte 10"
 abbrev pub lineEnd : ℕ
 lineEnd = 10
 
--- "and have at most 4,096 bytes with it": so many without it.
-abbrev pub longestLine : ℕ
-longestLine = 4095
+-- "and have at most 4,096 bytes with it": a line that is given without it is over-long from so many bytes on.
+abbrev pub overLong : List ℕ → Bool
+overLong l = leb lineLimit (length l)
 
 -- The bytes before the first line end; all of them, where there is none.
 unfoldable pub line : List ℕ → List ℕ

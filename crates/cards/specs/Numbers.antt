@@ -6,6 +6,7 @@ use mathlib.Core.Path.{_≡_}
 use Prim.Native.Nat.{ℕ, zero, suc, _+_, _-_, _*_, _≤_}
 use lib.Dec.{ltb, leb, eqb}
 use lib.ListN.{length, drop}
+use Rattle.limits.specs.Limits.{literalCount, parameterCount}
 use Rattle.lists.specs.Text.{bytes}
 use Rattle.cards.specs.declared.Number.{Number}
 use Rattle.cards.specs.declared.Number.the-variants as N
@@ -27,7 +28,7 @@ unfoldable pub digits : ℕ → List ℕ → Parsed
 digits v [] = done v []
 digits v (b ∷ l) =
     cond (isDigit b)
-    (cond (ltb 999999 (v * 10 + (b - 48))) none (digits (v * 10 + (b - 48)) l))
+    (cond (leb literalCount (v * 10 + (b - 48))) none (digits (v * 10 + (b - 48)) l))
     (done v (b ∷ l))
 
 -- "decimal numbers have no needless 0": after a first digit 0 no digit is read.
@@ -36,10 +37,10 @@ number [] = none
 number (b ∷ l) = cond (eqb b 48) (done 0 l) (cond (isDigit b) (digits (b - 48) l) none)
 
 -- Whether the second text begins with the first.
-unfoldable pub starts : List ℕ → List ℕ → Bool
-starts [] l = true
-starts (x ∷ p) [] = false
-starts (x ∷ p) (y ∷ l) = cond (eqb y x) (starts p l) false
+unfoldable pub hasPrefix : List ℕ → List ℕ → Bool
+hasPrefix [] l = true
+hasPrefix (x ∷ p) [] = false
+hasPrefix (x ∷ p) (y ∷ l) = cond (eqb y x) (hasPrefix p l) false
 
 -- What the code's answer says: the number, and what stands from `next` on.
 abbrev pub readTo : Number → List ℕ → Parsed
@@ -51,7 +52,7 @@ nextIn (N.Is v next) n = next
 nextIn N.Broken n = n
 
 -- The answer r is the number that stands in s at a place.
-pub record Reads (r : Number) (s : List ℕ) (at : ℕ) : Type 0 where
+pub record NumberAt (r : Number) (s : List ℕ) (at : ℕ) : Type 0 where
   pub means : readTo r s ≡ number (drop at s)
   pub within : nextIn r (length s) ≤ length s
 
@@ -60,8 +61,8 @@ pub data Listed : Type 0 where
   are : List ℕ → Listed
   broken : Listed
 
-abbrev pub listed : Parameters → Listed
-listed p = cond (p .fine) (are (p .values)) broken
+abbrev pub valuesOf : Parameters → Listed
+valuesOf p = cond (p .fine) (are (p .values)) broken
 
 -- A number before a comma (byte 44), and what is then made of the bytes after it.
 unfoldable pub beforeComma : Parsed → (ℕ → List ℕ → Listed) → Listed
@@ -82,7 +83,7 @@ numbers (suc m) got l = beforeComma (number l) (λ v r. numbers m (got ++ (v ∷
 
 -- "`k=` eight numbers 0 to 999,999 with commas"
 unfoldable pub parametersOf : List ℕ → Listed
-parametersOf l = cond (starts (bytes "k=") l) (numbers 7 [] (drop 2 l)) broken
+parametersOf l = cond (hasPrefix (bytes "k=") l) (numbers (parameterCount - 1) [] (drop 2 l)) broken
 
 -- A number that is all there is.
 unfoldable pub wholly : Parsed → Count
@@ -92,4 +93,4 @@ wholly (done v (b ∷ l)) = K.Broken
 
 -- "`ticks=` 0 to 999,999"
 unfoldable pub countOf : List ℕ → Count
-countOf l = cond (starts (bytes "ticks=") l) (wholly (number (drop 6 l))) K.Broken
+countOf l = cond (hasPrefix (bytes "ticks=") l) (wholly (number (drop 6 l))) K.Broken

@@ -4,9 +4,10 @@ use mathlib.Core.Bool.{false, cond}
 use mathlib.Core.List.{List, [], _∷_}
 use Prim.Native.Nat.{ℕ, _+_, _-_, _*_}
 use lib.Dec.{ltb, leb, eqb}
-use lib.ListN.{length, drop, getD}
-use Rattle.cards.specs.declared.Ticked.{Ticked}
-use Rattle.cards.specs.declared.Ticked.the-variants.{Is, Broken}
+use lib.ListN.{length, take, drop, getD}
+use Rattle.cards.specs.Lines.{lineEnd}
+use Rattle.cards.specs.declared.TickLine.{TickLine}
+use Rattle.cards.specs.declared.TickLine.the-variants.{Is, Broken}
 
 -- A lowercase hexadecimal digit's value, 16 for any other byte.
 unfoldable pub hexOf : ℕ → ℕ
@@ -16,18 +17,22 @@ hexOf b =
 
 -- The digits that are left, x being the number so far: each digit is worth 16 times the one after it. So the last
 -- digit has the bits 0 to 3, and bit j of the number is bit j of the digits.
-unfoldable pub hexes : ℕ → ℕ → List ℕ → Ticked
+unfoldable pub hexes : ℕ → ℕ → List ℕ → TickLine
 hexes start x [] = Is start x
 hexes start x (b ∷ l) = cond (ltb 15 (hexOf b)) Broken (hexes start (x * 16 + hexOf b) l)
 
 -- A start of 0 or 1 (bytes 48 and 49), and the digits after the comma.
-abbrev pub started : ℕ → List ℕ → Ticked
+abbrev pub started : ℕ → List ℕ → TickLine
 started b l = cond (ltb b 48) Broken (cond (ltb 49 b) Broken (hexes (b - 48) 0 l))
 
 -- The line has 20 bytes: `t=`, the start at place 2, a comma at place 3, 16 digits from place 4 on.
-unfoldable pub tickLine : List ℕ → Ticked
+unfoldable pub tickLine : List ℕ → TickLine
 tickLine l =
     cond (eqb (length l) 20)
     (cond (eqb (getD l 0 0) 116)
     (cond (eqb (getD l 1 0) 61)
     (cond (eqb (getD l 3 0) 44) (started (getD l 2 0) (drop 4 l)) Broken) Broken) Broken) Broken
+
+-- The tick line at the front of these bytes, where it is there with its byte 10.
+unfoldable pub tickFirst : List ℕ → TickLine
+tickFirst s = cond (leb (length s) 20) Broken (cond (eqb (getD s 20 0) lineEnd) (tickLine (take 20 s)) Broken)

@@ -7,18 +7,21 @@ use Prim.Native.Nat.{ℕ, _+_, _-_, _*_, _≤_, _<_}
 use native.Mathlib.Omega.{arith}
 use lib.ListN.{length, take, drop, length-append, length-drop}
 use lib.Seq.{length-take-le, take-length, take-add, take-append-seam, take-append-add}
-use Rattle.cards.specs.Card.{World, worldOf, isOver, prints, printed, start}
-use Rattle.cards.specs.Feed.{Goes, Ready, Turns, Finishes, fedWorld, leftOver}
-use Rattle.cards.specs.declared.Watch.{Watch}
-use Rattle.cards.specs.declared.Fed.{Fed}
-use Rattle.cards.proofs.Cutting.{append-nil}
-use Rattle.cards.proofs.Resuming.{goes-none, goes-on, over-prints, short-eq, short-none}
-use Rattle.cards.proofs.Ending.{rank, rank-positive, is-over, fed-near}
+use Rattle.player.specs.Card.{World, worldOf, prints, printed, start}
+use Rattle.limits.specs.Limits.{literalCount, lineLimit}
+use Rattle.cards.specs.Says.{isOver}
+use Rattle.player.specs.Feed.{Goes, Ready, Turns, Finishes, fedWorld, leftOver}
+use Rattle.player.specs.declared.Watch.{Watch}
+use Rattle.player.specs.declared.Turn.{Turn}
+use Rattle.cards.proofs.Lines.{append-nil}
+use Rattle.player.proofs.Resuming.{goes-none, goes-on, over-prints, short-eq, short-none}
+use Rattle.cards.proofs.Stages.{rank, rank-first, rank-positive, is-over}
+use Rattle.player.proofs.Ending.{fed-near}
 use Rattle.towerwatch.specs.declared.Next.{Next}
 use Rattle.towerwatch.specs.declared.Total.{Total}
 use Rattle.towerwatch.specs.declared.Stand.{Stand}
 use Rattle.towerwatch.specs.declared.Stand.the-variants as S
-use Rattle.towerwatch.specs.Run.{isReading, Ends, On, Stands, Takes, Once, Whole}
+use Rattle.towerwatch.specs.Run.{outputRoom, isReading, Ends, On, Stands, Takes, Once, Whole}
 
 -- ---- after a read
 
@@ -87,25 +90,26 @@ front-goes {w} {w'} {s} {s'} {o} g =
     ∙ take-append-seam o (prints w' (s' ++ [])))
 
 -- and all of it where the card is over.
-all-over : {w w' : World} {s s' o : List ℕ} → Goes w s o w' s' → isOver (w' .watch .phase) ≡ true → (more : List ℕ)
+all-over : {w w' : World} {s s' o : List ℕ} → Goes w s o w' s' → isOver (w' .watch .stage .phase) ≡ true → (more : List ℕ)
     → o ≡ prints w (s ++ more)
 all-over {w} {w'} {s} {s'} {o} g e more =
     sym
     (g .tells more
-    ∙ ap (λ (l : List ℕ). o ++ l) (over-prints w' (s' ++ more) (is-over (w' .watch .phase) e))
+    ∙ ap (λ (l : List ℕ). o ++ l) (over-prints w' (s' ++ more) (is-over (w' .watch .stage .phase) e))
     ∙ append-nil o)
 
 piece-stands : {w w' : World} {s s' o : List ℕ} → Goes w s o w' s' → w' ≡ fedWorld w s → s' ≡ leftOver s
-    → (done over : Bool) → over ≡ isOver (w' .watch .phase)
+    → (done over : Bool) → over ≡ isOver (w' .watch .stage .phase)
     → Stands (cond done (cond over S.Over S.Reading) S.Stuck) w s o w' s'
 piece-stands g h l true true e = all-over g (sym e)
 piece-stands g h l true false e = record { goes = g; world = h; left = l; going = sym e }
 piece-stands g h l false over e = front-goes g
 
 -- A piece of `got` bytes, after the first `to` bytes of buf.
-pub piece-takes : {w w' : World} {buf buf' old out : List ℕ} {f : Fed} (to got : ℕ)
-    → Turns w buf (to + got) f w' buf' old out → to + got ≤ length buf → length buf ≤ length out → 0 < got → (n : Next) (done over : Bool)
-    → n .to ≡ f .used → n .got ≡ got → n .shown ≡ f .written → over ≡ isOver (w' .watch .phase)
+pub piece-takes : {w w' : World} {buf buf' old out : List ℕ} {f : Turn} (to got : ℕ)
+    → Turns w buf (to + got) f w' buf' old out → to + got ≤ length buf → length buf ≤ length out → 0 < got
+    → (n : Next) (done over : Bool)
+    → n .to ≡ f .kept → n .got ≡ got → n .shown ≡ f .filled → over ≡ isOver (w' .watch .stage .phase)
     → n .stand ≡ cond done (cond over S.Over S.Reading) S.Stuck
     → Takes (take got (drop to buf)) w (take to buf) n w' (take (n .to) buf') out
 piece-takes {w} {w'} {buf} {buf'} {old} {out} {f} to got t h b p n done over e g k o z =
@@ -124,23 +128,24 @@ piece-takes {w} {w'} {buf} {buf'} {old} {out} {f} to got t h b p n done over e g
 
 -- How many bytes may still come after `to` bytes of a line.
 abbrev pub budget : Watch → ℕ → ℕ
-budget k to = 4096 * rank k - to
+budget k to = lineLimit * rank (k .stage) - to
+
+-- The most bytes that a card can have before its end is known.
+abbrev pub longestCard : ℕ
+longestCard = lineLimit * (literalCount + 4)
 
 -- From the start the program has come to w with the bytes s left over: so many bytes came in, and so many were handed
--- to the write. Both are bounded by what may still come: a turn hands over at most 65,536 bytes.
+-- to the write. Both are bounded by what may still come: a turn hands over at most as many bytes as
+-- the output has room for.
 pub record Reached (w : World) (s : List ℕ) (got shown : ℕ) : Type 0 where
   pub input : List ℕ
   pub output : List ℕ
   pub goes : Goes start input output w s
   pub came : length input ≡ got
   pub gone : length output ≡ shown
-  pub going : isOver (w .watch .phase) ≡ false
-  pub read : got + budget (w .watch) (length s) ≤ 4096016384
-  pub written : shown + 65536 * budget (w .watch) (length s) ≤ 268436529741824
-
-start-rank : rank (start .watch) ≡ 1000004
-unfolding rank
-start-rank = refl
+  pub going : isOver (w .watch .stage .phase) ≡ false
+  pub read : got + budget (w .watch) (length s) ≤ longestCard
+  pub written : shown + outputRoom * budget (w .watch) (length s) ≤ outputRoom * longestCard
 
 pub reached-start : Reached start [] 0 0
 reached-start =
@@ -151,8 +156,8 @@ reached-start =
       came = refl;
       gone = refl;
       going = refl;
-      read = omega (arith, start-rank);
-      written = omega (arith, start-rank);
+      read = omega (arith, rank-first 0);
+      written = omega (arith, rank-first 0);
     }
 
 -- What goes on after some bytes goes on after a piece more,
@@ -203,20 +208,21 @@ module _ {w w' : World} {s s' out : List ℕ} {g h : ℕ} (r : Reached w s g h) 
   on-as S.Over f e = absurd (false≢true f)
   on-as S.Stuck f e = absurd (false≢true f)
 
-  module _ (e : isReading (n .stand) ≡ true) (short : length s' < 4096) where
+  module _ (e : isReading (n .stand) ≡ true) (short : length s' < lineLimit) where
     on : On w (s ++ t .piece) (take (n .shown) out) w' s'
     on = on-as (n .stand) e (o .stands)
 
-    near : length s + n .got + 4096 * rank (w' .watch) ≤ 4096 * rank (w .watch) + length s'
+    near : length s + n .got + lineLimit * rank (w' .watch .stage)
+        ≤ lineLimit * rank (w .watch .stage) + length s'
     near =
-        let b = fed-near w (s ++ t .piece) (ap (λ (x : World). isOver (x .watch .phase)) (sym (on .world)) ∙ on .going) in
+        let b = fed-near w (s ++ t .piece) (ap (λ (x : World). isOver (x .watch .stage .phase)) (sym (on .world)) ∙ on .going) in
         rw (on .world, on .left) (omega (arith, length-append s (t .piece), o .got, b))
 
     -- Fewer bytes may still come.
     pub fewer : n .got + budget (w' .watch) (length s') ≤ budget (w .watch) (length s)
-    fewer = omega (arith, near, rank-positive (w' .watch) (on .going))
+    fewer = omega (arith, near, rank-positive (w' .watch .stage) (on .going))
 
-    pub reached-on : length out ≡ 65536 → Reached w' s' (g + n .got) (h + n .shown)
+    pub reached-on : length out ≡ outputRoom → Reached w' s' (g + n .got) (h + n .shown)
     reached-on z =
         record {
           input = r .input ++ t .piece;

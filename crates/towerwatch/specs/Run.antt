@@ -6,12 +6,17 @@ use mathlib.Core.Bool.{Bool, true, false}
 use mathlib.Core.Path.{_≡_}
 use Prim.Native.Nat.{ℕ, _<_, _≤_}
 use lib.ListN.{length, take}
-use Rattle.cards.specs.Card.{World, isOver, prints, printed}
-use Rattle.cards.specs.Feed.{Goes, fedWorld, leftOver}
+use Rattle.player.specs.Card.{World, prints, printed}
+use Rattle.cards.specs.Says.{isOver}
+use Rattle.player.specs.Feed.{Goes, fedWorld, leftOver}
 use Rattle.towerwatch.specs.declared.Next.{Next}
 use Rattle.towerwatch.specs.declared.Total.{Total}
 use Rattle.towerwatch.specs.declared.Stand.{Stand}
 use Rattle.towerwatch.specs.declared.Stand.the-variants as S
+
+-- The bytes that the output has room for.
+abbrev pub outputRoom : ℕ
+outputRoom = 65536
 
 abbrev pub isReading : Stand → Bool
 isReading S.Reading = true
@@ -33,7 +38,7 @@ pub record On (w : World) (s o : List ℕ) (w' : World) (s' : List ℕ) : Type 0
   pub goes : Goes w s o w' s'
   pub world : w' ≡ fedWorld w s
   pub left : s' ≡ leftOver s
-  pub going : isOver (w' .watch .phase) ≡ false
+  pub going : isOver (w' .watch .stage .phase) ≡ false
 
 abbrev pub Stands : Stand → World → List ℕ → List ℕ → World → List ℕ → Type 0
 Stands S.Reading w s o w' s' = On w s o w' s'

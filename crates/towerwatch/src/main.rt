@@ -1,18 +1,18 @@
 // The program `towerwatch`: reads a card from standard input and prints what it says, piece by piece and in constant
-// memory (document 01, "towerwatch"). All but the reads and the writes is in `cards`, where it is proved that what is
+// memory (document 01, "towerwatch"). All but the reads and the writes is in `player`, where it is proved that what is
 // printed does not depend on the pieces that a card comes in. Here `once` promises that what it hands to the write is
 // what its piece prints, and `run` that all of it together is what a card prints (specs/Run.antt).
-use cards::Watch;
 use libc::STDIN_FILENO;
 use libc::STDOUT_FILENO;
+use player::Watch;
 ghost use mathlib.Core.Bool.{cond};
 ghost use mathlib.Core.List.{List, []};
 ghost use mathlib.Core.Path.{_≡_};
 ghost use Prim.Native.Nat.{ℕ, _+_, _≤_, _<_};
 ghost use lib.ListN.{length, take, drop};
-ghost use Rattle.cards.specs.Card.{World, worldOf, start};
-ghost use Rattle.cards.specs.Feed.{Ready};
-ghost use Rattle.towerwatch.specs.Run.{isReading, Takes, Once, Whole};
+ghost use Rattle.player.specs.Card.{World, worldOf, brought, entering, leaving, start};
+ghost use Rattle.player.specs.Feed.{Ready};
+ghost use Rattle.towerwatch.specs.Run.{outputRoom, isReading, Takes, Once, Whole};
 
 // How the program stands after a turn.
 enum Stand {
@@ -105,7 +105,7 @@ fn end(watch: Watch, buf: &[u8], to: usize, got: usize, out: &mut [u8]) -> Next
     ensures { λ r. ⌜ (r .to ≡ 0) × ((ps t c v : List ℕ) (w : World) (s : List ℕ) →
         Takes [] (worldOf watch ps t c v) (take to (now (buf .entry))) r w s (now (out .exit))) ⌝ }
 {
-    let at = cards::finish(watch, buf, to, out);
+    let at = player::finish(watch, buf, to, out);
     let last = show(out, at);
     let stand = ended(last.done);
     Next {
@@ -132,17 +132,15 @@ fn piece(
     requires { ⌜ Ready (now buf) to (now out) × (to + got ≤ length (now buf)) × (0 < got) ⌝ }
     ensures { λ r. ⌜ Ready (now (buf .exit)) (r .to) (now (out .exit)) ⌝ }
     ensures { λ r. ⌜ Takes (take got (drop to (now (buf .entry))))
-        (worldOf watch (now (parameters .entry)) (now (table .entry)) (now (state .entry)) (now (values .entry)))
-        (take to (now (buf .entry))) r
-        (worldOf (r .watch) (now (parameters .exit)) (now (table .exit)) (now (state .exit)) (now (values .exit)))
-        (take (r .to) (now (buf .exit))) (now (out .exit)) ⌝ }
+        (entering watch parameters table state values) (take to (now (buf .entry))) r
+        (leaving (r .watch) parameters table state values) (take (r .to) (now (buf .exit))) (now (out .exit)) ⌝ }
 {
-    let f = cards::run_turn(watch, buf, to + got, parameters, table, state, values, out);
-    let written = f.written;
+    let f = player::run_turn(watch, buf, to + got, parameters, table, state, values, out);
+    let filled = f.filled;
     let next = f.watch;
-    let kept = f.used;
-    let shown = show(out, written);
-    let over = cards::is_over(next);
+    let kept = f.kept;
+    let shown = show(out, filled);
+    let over = player::is_over(next);
     let stand = going(shown.done, over);
     Next {
         watch: next,
@@ -167,10 +165,8 @@ fn once(
     requires { ⌜ Ready (now buf) to (now out) ⌝ }
     ensures { λ r. ⌜ Ready (now (buf .exit)) (r .to) (now (out .exit)) ⌝ }
     ensures { λ r. ⌜ Once
-        (worldOf watch (now (parameters .entry)) (now (table .entry)) (now (state .entry)) (now (values .entry)))
-        (take to (now (buf .entry))) r
-        (worldOf (r .watch) (now (parameters .exit)) (now (table .exit)) (now (state .exit)) (now (values .exit)))
-        (take (r .to) (now (buf .exit))) (now (out .exit)) ⌝ }
+        (entering watch parameters table state values) (take to (now (buf .entry))) r
+        (leaving (r .watch) parameters table state values) (take (r .to) (now (buf .exit))) (now (out .exit)) ⌝ }
 {
     let got = fill(buf, to);
     if got == 0 {
@@ -188,11 +184,11 @@ fn run(
     values: &mut [u32],
     out: &mut [u8],
 ) -> Total
-    requires { ⌜ Ready (now buf) 0 (now out) × (length (now out) ≡ 65536) ⌝ }
-    requires { ⌜ worldOf (start .watch) (now parameters) (now table) (now state) (now values) ≡ start ⌝ }
+    requires { ⌜ Ready (now buf) 0 (now out) × (length (now out) ≡ outputRoom) ⌝ }
+    requires { ⌜ brought (start .watch) parameters table state values ≡ start ⌝ }
     ensures { λ r. ⌜ Whole r ⌝ }
 {
-    let mut watch = cards::begin();
+    let mut watch = player::begin();
     let mut to = 0;
     let mut got = 0u64;
     let mut shown = 0u64;
@@ -215,9 +211,9 @@ fn main() {
     let mut buf = [0u8; 32768];
     let mut out = io::large_buffer();
     let mut parameters = [0u32; 8];
-    let mut table = [0u32; 16384];
-    let mut state = [0u32; 4096];
-    let mut values = [0u32; 4096];
+    let mut table = [0u32; limits::TABLE];
+    let mut state = [0u32; limits::EQUATIONS];
+    let mut values = [0u32; limits::EQUATIONS];
     run(
         &mut buf,
         &mut parameters,

@@ -1,7 +1,7 @@
 -- `cards::edition_line` meets its contract. Assumes nothing.
 use borrow.Author.Needs.{needs}
 use borrow.Author.Tests.{eq-eqb, ne-eqb}
-use Rattle.cards.specs.Card.{editionOf}
+use Rattle.cards.specs.Says.{editionOf}
 use Rattle.cards.proofs.edition_line.Statement.{statement}
 use Rattle.cards.proofs.edition_line.Tie as tie
 
@@ -11,7 +11,7 @@ returns c = simp (ne-eqb _ _ (c .if1 .taken))
 
 returns-2 : tie.Need-returns-2
 unfolding editionOf
-returns-2 c = rw (eq-eqb _ _ (c .before .before .if1 .left)) (c .begins .ensures)
+returns-2 c = rw (eq-eqb _ _ (c .before .before .if1 .left)) (c .has-prefix .ensures)
 
 pub edition-line-spec : {M : Type 1} → statement M
 edition-line-spec =

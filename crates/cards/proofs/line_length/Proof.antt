@@ -6,7 +6,7 @@ use native.Mathlib.Omega.{arith}
 use borrow.Author.Needs.{needs}
 use lib.ListN.{length}
 use Rattle.cards.specs.Lines.{lineFrom}
-use Rattle.cards.proofs.Cutting.{line-stop, line-past, line-more}
+use Rattle.cards.proofs.Lines.{line-stop, line-past, line-more}
 use Rattle.cards.proofs.line_length.Statement.{statement}
 use Rattle.cards.proofs.line_length.Tie as tie
 

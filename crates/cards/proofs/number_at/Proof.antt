@@ -8,8 +8,8 @@ use borrow.Author.Tests.{not-true, not-false}
 use mathlib.Core.Bool.{true}
 use lib.ListN.{length, getD}
 use Rattle.cards.specs.Numbers.{isDigit}
-use Rattle.cards.proofs.Reading.{digit-range, Numbering, reads-end, reads-zero, reads-none, number-begun}
-use Rattle.cards.proofs.Reading.{number-ended, number-stopped, number-over, number-more}
+use Rattle.cards.proofs.Numbers.{digit-range, Numbering, reads-end, reads-zero, reads-none, number-begun}
+use Rattle.cards.proofs.Numbers.{number-ended, number-stopped, number-over, number-more}
 use Rattle.cards.proofs.number_at.Statement.{statement}
 use Rattle.cards.proofs.number_at.Tie as tie
 

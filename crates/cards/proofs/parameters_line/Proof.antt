@@ -6,8 +6,8 @@ use native.Mathlib.Omega.{arith}
 use borrow.Author.Needs.{needs}
 use borrow.Author.Tests.{not-true, not-false}
 use Rattle.cards.specs.Numbers.{parametersOf}
-use Rattle.cards.proofs.Reading.{Listing, listing-begun, listing-none, listing-short, listing-other}
-use Rattle.cards.proofs.Reading.{listing-more, listing-not, listing-last}
+use Rattle.cards.proofs.Numbers.{Listing, listing-begun, listing-none, listing-short, listing-other}
+use Rattle.cards.proofs.Numbers.{listing-more, listing-not, listing-last}
 use Rattle.cards.proofs.parameters_line.Statement.{statement}
 use Rattle.cards.proofs.parameters_line.Tie as tie
 
@@ -19,11 +19,11 @@ abbrev μ-loop : tie.MeasureT-loop
 
 returns : tie.Need-returns Inv-loop μ-loop
 unfolding parametersOf
-returns c = rw (sym (c .before .begins .ensures) ∙ not-true _ (c .if1 .taken))
+returns c = rw (sym (c .before .has-prefix .ensures) ∙ not-true _ (c .if1 .taken))
 
 loop-holds : tie.Need-loop-holds Inv-loop μ-loop
 loop-holds c =
-    listing-begun _ _ (sym (c .before .begins .ensures) ∙ not-false _ (c .if1 .left)) (omega arith)
+    listing-begun _ _ (sym (c .before .has-prefix .ensures) ∙ not-false _ (c .if1 .left)) (omega arith)
 
 -- One of the first seven numbers: broken, at the end of the line, before another byte than a comma, before a comma.
 returns-2 : tie.Need-returns-2 Inv-loop μ-loop

@@ -6,8 +6,7 @@ use lib.ListN.{take, drop, length-drop}
 use lib.Seq.{getD-drop}
 use borrow.Author.Needs.{needs}
 use borrow.Author.Tests.{le-leb, lt-leb, eq-eqb, ne-eqb}
-use Rattle.cards.specs.Ticks.{tickLine}
-use Rattle.cards.specs.Feed.{tickFirst}
+use Rattle.cards.specs.Ticks.{tickLine, tickFirst}
 use Rattle.cards.proofs.tick_at.Statement.{statement}
 use Rattle.cards.proofs.tick_at.Tie as tie
 

@@ -8,8 +8,9 @@ use Rattle.towerwatch.proofs.end.Tie as tie
 returns : tie.Need-returns
 returns c =
     let shown = c .before .show in
-    let finish = c .before .before .before .before .before .finish in
-    let entry = c .before .before .before .before .before .before .before .before .before in
+    let told = c .before .before .before .before .before in
+    let finish = told .finish in
+    let entry = told .before .before .before .before in
     (refl, end-takes (finish .ensures) _ (shown .result .done) (entry .pre .1) (shown .ensures) (c .ended .ensures))
 
 pub end-spec : {M : Type 1} → statement M

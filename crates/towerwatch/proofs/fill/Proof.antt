@@ -9,8 +9,9 @@ use Rattle.towerwatch.proofs.fill.Tie as tie
 
 returns : tie.Need-returns
 returns c =
-    let read = c .before .before .before .before .before .read in
-    let entry = c .before .before .before .before .before .before .before .before in
+    let called = c .before .before .before .before .before in
+    let read = called .read in
+    let entry = called .before .before .before in
     let buf = entry .args .buf .now in
     let to = entry .args .to in (
       take-put to (length buf - to) buf (read .last .1 .0) (entry .pre),

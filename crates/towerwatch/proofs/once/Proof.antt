@@ -4,47 +4,64 @@ use mathlib.Core.List.{[]}
 use native.Mathlib.Omega.{arith}
 use borrow.Author.Needs.{needs}
 use lib.ListN.{take, drop}
+use Rattle.player.specs.Feed.{Ready}
 use Rattle.towerwatch.proofs.Turning.{ready-read, ready-none}
 use Rattle.towerwatch.proofs.once.Statement.{statement}
 use Rattle.towerwatch.proofs.once.Tie as tie
 
+-- ---- the places
+
+-- The start, from the read.
+abbrev entry : tie.After-fill → tie.Start
+entry c = let lent = c .before .before .before .before in lent .before .before .before
+
+-- The read, from where the output is lent to `end` and to `piece`.
+abbrev ended : tie.After-end-arg2 → tie.After-fill
+ended c = c .before .before .before .before .before
+
+abbrev read : tie.After-piece-arg6 → tie.After-fill
+read c = let lent = c .before .before .before .before in lent .before .before .before .before .before
+
+-- The call of `piece`, from the end.
+abbrev taken : tie.After-slice-known12 → tie.After-piece
+taken c = let changed = c .before .before .before .before .before in changed .before .before .before .before .before
+
+-- ---- the needs
+
 -- The buffers after the read.
+ready : (c : tie.After-fill) → Ready (c .fill .last .0) (entry c .args .to) (entry c .args .out .now)
+ready c = ready-read (entry c .pre) (c .fill .ensures .0) (c .fill .kept .0)
+
 end-requires : tie.Need-end-requires
-end-requires c κs =
-    let read = c .before .before .before .before .before in
-    let pre = read .before .before .before .before .before .before .before .pre in
-    (ready-read pre (read .fill .ensures .0) (read .fill .kept .0), c .before .before .if1 .taken)
+end-requires c κs = (ready (ended c), c .before .before .if1 .taken)
 
 piece-requires : tie.Need-piece-requires
 piece-requires c κs =
-    let read = c .before .before .before .before .before .before .before .before .before in
-    let pre = read .before .before .before .before .before .before .before .pre in
-    let b = read .fill .kept .0 in (
-      ready-read pre (read .fill .ensures .0) b,
-      omega (arith, b, read .fill .ensures .1),
-      omega (arith, c .before .before .before .before .before .before .if1 .left),
+    let fill = read c .fill in
+    let some = let lent = c .before .before .before in lent .before .before .before in (
+      ready (read c),
+      omega (arith, fill .kept .0, fill .ensures .1),
+      omega (arith, some .if1 .left),
     )
 
 -- The input is over.
 returns : tie.Need-returns
 returns c =
     let end = c .before .before .end in
-    let read = c .before .before .before .before .before .before .before .before in
-    let entry = read .before .before .before .before .before .before .before in (
-      ready-none (entry .pre) (end .ensures .0) (read .fill .kept .0) (end .kept .1 .1 .1 .1 .0),
-      record { piece = []; takes = rw (sym (read .fill .ensures .0)) (end .ensures .1 _ _ _ _ _ _) },
+    let filled = ended (c .before .before .before) in (
+      ready-none (entry filled .pre) (end .ensures .0) (filled .fill .kept .0) (end .kept .1 .1 .1 .1 .0),
+      record { piece = []; takes = rw (sym (filled .fill .ensures .0)) (end .ensures .1 _ _ _ _ _ _) },
     )
 
 -- A piece came in.
 returns-2 : tie.Need-returns-2
 returns-2 c =
-    let piece = c .before .before .before .before .before .before .before .before .before .before .piece in
-    let read = c .before .before .before .before .before .before .before .before .before .before .before .before .before .before .before .before .before .before .before .before in
-    let to = read .before .before .before .before .before .before .before .args .to in (
+    let piece = taken c .piece in
+    let filled = read (taken c .before) in (
       piece .ensures .0,
       record {
-        piece = take (read .fill .result) (drop to (read .fill .last .0));
-        takes = rw (sym (read .fill .ensures .0)) (piece .ensures .1);
+        piece = take (filled .fill .result) (drop (entry filled .args .to) (filled .fill .last .0));
+        takes = rw (sym (filled .fill .ensures .0)) (piece .ensures .1);
       },
     )
 

@@ -8,26 +8,38 @@ use Rattle.towerwatch.proofs.Turning.{piece-takes}
 use Rattle.towerwatch.proofs.piece.Statement.{statement}
 use Rattle.towerwatch.proofs.piece.Tie as tie
 
+-- The start, from the turn; and the turn, from the write.
+abbrev entry : tie.After-run-turn → tie.Start
+entry c =
+    let lent = c .before .before .before .before in
+    let known = lent .before .before .before .before in
+    known .before .before .before .before
+
+abbrev turned : tie.After-show → tie.After-run-turn
+turned c =
+    let changed = c .before .before .before .before .before in
+    let back = changed .before .before .before .before in
+    back .before .before .before .before
+
 returns : tie.Need-returns
 returns c =
     let shown = c .before .before .show in
     let over = c .before .is-over in
-    let turned = c .before .before .before .before .before .before .before .before .before .before .before .before .before .before .before in
-    let turn = turned .run-turn in
-    let entry = turned .before .before .before .before .before .before .before .before .before .before .before .before in
-    let pre = entry .pre in
-    let b : length (turn .last .1 .0) ≡ length (entry .args .buf .now) = turn .kept .1 .0 in
+    let here = turned (c .before .before) in
+    let turn = here .run-turn in
+    let args = entry here .args in
+    let pre = entry here .pre in
+    let b : length (turn .last .1 .0) ≡ length (args .buf .now) = turn .kept .1 .0 in
     let outs = turn .kept .1 .1 .1 .1 .1 .1 .1 .0 in
-    let o : length (turn .last .1 .1 .1 .1 .1 .1 .1 .0) ≡ length (entry .args .out .now) = outs in (
+    let o : length (turn .last .1 .1 .1 .1 .1 .1 .1 .0) ≡ length (args .out .now) = outs in (
       record {
         short = turn .ensures .short;
         within = omega (arith, b, turn .ensures .within, pre .1);
         size = omega (arith, b, pre .0 .size);
         room = omega (arith, b, o, pre .0 .room);
       },
-      piece-takes (entry .args .to) (entry .args .got) (turn .ensures) (pre .1)
-          (omega (arith, o, pre .0 .room)) (pre .2) _ (shown .result .done)
-          (over .result) refl refl (shown .ensures) (over .ensures) (c .going .ensures),
+      piece-takes (args .to) (args .got) (turn .ensures) (pre .1) (omega (arith, o, pre .0 .room)) (pre .2) _
+          (shown .result .done) (over .result) refl refl (shown .ensures) (over .ensures) (c .going .ensures),
     )
 
 pub piece-spec : {M : Type 1} → statement M

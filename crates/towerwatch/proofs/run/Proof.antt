@@ -5,8 +5,9 @@ use native.Mathlib.Omega.{arith}
 use borrow.Author.Needs.{needs}
 use borrow.Author.Tests.{not-true, not-false}
 use lib.ListN.{length, take}
-use Rattle.cards.specs.Card.{World, worldOf}
-use Rattle.cards.specs.Feed.{Ready}
+use Rattle.player.specs.Card.{World, worldOf}
+use Rattle.player.specs.Feed.{Ready}
+use Rattle.towerwatch.specs.Run.{outputRoom}
 use Rattle.towerwatch.proofs.Turning.{budget, Reached, reached-start, reached-on, fewer, ends-whole}
 use Rattle.towerwatch.proofs.run.Statement.{statement}
 use Rattle.towerwatch.proofs.run.Tie as tie
@@ -25,18 +26,36 @@ abbrev μ-loop : tie.MeasureT-loop
 μ-loop buf₀ ps₀ table₀ state₀ values₀ out₀ watch₀ to₀ got₀ shown₀ buf ps table state values out watch to got shown =
     budget watch (length (take to buf))
 
+-- ---- the places
+
+-- The start from the loop, and the loop from where the output is lent to `once`.
+abbrev entry : tie.At-loop Inv-loop μ-loop → tie.Start Inv-loop μ-loop
+entry c = let known = c .before .before .before .before in known .before .before .before
+
+abbrev loop-at : tie.After-once-arg6 Inv-loop μ-loop → tie.At-loop Inv-loop μ-loop
+loop-at c = let lent = c .before .before .before in lent .before .before .before
+
+-- The turn that `once` makes, from where its buffers are back, and from where it is told whether to read on.
+abbrev turn : tie.After-slice-known10 Inv-loop μ-loop → tie.After-once Inv-loop μ-loop
+turn c = let changed = c .before .before .before .before .before in changed .before .before .before .before .before
+
+abbrev made : tie.After-reads-on Inv-loop μ-loop → tie.After-once Inv-loop μ-loop
+made c = turn (c .before)
+
+-- ---- the needs
+
 loop-holds : tie.Need-loop-holds Inv-loop μ-loop
 loop-holds c =
-    let pre = c .before .before .before .before .before .before .pre in
+    let pre = let known = c .before .before .before in known .before .before .before .pre in
     (pre .0 .0, rw (c .begin .ensures, pre .1) reached-start, (refl, refl, refl, refl, refl))
 
 once-requires : tie.Need-once-requires Inv-loop μ-loop
-once-requires c κs = c .before .before .before .before .before .before .loop .inv .0
+once-requires c κs = loop-at c .loop .inv .0
 
 -- No buffer changes its length.
 lengths : (c : tie.After-once Inv-loop μ-loop) →
     let last = c .once .last .1 in
-    let args = c .before .before .before .before .before .before .before .before .before .before .before .before .before .before .args in
+    let args = entry (loop-at (c .before)) .args in
     (length (last .0) ≡ length (args .buf .now))
     × (length (last .1 .1 .1 .1 .1 .1 .0) ≡ length (args .out .now))
     × (length (last .1 .1 .1 .0) ≡ length (args .table .now))
@@ -44,7 +63,7 @@ lengths : (c : tie.After-once Inv-loop μ-loop) →
     × (length (last .1 .1 .1 .1 .1 .0) ≡ length (args .values .now))
 lengths c =
     let kept = c .once .kept .1 in
-    let inv = c .before .before .before .before .before .before .before .loop .inv .2 in (
+    let inv = loop-at (c .before) .loop .inv .2 in (
       kept .0 ∙ inv .0,
       kept .1 .1 .1 .1 .1 .1 .0 ∙ inv .1,
       kept .1 .1 .1 .0 ∙ inv .2,
@@ -53,42 +72,44 @@ lengths c =
     )
 
 -- What comes in and what is handed over stays far below 2 to the power of 64.
-room : (c : tie.After-once Inv-loop μ-loop) → length (c .once .last .1 .1 .1 .1 .1 .1 .1 .0) ≡ 65536
-room c = lengths c .1 ∙ c .before .before .before .before .before .before .before .before .before .before .before .before .before .before .pre .0 .1
+room : (c : tie.After-once Inv-loop μ-loop) → length (c .once .last .1 .1 .1 .1 .1 .1 .1 .0) ≡ outputRoom
+room c = lengths c .1 ∙ entry (loop-at (c .before)) .pre .0 .1
+
+reached : (c : tie.After-once Inv-loop μ-loop) →
+    let loop = loop-at (c .before) .loop in
+    Reached (worldOf (loop .watch) (loop .parameters) (loop .table) (loop .state) (loop .values)) (take (loop .to) (loop .buf))
+    (loop .got) (loop .shown)
+reached c = loop-at (c .before) .loop .inv .1
 
 add-got : tie.Need-add-got Inv-loop μ-loop
 add-got c =
-    let turn = c .before .before .before .before .before .before .before .before .before .before in
-    let reached = turn .before .before .before .before .before .before .before .loop .inv .1 in
-    omega (arith, reached .read, turn .once .ensures .1 .takes .room, room turn)
+    let done = turn c in
+    omega (arith, reached done .read, done .once .ensures .1 .takes .room, room done)
 
 add-shown : tie.Need-add-shown Inv-loop μ-loop
 add-shown c =
-    let turn = c .before .before .before .before .before .before .before .before .before .before in
-    let reached = turn .before .before .before .before .before .before .before .loop .inv .1 in
-    omega (arith, reached .written, turn .once .ensures .1 .takes .shown, room turn)
+    let done = turn c in
+    omega (arith, reached done .written, done .once .ensures .1 .takes .shown, room done)
 
 returns : tie.Need-returns Inv-loop μ-loop
 returns c =
-    let turn = c .before .before .before .before .before .before .before .before .before .before .before .before in
-    let reached = turn .before .before .before .before .before .before .before .loop .inv .1 in
-    ends-whole reached _ (turn .once .ensures .1) (sym (c .before .reads-on .ensures) ∙ not-true _ (c .if1 .taken)) _ refl refl refl
+    let done = made (c .before) in
+    ends-whole (reached done) _ (done .once .ensures .1) (sym (c .before .reads-on .ensures) ∙ not-true _ (c .if1 .taken))
+    _ refl refl refl
 
 loop-less : tie.Need-loop-less Inv-loop μ-loop
 loop-less c =
-    let turn = c .before .before .before .before .before .before .before .before .before .before .before .before .before in
-    let reached = turn .before .before .before .before .before .before .before .loop .inv .1 in
-    let once = turn .once .ensures in
+    let done = made (c .before .before) in
+    let once = done .once .ensures in
     let on = sym (c .before .before .reads-on .ensures) ∙ not-false _ (c .before .if1 .left) in
-    omega (arith, fewer reached _ (once .1) on (once .0 .short .below), once .1 .takes .more on)
+    omega (arith, fewer (reached done) _ (once .1) on (once .0 .short .below), once .1 .takes .more on)
 
 loop-again : tie.Need-loop-again Inv-loop μ-loop
 loop-again c =
-    let turn = c .before .before .before .before .before .before .before .before .before .before .before .before .before in
-    let inv = turn .before .before .before .before .before .before .before .loop .inv in
-    let once = turn .once .ensures in
+    let done = made (c .before .before) in
+    let once = done .once .ensures in
     let on = sym (c .before .before .reads-on .ensures) ∙ not-false _ (c .before .if1 .left) in
-    (once .0, reached-on (inv .1) _ (once .1) on (once .0 .short .below) (room turn), lengths turn)
+    (once .0, reached-on (reached done) _ (once .1) on (once .0 .short .below) (room done), lengths done)
 
 pub run-spec : {M : Type 1} → statement M
 run-spec =
@@ -102,11 +123,11 @@ run-spec =
     add-got
     add-shown
     (λ c κs. search needs)
-    (λ c. lengths (c .before .before .before .before .before .before .before .before .before .before .before .before) .0)
-    (λ c. lengths (c .before .before .before .before .before .before .before .before .before .before .before .before) .2)
-    (λ c. lengths (c .before .before .before .before .before .before .before .before .before .before .before .before) .3)
-    (λ c. lengths (c .before .before .before .before .before .before .before .before .before .before .before .before) .4)
-    (λ c. lengths (c .before .before .before .before .before .before .before .before .before .before .before .before) .1)
+    (λ c. lengths (made (c .before)) .0)
+    (λ c. lengths (made (c .before)) .2)
+    (λ c. lengths (made (c .before)) .3)
+    (λ c. lengths (made (c .before)) .4)
+    (λ c. lengths (made (c .before)) .1)
     returns
     loop-less
     loop-again)

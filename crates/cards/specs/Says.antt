@@ -1,0 +1,123 @@
+-- What a line of a card says (`lineSays`), the line that comes next after it (`stageAfter`), and what the end of the input
+-- says (`endSays`): the card as lines, with no table, no state and no step. A rule's own refusal and a step's are the
+-- player's. Definitions only. The sentences quoted are document 01's, from "towerwatch".
+use mathlib.Core.Bool.{Bool, true, false, cond}
+use mathlib.Core.List.{List}
+use Prim.Native.Nat.{ℕ, _-_}
+use lib.Dec.{eqb}
+use lib.ListN.{length, drop}
+use Rattle.lists.specs.Text.{bytes}
+use Rattle.cards.specs.Numbers.{hasPrefix, Listed, parametersOf, countOf}
+use Rattle.cards.specs.Numbers.Listed.{are, broken}
+use Rattle.cards.specs.Ticks.{tickLine}
+use Rattle.cards.specs.Lines.{overLong}
+use Rattle.cards.specs.declared.Phase.{Phase}
+use Rattle.cards.specs.declared.Phase.the-variants as P
+use Rattle.cards.specs.declared.Stage.{Stage}
+use Rattle.cards.specs.declared.Content.{Content}
+use Rattle.cards.specs.declared.Content.the-variants as C
+use Rattle.cards.specs.declared.Count.{Count}
+use Rattle.cards.specs.declared.Count.the-variants as K
+use Rattle.cards.specs.declared.TickLine.{TickLine}
+use Rattle.cards.specs.declared.TickLine.the-variants as T
+
+-- What a line says: the edition is fine, the eight parameters, the rule text, the number of ticks, a tick's start and
+-- signals, a refusal; nothing, once the card is over.
+pub data Says : Type 0 where
+  edition : Says
+  parameters : List ℕ → Says
+  rule : List ℕ → Says
+  count : ℕ → Says
+  tick : ℕ → ℕ → Says
+  refused : ℕ → Says
+  nothing : Says
+
+-- What the code's answer says: the parameters stand beside it, and the rule text is the part after `watch=` of the line l.
+abbrev pub saysBy : Content → List ℕ → List ℕ → Says
+saysBy C.Edition ps l = edition
+saysBy C.Parameters ps l = parameters ps
+saysBy C.Rule ps l = rule (drop 6 l)
+saysBy (C.Count k) ps l = count k
+saysBy (C.Tick start signals) ps l = tick start signals
+saysBy (C.Refused r) ps l = refused r
+saysBy C.Nothing ps l = nothing
+
+abbrev pub stageAt : Phase → ℕ → Stage
+stageAt p left = record { phase = p; left = left }
+
+-- Before the first line.
+abbrev pub first : Stage
+first = stageAt P.Edition 0
+
+abbrev pub isOver : Phase → Bool
+isOver P.Edition = false
+isOver P.Parameters = false
+isOver P.Rule = false
+isOver P.Count = false
+isOver P.Ticks = false
+isOver P.Over = true
+
+-- "A broken, missing or over-long line is 17 in the four first lines, 18 later"
+abbrev pub brokenBy : Phase → Says
+brokenBy P.Edition = refused 17
+brokenBy P.Parameters = refused 17
+brokenBy P.Rule = refused 17
+brokenBy P.Count = refused 17
+brokenBy P.Ticks = refused 18
+brokenBy P.Over = nothing
+
+-- The first line: "`edition=1`", these nine bytes and no other.
+unfoldable pub editionOf : List ℕ → Bool
+editionOf l = cond (eqb (length l) 9) (hasPrefix (bytes "edition=1") l) false
+
+-- The second line: "`k=` eight numbers".
+abbrev pub parametersSay : Listed → Says
+parametersSay (are ps) = parameters ps
+parametersSay broken = refused 17
+
+-- The fourth line: "`ticks=` 0 to 999,999".
+abbrev pub countSays : Count → Says
+countSays (K.Is k) = count k
+countSays K.Broken = refused 17
+
+-- "then that many lines `t=` [..]"
+abbrev pub tickSays : TickLine → Says
+tickSays (T.Is start signals) = tick start signals
+tickSays T.Broken = refused 18
+
+-- What a line of the right length says, where so many ticks are left: "`watch=` rule text" in the third line, and
+-- "bytes after the last tick are 18".
+abbrev pub saysIn : Phase → ℕ → List ℕ → Says
+saysIn P.Edition left l = cond (editionOf l) edition (refused 17)
+saysIn P.Parameters left l = parametersSay (parametersOf l)
+saysIn P.Rule left l = cond (hasPrefix (bytes "watch=") l) (rule (drop 6 l)) (refused 17)
+saysIn P.Count left l = countSays (countOf l)
+saysIn P.Ticks left l = cond (eqb left 0) (refused 18) (tickSays (tickLine l))
+saysIn P.Over left l = nothing
+
+-- "Checks go line by line": what a line says, given without its byte 10.
+unfoldable pub lineSays : Stage → List ℕ → Says
+lineSays k l = cond (overLong l) (brokenBy (k .phase)) (saysIn (k .phase) (k .left) l)
+
+-- The stage after a line, where so many ticks were left before it. "A refusal prints [..], and ends".
+abbrev pub stageAfter : ℕ → Says → Stage
+stageAfter left edition = stageAt P.Parameters 0
+stageAfter left (parameters ps) = stageAt P.Rule 0
+stageAfter left (rule text) = stageAt P.Count 0
+stageAfter left (count k) = stageAt P.Ticks k
+stageAfter left (tick start signals) = stageAt P.Ticks (left - 1)
+stageAfter left (refused r) = stageAt P.Over 0
+stageAfter left nothing = stageAt P.Over 0
+
+-- What the end of the input says, after so many bytes with no byte 10: a line is missing or broken, unless every tick
+-- was read and nothing comes after the last.
+abbrev pub endIn : Phase → ℕ → ℕ → Says
+endIn P.Edition left n = refused 17
+endIn P.Parameters left n = refused 17
+endIn P.Rule left n = refused 17
+endIn P.Count left n = refused 17
+endIn P.Ticks left n = cond (eqb left 0) (cond (eqb n 0) nothing (refused 18)) (refused 18)
+endIn P.Over left n = nothing
+
+abbrev pub endSays : Stage → ℕ → Says
+endSays k n = endIn (k .phase) (k .left) n

@@ -1,0 +1,68 @@
+-- What a line does, from what it says (`played`): what the code's answers make of it, once a card is over, and over-long
+-- lines. Assumes nothing.
+use mathlib.Core.Path.{_≡_, refl, _∙_, sym, ap}
+use mathlib.Core.List.{List}
+use Prim.Native.Nat.{ℕ, _+_, _≤_}
+use lib.ListN.{length, drop}
+use lib.Seq.{drop-drop}
+use Rattle.limits.specs.Limits.{lineLimit}
+use Rattle.cards.specs.Lines.{line, lineFrom}
+use Rattle.cards.specs.Says.{Says, brokenBy, lineSays, stageAfter}
+use Rattle.cards.specs.Says.Says.{rule}
+use Rattle.cards.specs.declared.Phase.{Phase}
+use Rattle.cards.specs.declared.Phase.the-variants as P
+use Rattle.cards.specs.declared.Stage.{Stage}
+use Rattle.cards.proofs.Lines.{drop-line}
+use Rattle.cards.proofs.Stages.{Follows, says-follows, long-says, over-says}
+use Rattle.observers.specs.Compile.{afterCompile, compiled}
+use Rattle.observers.specs.declared.Compiled.{Compiled}
+use Rattle.observers.specs.declared.Compiled.the-variants as C
+use Rattle.flows.specs.Step.{afterFresh, freshened}
+use Rattle.flows.specs.declared.Fresh.{Fresh}
+use Rattle.reader.specs.Part.{ruleFrom}
+use Rattle.player.specs.Card.{afterRule, freshAs, ruleMade}
+use Rattle.player.specs.Card.{World, Effect, stop, playedTo, played, lined, lastOutput}
+use Rattle.player.specs.declared.Output.the-variants as O
+
+-- A line that says s, with the stage k after it.
+pub plays : (w : World) (l : List ℕ) (s : Says) (k : Stage) → s ≡ lineSays (w .watch .stage) l
+    → k ≡ stageAfter (w .watch .stage .left) s → playedTo k s w ≡ lined w l
+unfolding lined played
+plays w l s k e f = rw (f, e)
+
+-- The rule text is the part of the bytes that the reader hands out.
+rule-long : (k : Stage) (l text : List ℕ) → rule text ≡ lineSays k l → 6 ≤ length l
+rule-long k l text e = (rw (sym e) at (says-follows k l)) .1
+
+pub text-at : (k : Stage) (s : List ℕ) (at : ℕ) → rule (drop 6 (lineFrom s at)) ≡ lineSays k (lineFrom s at)
+    → ruleFrom s at ≡ drop 6 (lineFrom s at)
+text-at k s at e =
+    ap line (sym (drop-drop 6 at s)) ∙ sym (drop-line 6 (drop at s) (rule-long k (lineFrom s at) _ e))
+
+-- The rule text is compiled to the table t', and its fresh state made.
+pub rule-fresh : (text t c part t' c' : List ℕ) (n : ℕ) (r a : Compiled) (f : Fresh) → part ≡ text
+    → afterCompile r t' ≡ compiled part t → r ≡ C.Equations n → afterFresh f c' ≡ freshened t' n c → freshAs n f ≡ a
+    → afterRule a t' c' ≡ ruleMade text t c
+unfolding ruleMade
+rule-fresh text t c part t' c' n r a f p e i h j = rw (← p, ← e, i, ← h, ← j)
+
+-- An over-long line is broken,
+played-broken : (p : Phase) (w : World) → played w (brokenBy p) ≡ stop (lastOutput (brokenBy p)) w
+unfolding played
+played-broken P.Edition w = refl
+played-broken P.Parameters w = refl
+played-broken P.Rule w = refl
+played-broken P.Count w = refl
+played-broken P.Ticks w = refl
+played-broken P.Over w = refl
+
+pub long-lined : (w : World) (l : List ℕ) → lineLimit ≤ length l
+    → lined w l ≡ stop (lastOutput (brokenBy (w .watch .stage .phase))) w
+unfolding lined
+long-lined w l h =
+    ap (played w) (long-says (w .watch .stage) l h) ∙ played-broken (w .watch .stage .phase) w
+
+-- and a line does nothing once the card is over.
+pub over-lined : (w : World) (l : List ℕ) → w .watch .stage .phase ≡ P.Over → lined w l ≡ stop O.Quiet w
+unfolding lined played
+over-lined w l e = rw (over-says (w .watch .stage) l e)

@@ -1,0 +1,47 @@
+-- What is printed, computed: each row pins a definition of specs/ at a corner. Assumes nothing.
+use mathlib.Core.Path.{_≡_, refl}
+use mathlib.Core.List.{[], _∷_, _++_}
+use Rattle.lists.specs.Text.{bytes}
+use Rattle.cards.specs.Lines.{cut}
+use Rattle.cards.specs.Numbers.{hasPrefix}
+use Rattle.cards.specs.Says.{editionOf, lineSays}
+use Rattle.player.specs.Card.{played, lined, refusalDigits, outputBytes, owed, prints, printed}
+use Rattle.player.specs.declared.Output.the-variants as O
+
+-- "A refusal prints `refused=` and its number": one digit and two.
+refusal-1 : outputBytes (O.Refused 1) ≡ bytes "refused=1" ++ (10 ∷ [])
+unfolding outputBytes refusalDigits
+refusal-1 = refl
+
+refusal-9 : outputBytes (O.Refused 9) ≡ bytes "refused=9" ++ (10 ∷ [])
+unfolding outputBytes refusalDigits
+refusal-9 = refl
+
+refusal-10 : outputBytes (O.Refused 10) ≡ bytes "refused=10" ++ (10 ∷ [])
+unfolding outputBytes refusalDigits
+refusal-10 = refl
+
+refusal-18 : outputBytes (O.Refused 18) ≡ bytes "refused=18" ++ (10 ∷ [])
+unfolding outputBytes refusalDigits
+refusal-18 = refl
+
+verdict-0 : outputBytes (O.Verdict 0) ≡ bytes "verdict=0" ++ (10 ∷ [])
+unfolding outputBytes
+verdict-0 = refl
+
+verdict-1 : outputBytes (O.Verdict 1) ≡ bytes "verdict=1" ++ (10 ∷ [])
+unfolding outputBytes
+verdict-1 = refl
+
+-- No bytes at all, a first line that is broken, and one with no line end: the first line is missing or broken.
+empty : printed [] ≡ bytes "refused=17" ++ (10 ∷ [])
+unfolding printed prints owed cut outputBytes refusalDigits
+empty = refl
+
+broken-first : printed (bytes "edition=2" ++ (10 ∷ [])) ≡ bytes "refused=17" ++ (10 ∷ [])
+unfolding printed prints owed cut lined played lineSays editionOf hasPrefix outputBytes refusalDigits
+broken-first = refl
+
+unended-first : printed (bytes "edition=1") ≡ bytes "refused=17" ++ (10 ∷ [])
+unfolding printed prints owed cut outputBytes refusalDigits
+unended-first = refl

@@ -1,0 +1,121 @@
+-- Tick lines at the front of a piece, where no step has a refusal: what such a line does. Assumes nothing.
+use mathlib.Core.Path.{_≡_, refl, _∙_, sym, ap, subst}
+use mathlib.Core.List.{List}
+use Prim.Native.Nat.{ℕ, _+_, _-_, _≤_, _<_}
+use native.Mathlib.Omega.{arith}
+use lib.ListN.{length, take, drop, length-drop}
+use borrow.Author.Tests.{ne-eqb, lt-leb}
+use Rattle.limits.specs.Limits.{standardCap, lineLimit}
+use Rattle.flows.specs.Step.{After, after, parameterFits, stepChecked, stepped}
+use Rattle.tables.specs.declared.Checked.the-variants.{Passed}
+use Rattle.flows.specs.declared.Stepped.the-variants as S
+use Rattle.flows.proofs.Runs.{step-on}
+use Rattle.cards.specs.Lines.{line}
+use Rattle.cards.specs.Says.{stageAt, lineSays}
+use Rattle.cards.specs.Ticks.{tickLine, tickFirst}
+use Rattle.cards.specs.declared.Phase.the-variants as P
+use Rattle.cards.specs.declared.TickLine.the-variants as T
+use Rattle.cards.proofs.Front.{First, first-tick}
+use Rattle.cards.proofs.Hex.{tick-length}
+use Rattle.player.specs.Card.{World, worldOf, watchOf, Effect, effectOf, tickOf, played, lined, outputBytes}
+use Rattle.player.specs.Feed.{Admitted, Runs, fedTo, placed}
+use Rattle.player.specs.declared.Output.the-variants as O
+use Rattle.player.specs.declared.Watch.{Watch}
+use Rattle.player.proofs.Resuming.{goes-none}
+use Rattle.player.proofs.Feeding.{Between, said-room, after-line}
+
+module _ (ps t : List ℕ) where
+  -- After a line that says a verdict.
+  abbrev pub saying : Watch → ℕ → List ℕ → List ℕ → Effect
+  saying w x c v = effectOf (O.Verdict x) (worldOf w ps t c v)
+
+  abbrev pub oneLess : Watch → Watch
+  oneLess w = watchOf (stageAt (w .stage .phase) (w .stage .left - 1)) (w .n)
+
+  -- A tick line whose step gives a verdict.
+  pub tick-lined : (w : Watch) (l : List ℕ) (i j x : ℕ) (c v : List ℕ) (a : After) → w .stage .phase ≡ P.Ticks
+      → 0 < w .stage .left → tickLine l ≡ T.Is i j → stepped standardCap t (w .n) c v (tickOf i j ps) ≡ a
+      → a .answer ≡ S.Verdict x → lined (worldOf w ps t c v) l ≡ saying (oneLess w) x (a .state) (a .values)
+  unfolding lined played lineSays
+  tick-lined w l i j x c v a p more e q y =
+      let short : length l < lineLimit = omega (arith, tick-length l i j e) in
+      rw (lt-leb lineLimit (length l) short, p, ne-eqb (w .stage .left) 0 (λ z. omega arith), e, q, y)
+
+  -- A step's refusals do not depend on its start and signals.
+  pub passes-any : (n : ℕ) (c v : List ℕ) → stepChecked standardCap t n c v (tickOf 0 0 ps) ≡ Passed
+      → (start signals : ℕ) → stepChecked standardCap t n c v (tickOf start signals ps) ≡ Passed
+  unfolding stepChecked parameterFits
+  passes-any n c v e start signals = e
+
+  -- The step of a line at the ticks, where no step has a refusal.
+  module _
+      {w : Watch} {c v c′ v′ : List ℕ} {x : ℕ} (k : Admitted (worldOf w ps t c v)) (i j : ℕ)
+      (a : after (S.Verdict x) c′ v′ ≡ stepped standardCap t (w .n) c v (tickOf i j ps)) where
+    -- It leaves it so.
+    pub admitted-on : Admitted (worldOf (oneLess w) ps t c′ v′)
+    admitted-on =
+        record {
+          phase = k .phase;
+          passes = λ start signals.
+              subst
+              (λ (y : After). stepChecked standardCap t (w .n) (y .state) (y .values) (tickOf start signals ps) ≡ Passed)
+              (sym a)
+              (step-on standardCap t (w .n) c v (tickOf i j ps) (k .passes i j) (tickOf start signals ps) refl);
+        }
+
+    -- The line is at the place u of a piece.
+    module _
+        {w₀ : World} {b out₀ out : List ℕ} {u at : ℕ} (s : Between w₀ b out₀ (worldOf w ps t c v) out u at)
+        (f : T.Is i j ≡ tickFirst (drop u b)) (more : 0 < w .stage .left) where
+      first : First (drop u b) i j
+      first = first-tick (drop u b) i j f
+
+      twenty : 20 ≡ length (line (drop u b))
+      twenty = sym (ap length (first .ends) ∙ tick-length (take 20 (drop u b)) i j (first .tick))
+
+      pub line-inside : u + 20 < length b
+      line-inside = omega (arith, first .whole, length-drop u b)
+
+      does : saying (oneLess w) x c′ v′ ≡ lined (worldOf w ps t c v) (line (drop u b))
+      does =
+          let l = take 20 (drop u b) in
+          rw (first .ends)
+          (sym (tick-lined w l i j x c v (after (S.Verdict x) c′ v′) (k .phase) more (first .tick) (sym a) refl))
+
+      pub verdict-room : at + length (outputBytes (O.Verdict x)) ≤ length out
+      verdict-room = said-room s 20 twenty line-inside does
+
+      pub after-tick : {out′ : List ℕ} {at′ : ℕ} → at′ ≡ at + length (outputBytes (O.Verdict x))
+          → out′ ≡ placed out at (outputBytes (O.Verdict x))
+          → Between w₀ b out₀ (worldOf (oneLess w) ps t c′ v′) out′ (u + 21) at′
+      after-tick {out′} {at′} e p =
+          let z : u + 20 + 1 ≡ u + 21 = omega arith in
+          subst (λ (m : ℕ). Between w₀ b out₀ (worldOf (oneLess w) ps t c′ v′) out′ m at′) z
+          (after-line s 20 twenty line-inside does e p)
+
+-- No lines are used up.
+pub runs-none : (w : World) (b out : List ℕ) → Runs w b (fedTo (w .watch) 0 0) w out out
+runs-none w b out =
+    record {
+      goes = goes-none w b;
+      world = refl;
+      left = refl;
+      used = omega arith;
+      paid = omega arith;
+      phase = refl;
+      kept = refl;
+    }
+
+-- Those that the loop over the tick lines has run.
+pub runs-all : {w₀ w : World} {b out₀ out : List ℕ} {u at : ℕ} → Between w₀ b out₀ w out u at
+    → w₀ .watch .stage .phase ≡ P.Ticks → w .watch .stage .phase ≡ P.Ticks → Runs w₀ b (fedTo (w .watch) u at) w out₀ out
+runs-all s p q =
+    record {
+      goes = s .goes;
+      world = s .world;
+      left = s .left;
+      used = s .within;
+      paid = let h = rw q at (s .paid) in omega arith;
+      phase = p ∙ sym q;
+      kept = s .kept;
+    }

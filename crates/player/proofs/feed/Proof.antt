@@ -1,0 +1,253 @@
+-- `player::feed` meets its contract. The invariant: what is written so far, and what is owed for the bytes that are
+-- left, make what was owed at the start (`Between`). Assumes nothing.
+use mathlib.Core.Path.{_≡_, refl, _∙_, ap}
+use mathlib.Core.List.{List, []}
+use Prim.Native.Nat.{ℕ, _+_, _-_, _≤_, _<_}
+use native.Mathlib.Omega.{arith}
+use borrow.Author.Needs.{needs}
+use lib.ListN.{length}
+use Rattle.cards.specs.Says.{brokenBy}
+use Rattle.player.specs.Card.{World, worldOf, brought, stopped, lastOutput, outputBytes}
+use Rattle.player.specs.declared.Fed.{Fed}
+use Rattle.player.proofs.Moving.{put-length, withRest}
+use Rattle.player.proofs.Feeding.{Between, begun, written-room, rest-room, ran-on, line-inside, said-room}
+use Rattle.player.proofs.Feeding.{after-line, left-over, last-room, over-long}
+use Rattle.player.proofs.feed.Statement.{statement}
+use Rattle.player.proofs.feed.Tie as tie
+
+abbrev Inv-loop : tie.InvT-loop
+Inv-loop bytes ps₀ table₀ state₀ values₀ out₀ w₀ used₀ at₀ ps table state values out w used at =
+    Between (worldOf w₀ ps₀ table₀ state₀ values₀) bytes out₀ (worldOf w ps table state values) out used at
+    × (length table ≡ length table₀) × (length state ≡ length state₀) × (length values ≡ length values₀)
+
+abbrev μ-loop : tie.MeasureT-loop
+μ-loop bytes ps₀ table₀ state₀ values₀ out₀ w₀ used₀ at₀ ps table state values out w used at = length bytes - used
+
+-- ---- the places
+
+-- The start from the loop, and the loop from the call of `feed_ticks`.
+abbrev entry : tie.At-loop Inv-loop μ-loop → tie.Start Inv-loop μ-loop
+entry c = let lent = c .before .before .before in lent .before .before .before
+
+abbrev turn : tie.After-feed-ticks Inv-loop μ-loop → tie.At-loop Inv-loop μ-loop
+turn c = let piece = c .before .before .before .before in piece .before .before .before
+
+-- The call of `feed_ticks`, from where its watch is taken over, and from where the line after it is found.
+abbrev called : tie.After-ran Inv-loop μ-loop → tie.After-feed-ticks Inv-loop μ-loop
+called c = let changed = c .before .before .before .before in changed .before .before .before
+
+abbrev ran : tie.After-line-length Inv-loop μ-loop → tie.After-feed-ticks Inv-loop μ-loop
+ran c = called (c .before .before .before)
+
+-- The start of an over-long line: where it is known, from its last output.
+abbrev long : tie.After-put-arg Inv-loop μ-loop → tie.Else2 Inv-loop μ-loop
+long c = let output = c .before .before .before in output .before .before .before
+
+-- A whole line: what it does, and where it is known, from its output; that output, from the end of the turn.
+abbrev answered : tie.After-put-arg2 Inv-loop μ-loop → tie.After-on-line Inv-loop μ-loop
+answered c = let changed = c .before .before .before .before in changed .before .before .before .before
+
+abbrev whole : tie.After-on-line Inv-loop μ-loop → tie.Else1 Inv-loop μ-loop
+whole c = c .before .before .before .before .before
+
+abbrev put : tie.After-slice-known12 Inv-loop μ-loop → tie.After-put-arg2 Inv-loop μ-loop
+put c = c .before .before .before
+
+-- ---- after the tick lines that `feed_ticks` runs
+
+module _ (c : tie.After-feed-ticks Inv-loop μ-loop) where
+  abbrev fed : Fed
+  fed = c .feed-ticks .result
+
+  -- The piece, what was brought in at the start, and where the loop stands after these lines.
+  abbrev bytes : List ℕ
+  bytes = entry (turn c) .args .bytes .now
+
+  abbrev first : World
+  first =
+      let args = entry (turn c) .args in
+      brought (args .watch) (args .parameters) (args .table) (args .state) (args .values)
+
+  abbrev used : ℕ
+  used = turn c .loop .used + fed .used
+
+  abbrev at : ℕ
+  at = turn c .loop .at + fed .filled
+
+  -- What the arrays and the output hold.
+  abbrev state : List ℕ
+  state = c .feed-ticks .last .1 .1 .1 .1 .0
+
+  abbrev values : List ℕ
+  values = c .feed-ticks .last .1 .1 .1 .1 .1 .0
+
+  abbrev world : World
+  world = worldOf (fed .watch) (turn c .loop .parameters) (turn c .loop .table) state values
+
+  abbrev out : List ℕ
+  out = withRest (turn c .loop .out) (turn c .loop .at) (c .feed-ticks .last .1 .1 .1 .1 .1 .1 .0)
+
+  run : Between first bytes (entry (turn c) .args .out .now) world out used at
+  run = ran-on (turn c .loop .inv .0) (c .feed-ticks .ensures .0) (c .feed-ticks .kept .1 .1 .1 .1 .1 .1 .0)
+
+  lengths : (length (world .table) ≡ length (first .table))
+      × (length state ≡ length (first .state)) × (length values ≡ length (first .values))
+  lengths =
+      let inv = turn c .loop .inv in
+      let kept = c .feed-ticks .kept in
+      (inv .1, kept .1 .1 .1 .1 .0 ∙ inv .2, kept .1 .1 .1 .1 .1 .0 ∙ inv .3)
+
+  size : (length bytes < 18446744073709551616) × (length (entry (turn c) .args .out .now) < 18446744073709551616)
+  size = omega (arith, entry (turn c) .good)
+
+loop-holds : tie.Need-loop-holds Inv-loop μ-loop
+loop-holds c = (begun _ _ _ (c .before .before .before .before .before .pre), refl, refl, refl)
+
+add-used : tie.Need-add-used Inv-loop μ-loop
+add-used c = let here = called (c .before) in omega (arith, run here .within, size here)
+
+add-at : tie.Need-add-at Inv-loop μ-loop
+add-at c =
+    let here = called (c .before .before) in
+    omega (arith, written-room (run here), run here .same, size here)
+
+-- ---- the line after them
+
+-- It ends in the piece,
+inside : (c : tie.After-line-length Inv-loop μ-loop) → used (ran c) + c .line-length .result ≤ length (bytes (ran c))
+inside c = line-inside (run (ran c)) (c .line-length .result) (c .line-length .ensures)
+
+add-to : tie.Need-add-to Inv-loop μ-loop
+add-to c = omega (arith, inside c, size (ran c))
+
+-- and where it does not reach its end, so does its byte 10.
+ended : (c : tie.Else1 Inv-loop μ-loop) →
+    let line = c .before in used (ran line) + line .line-length .result < length (bytes (ran line))
+ended c = omega (arith, inside (c .before), c .if1 .left)
+
+-- The start of a line is left over.
+returns : tie.Need-returns Inv-loop μ-loop
+returns c =
+    let line = c .before .before .before in
+    rw (c .fed-to .ensures)
+    (left-over (run (ran line)) (line .line-length .result) (line .line-length .ensures)
+    (c .before .before .if1 .taken) (c .before .if2 .taken))
+
+-- The start of an over-long line: the card is over.
+over : (c : tie.After-put-arg Inv-loop μ-loop) →
+    let phase = fed (ran (long c .before .before)) .watch .stage .phase in
+    c .before .before .stop .result ≡ stopped (lastOutput (brokenBy phase))
+over c =
+    let output = c .before .before .before in
+    c .before .before .stop .ensures
+    ∙ ap stopped (output .last-output .ensures [] [] ∙ ap lastOutput (output .before .broken .ensures [] []))
+
+over-room : (c : tie.After-put-arg Inv-loop μ-loop) →
+    let here = ran (long c .before .before) in
+    at here + length (outputBytes (c .before .before .stop .result .output)) ≤ length (out here)
+over-room c =
+    let line = long c .before .before in
+    last-room (run (ran line)) (line .line-length .result) (line .line-length .ensures)
+    (long c .before .if1 .taken) (long c .if2 .left) (c .before .before .stop .result) (over c)
+
+same-length-8 : tie.Need-same-length-8 Inv-loop μ-loop
+same-length-8 c =
+    let put = c .before .before .before .put .ensures in
+    let word = c .before .before .before .before in
+    put-length _ _ _ (put .0) (put .1) (over-room word) ∙ run (ran (long word .before .before)) .same
+
+returns-2 : tie.Need-returns-2 Inv-loop μ-loop
+returns-2 c =
+    let put = c .before .before .before .put .ensures in
+    let word = c .before .before .before .before in
+    let line = long word .before .before in
+    rw (c .fed-to2 .ensures)
+    (over-long (run (ran line)) (line .line-length .result) (line .line-length .ensures)
+    (long word .before .if1 .taken) (long word .if2 .left) (word .before .before .stop .result) (over word)
+    (put .0) (put .1))
+
+-- A whole line.
+on-line-requires : tie.Need-on-line-requires Inv-loop μ-loop
+on-line-requires c κs =
+    let here = c .before .before .before .before in
+    let line = here .before in
+    record { ends = ap (λ (n : ℕ). used (ran line) + n) (line .line-length .ensures); whole = ended here }
+
+room : (c : tie.After-put-arg2 Inv-loop μ-loop) →
+    let here = ran (whole (answered c) .before) in
+    at here + length (outputBytes (answered c .on-line .result .output)) ≤ length (out here)
+room c =
+    let line = whole (answered c) .before in
+    said-room (run (ran line)) (line .line-length .result) (line .line-length .ensures)
+    (ended (whole (answered c))) (answered c .on-line .ensures)
+
+add-used-2 : tie.Need-add-used-2 Inv-loop μ-loop
+add-used-2 c =
+    let line = whole (answered (put c)) in
+    omega (arith, ended line, size (ran (line .before)))
+
+loop-less : tie.Need-loop-less Inv-loop μ-loop
+loop-less c = omega (arith, ended (whole (answered (put c))))
+
+loop-again : tie.Need-loop-again Inv-loop μ-loop
+loop-again c =
+    let word = c .before .before .put2 .ensures in
+    let done = answered (put c) in
+    let line = whole done .before in
+    let kept = done .on-line .kept in (
+      after-line (run (ran line)) (line .line-length .result) (line .line-length .ensures) (ended (whole done))
+          (done .on-line .ensures) (word .0) (word .1),
+      omega (arith, kept, lengths (ran line) .0),
+      omega (arith, kept, lengths (ran line) .1),
+      omega (arith, kept, lengths (ran line) .2),
+    )
+
+-- The call of `feed_ticks`, from where its output is lent; the line, from the two ends of the loop.
+abbrev loop-at : tie.After-feed-ticks-arg5 Inv-loop μ-loop → tie.At-loop Inv-loop μ-loop
+loop-at c = c .before .before .before .before .before
+
+abbrev left-at : tie.After-fed-to Inv-loop μ-loop → tie.After-feed-ticks Inv-loop μ-loop
+left-at c = ran (c .before .before .before)
+
+abbrev over-at : tie.After-fed-to2 Inv-loop μ-loop → tie.After-feed-ticks Inv-loop μ-loop
+over-at c = ran (long (c .before .before .before .before) .before .before)
+
+pub feed-spec : {M : Type 1} → statement M
+feed-spec =
+    tie.close
+    (tie.spec
+    Inv-loop
+    μ-loop
+    loop-holds
+    (λ c. c .loop .inv .0 .within)
+    (λ c. c .loop .inv .0 .within)
+    (λ c. search needs)
+    (λ c. written-room (loop-at c .loop .inv .0))
+    (λ c. written-room (loop-at c .loop .inv .0))
+    (λ c. search needs)
+    (λ c κs. rest-room (loop-at (c .before) .loop .inv .0))
+    add-used
+    add-at
+    (λ c κs. run (called (c .before .before)) .within)
+    add-to
+    (λ c κs. search needs)
+    (λ c. lengths (left-at c) .0)
+    (λ c. lengths (left-at c) .1)
+    (λ c. lengths (left-at c) .2)
+    (λ c. run (left-at c) .same)
+    returns
+    (λ c κs. search needs)
+    (λ c κs. search needs)
+    (λ c κs. search needs)
+    (λ c κs. over-room c)
+    (λ c κs. search needs)
+    (λ c. lengths (over-at c) .0)
+    (λ c. lengths (over-at c) .1)
+    (λ c. lengths (over-at c) .2)
+    same-length-8
+    returns-2
+    on-line-requires
+    (λ c κs. room c)
+    add-used-2
+    loop-less
+    loop-again)

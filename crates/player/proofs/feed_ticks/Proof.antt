@@ -1,0 +1,90 @@
+-- `player::feed_ticks` meets its contract: no line is run, or those of `run_ticks`. Assumes nothing.
+use mathlib.Core.Path.{_≡_, refl, sym, _∙_}
+use mathlib.Core.List.{[], _∷_}
+use Prim.Native.Nat.{ℕ}
+use native.Mathlib.Omega.{arith}
+use types.Run.{miss}
+use borrow.Author.Needs.{needs}
+use Rattle.tables.specs.declared.Checked.the-variants.{Passed, Refused as Failed}
+use Rattle.player.specs.Card.{brought}
+use Rattle.player.specs.Feed.{Admitted}
+use Rattle.player.proofs.Ticking.{passes-any, runs-none}
+use Rattle.player.proofs.feed_ticks.Statement.{statement}
+use Rattle.player.proofs.feed_ticks.Tie as tie
+
+-- ---- the places
+
+-- Where the phase is known, from the check of a step; and the start from there.
+abbrev ticks : tie.After-step-checked → tie.After-enum-told
+ticks c = c .before .before .before .before
+
+abbrev entry : tie.After-enum-told → tie.Start
+entry c = let lent = c .before .before .before .before in lent .before .before .before .before
+
+-- The check that was passed, from the call of `run_ticks`; and that call from the end.
+abbrev passed : tie.After-run-ticks-arg3 → tie.After-enum-told2
+passed c = c .before .before .before
+
+abbrev ran : tie.After-slice-known6 → tie.After-run-ticks
+ran c = let changed = c .before .before .before in changed .before .before .before
+
+-- ---- the needs
+
+-- A check that is passed admits each step.
+admitted : (c : tie.After-enum-told2) →
+    let args = entry (ticks (c .before .before)) .args in
+    Admitted (brought (args .w) (args .parameters) (args .table) (args .state) (args .values))
+admitted c =
+    let checked = c .before .before in
+    record {
+      phase = ticks checked .enum-told .given .1;
+      passes = passes-any _ _ _ _ _ (sym (checked .step-checked .ensures) ∙ c .enum-told2 .given .1);
+    }
+
+clash : {r : ℕ} → Failed r ≡ Passed → ⊥
+clash e = let z : _≡_ {A = ℕ} 0 1 = cc in omega arith
+
+-- Another phase; a step that would be refused.
+returns : tie.Need-returns
+returns c =
+    let another = c .before .match .keys2 in
+    rw (c .fed-to .ensures) (
+      runs-none _ _ _,
+      (λ admits more. absurd (miss (0 ∷ 1 ∷ 2 ∷ 3 ∷ 5 ∷ []) 4 (tt {0}) (rw (admits .phase) at another)), λ no. refl),
+    )
+
+returns-2 : tie.Need-returns-2
+returns-2 c =
+    let refused = sym (c .before .enum-told3 .given .1) ∙ c .before .before .before .step-checked .ensures in
+    rw (c .fed-to2 .ensures)
+    (runs-none _ _ _, (λ admits more. absurd (clash (refused ∙ admits .passes 0 0)), λ no. refl))
+
+run-ticks-requires : tie.Need-run-ticks-requires
+run-ticks-requires c κs =
+    let known = ticks (passed c .before .before) in
+    (entry known .pre (known .enum-told .given .1), admitted (passed c))
+
+returns-3 : tie.Need-returns-3
+returns-3 c =
+    let run = ran c .run-ticks .ensures in
+    (run .0, (λ admits. run .1, λ no. absurd (no (admitted (passed (ran c .before))))))
+
+pub feed-ticks-spec : {M : Type 1} → statement M
+feed-ticks-spec =
+    tie.close
+    (tie.spec
+    (λ c. search needs)
+    (λ c κs. search needs)
+    returns
+    (λ c κs. search needs)
+    (λ c. search needs)
+    (λ c. search needs)
+    (λ c κs. search needs)
+    (λ c. search needs)
+    (λ c. search needs)
+    returns-2
+    run-ticks-requires
+    (λ c. search needs)
+    (λ c. search needs)
+    (λ c. search needs)
+    returns-3)

@@ -1,0 +1,54 @@
+-- `player::rule_line` meets its contract: the rule text that the reader hands out is compiled, and the table's fresh state
+-- made. `made` is the place after the compiling, `fresh` the one after the fresh state. Assumes nothing.
+use mathlib.Core.Path.{ap}
+use borrow.Author.Needs.{needs}
+use Rattle.player.specs.Card.{freshAs, ruleMade}
+use Rattle.player.proofs.Playing.{rule-fresh}
+use Rattle.player.proofs.rule_line.Statement.{statement}
+use Rattle.player.proofs.rule_line.Tie as tie
+
+abbrev compiled : tie.After-fresh-state → tie.After-compile-rule
+compiled c = let answer = c .before .before .before .before in answer .before .before .before .before
+
+-- Refused; compiled, with no fresh state, and with one.
+returns : tie.Need-returns
+unfolding ruleMade
+returns c =
+    let made = c .before .before .before .before .before in
+    rw (← made .before .before .rule-part .ensures, ← made .compile-rule .ensures .0, c .before .compiled .given .1)
+
+returns-2 : tie.Need-returns-2
+returns-2 c =
+    let fresh = c .before .before .before .before .before in
+    let made = compiled fresh in
+    rule-fresh _ _ _ _ _ _ _ _ _ _ (made .before .before .rule-part .ensures) (made .compile-rule .ensures .0)
+    (fresh .before .before .before .before .compiled2 .given .1) (fresh .fresh-state .ensures)
+    (ap (freshAs _) (c .before .fresh .given .1))
+
+returns-3 : tie.Need-returns-3
+returns-3 c =
+    let fresh = c .before .before .before .before in
+    let made = compiled fresh in
+    rule-fresh _ _ _ _ _ _ _ _ _ _ (made .before .before .rule-part .ensures) (made .compile-rule .ensures .0)
+    (fresh .before .before .before .before .compiled2 .given .1) (fresh .fresh-state .ensures)
+    (ap (freshAs _) (c .enum-told .given .1))
+
+pub rule-line-spec : {M : Type 1} → statement M
+rule-line-spec =
+    tie.close
+    (tie.spec
+    (λ c κs. search needs)
+    (λ c κs. search needs)
+    (λ c. search needs)
+    (λ c. search needs)
+    (λ c κs. search needs)
+    (λ c. search needs)
+    (λ c. search needs)
+    (λ c. search needs)
+    returns
+    (λ c. search needs)
+    (λ c. search needs)
+    returns-2
+    (λ c. search needs)
+    (λ c. search needs)
+    returns-3)

@@ -1,0 +1,142 @@
+-- `player::run_ticks` meets its contract. The invariant: what stands between two lines of the piece (`Between`), and no
+-- step has a refusal. Assumes nothing.
+use mathlib.Core.Path.{_≡_, refl, sym, _∙_}
+use Prim.Native.Nat.{_+_, _<_}
+use native.Mathlib.Omega.{arith}
+use borrow.Author.Needs.{needs}
+use lib.ListN.{length}
+use Rattle.cards.specs.Says.{stageAt}
+use Rattle.player.specs.Card.{worldOf, watchOf}
+use Rattle.player.specs.Feed.{Admitted}
+use Rattle.player.proofs.Feeding.{Between, begun}
+use Rattle.player.proofs.Ticking.{admitted-on, line-inside, verdict-room, after-tick, runs-all}
+use Rattle.player.proofs.run_ticks.Statement.{statement}
+use Rattle.player.proofs.run_ticks.Tie as tie
+
+abbrev Inv-loop : tie.InvT-loop
+Inv-loop bytes ps table state₀ values₀ out₀ phase n left₀ used₀ at₀ state values out left used at =
+    let w₀ = worldOf (watchOf (stageAt phase left₀) n) ps table state₀ values₀ in
+    let w = worldOf (watchOf (stageAt phase left) n) ps table state values in
+    Between w₀ bytes out₀ w out used at
+    × Admitted w
+    × (length state ≡ length state₀) × (length values ≡ length values₀)
+
+abbrev μ-loop : tie.MeasureT-loop
+μ-loop bytes ps table state₀ values₀ out₀ phase n left₀ used₀ at₀ state values out left used at = left
+
+-- ---- the places
+
+-- The start, from the loop.
+abbrev entry : tie.At-loop Inv-loop μ-loop → tie.Start Inv-loop μ-loop
+entry c = let lent = c .before .before .before .before in lent .before .before .before
+
+-- Where a tick line is known, from its step; and the loop from there.
+abbrev read : tie.After-step-passed Inv-loop μ-loop → tie.After-start Inv-loop μ-loop
+read c = c .before .before .before .before .before
+
+abbrev turn : tie.After-start Inv-loop μ-loop → tie.At-loop Inv-loop μ-loop
+turn c = c .before .before .before .before
+
+-- The step, from where the output is lent for its verdict, and that place from the end of the turn.
+abbrev stepped : tie.After-put-arg Inv-loop μ-loop → tie.After-step-passed Inv-loop μ-loop
+stepped c = c .before .before .before .before .before
+
+abbrev lent : tie.After-slice-known6 Inv-loop μ-loop → tie.After-put-arg Inv-loop μ-loop
+lent c = c .before .before .before
+
+-- The loop, from where a line is broken.
+abbrev stopped : tie.After-fed-to Inv-loop μ-loop → tie.At-loop Inv-loop μ-loop
+stopped c = let line = c .before .before .before .before in line .before .before
+
+-- ---- the needs
+
+loop-holds : tie.Need-loop-holds Inv-loop μ-loop
+loop-holds c =
+    let pre = c .before .before .before .before .before .before .pre in
+    (begun _ _ _ (pre .0), pre .1, refl, refl)
+
+-- The next line is broken or not whole, or no tick is left.
+returns : tie.Need-returns Inv-loop μ-loop
+returns c =
+    let broken = c .before .before in
+    let line = broken .before .before in
+    let loop = line .before .before in
+    rw (c .fed-to .ensures, c .before .watch-at .ensures) (
+      runs-all (loop .loop .inv .0) (entry loop .pre .1 .phase) (loop .loop .inv .1 .phase),
+      λ more. sym (line .tick-at .ensures) ∙ broken .enum-told .given .1,
+    )
+
+returns-2 : tie.Need-returns-2 Inv-loop μ-loop
+returns-2 c =
+    let loop = c .before .before .before in
+    rw (c .fed-to2 .ensures, c .before .watch-at2 .ensures) (
+      runs-all (loop .loop .inv .0) (entry loop .pre .1 .phase) (loop .loop .inv .1 .phase),
+      λ more. absurd (omega (arith, more, c .before .before .loop-test .left)),
+    )
+
+-- A tick line, and its step.
+step-passed-requires : tie.Need-step-passed-requires Inv-loop μ-loop
+step-passed-requires c κs = turn (c .before .before .before .before) .loop .inv .1 .passes _ _
+
+put-requires : tie.Need-put-requires Inv-loop μ-loop
+put-requires c κs =
+    let step = stepped c in
+    let tick = read step in
+    let line = tick .before .before in
+    let inv = turn tick .loop .inv in
+    verdict-room _ _ (inv .1) _ _ (step .step-passed .ensures) (inv .0)
+    (sym (tick .start .given .1) ∙ line .tick-at .ensures) (line .before .loop-test .taken)
+
+inside : (c : tie.After-slice-known6 Inv-loop μ-loop) →
+    let loop = turn (read (stepped (lent c))) in
+    loop .loop .used + 20 < length (entry loop .args .bytes .now)
+inside c =
+    let step = stepped (lent c) in
+    let tick = read step in
+    let line = tick .before .before in
+    let inv = turn tick .loop .inv in
+    line-inside _ _ (inv .1) _ _ (step .step-passed .ensures) (inv .0)
+    (sym (tick .start .given .1) ∙ line .tick-at .ensures) (line .before .loop-test .taken)
+
+loop-again : tie.Need-loop-again Inv-loop μ-loop
+loop-again c =
+    let put = c .before .before .put .ensures in
+    let step = stepped (lent c) in
+    let tick = read step in
+    let line = tick .before .before in
+    let inv = turn tick .loop .inv in (
+      after-tick _ _ (inv .1) _ _ (step .step-passed .ensures) (inv .0)
+          (sym (tick .start .given .1) ∙ line .tick-at .ensures) (line .before .loop-test .taken) (put .0) (put .1),
+      admitted-on _ _ (inv .1) _ _ (step .step-passed .ensures),
+      omega (arith, step .step-passed .kept, inv .2),
+      omega (arith, step .step-passed .kept, inv .3),
+    )
+
+pub run-ticks-spec : {M : Type 1} → statement M
+run-ticks-spec =
+    tie.close
+    (tie.spec
+    Inv-loop
+    μ-loop
+    loop-holds
+    (λ c κs. c .before .loop .inv .0 .within)
+    (λ c. search needs)
+    (λ c. search needs)
+    (λ c κs. search needs)
+    (λ c κs. search needs)
+    (λ c. stopped c .loop .inv .2)
+    (λ c. stopped c .loop .inv .3)
+    (λ c. stopped c .loop .inv .0 .same)
+    returns
+    step-passed-requires
+    put-requires
+    (λ c. omega (arith, inside c))
+    (λ c. search needs)
+    (λ c. omega arith)
+    loop-again
+    (λ c κs. search needs)
+    (λ c κs. search needs)
+    (λ c. c .before .before .before .loop .inv .2)
+    (λ c. c .before .before .before .loop .inv .3)
+    (λ c. c .before .before .before .loop .inv .0 .same)
+    returns-2)

@@ -1,0 +1,202 @@
+-- What the program prints for a card, as a definition on the card's bytes: `printed`. What a line says is
+-- `lineSays` of the crate cards; here it is played (`played`): a rule is compiled, a tick is a step. Definitions only.
+-- The sentences quoted are document 01's, from "towerwatch".
+use mathlib.Core.Bool.{cond}
+use mathlib.Core.List.{List, [], _∷_, _++_}
+use Prim.Native.Nat.{ℕ, _+_, _/_, _%_}
+use lib.Dec.{ltb}
+use lib.ListN.{length, replicate}
+use denote.Ref.{RefT, now}
+use denote.Triple.Both.{Both}
+use Rattle.limits.specs.Limits.{standardCap, parameterCount, tableRoom, equationLimit}
+use Rattle.lists.specs.Text.{bytes}
+use Rattle.traces.specs.declared.Tick.{Tick}
+use Rattle.observers.specs.Compile.{AfterCompile, compiled}
+use Rattle.observers.specs.declared.Compiled.{Compiled}
+use Rattle.observers.specs.declared.Compiled.the-variants as C
+use Rattle.flows.specs.Step.{AfterFresh, freshened, After, stepped}
+use Rattle.flows.specs.declared.Fresh.{Fresh}
+use Rattle.flows.specs.declared.Fresh.the-variants as F
+use Rattle.flows.specs.declared.Stepped.{Stepped}
+use Rattle.flows.specs.declared.Stepped.the-variants as S
+use Rattle.cards.specs.Lines.{cut}
+use Rattle.cards.specs.Says.{Says, stageAt, first, lineSays, stageAfter, endSays}
+use Rattle.cards.specs.Says.Says.{edition, parameters, rule, count, tick, refused, nothing}
+use Rattle.cards.specs.declared.Phase.the-variants as P
+use Rattle.cards.specs.declared.Stage.{Stage}
+use Rattle.player.specs.declared.Output.{Output}
+use Rattle.player.specs.declared.Output.the-variants as O
+use Rattle.player.specs.declared.Watch.{Watch}
+use Rattle.player.specs.declared.Answered.{Answered}
+
+-- ---- the player's memory
+
+-- What the program knows between two lines: the stage of the card and the number of equations, the parameters, the
+-- table, the state of its memories and the flow values.
+pub record World : Type 0 where
+  pub watch : Watch
+  pub parameters : List ℕ
+  pub table : List ℕ
+  pub state : List ℕ
+  pub values : List ℕ
+
+abbrev pub worldOf : Watch → List ℕ → List ℕ → List ℕ → List ℕ → World
+worldOf w ps t c v = record { watch = w; parameters = ps; table = t; state = c; values = v }
+
+-- The same of what a function is lent,
+abbrev pub brought : Watch → RefT (List ℕ) → RefT (List ℕ) → RefT (List ℕ) → RefT (List ℕ) → World
+brought w ps t c v = worldOf w (now ps) (now t) (now c) (now v)
+
+-- and in what it ensures: as it was lent, and as it is left.
+abbrev pub Lent : Type 0
+Lent = Both (RefT (List ℕ)) (RefT (List ℕ))
+
+abbrev pub entering : Watch → Lent → Lent → Lent → Lent → World
+entering w ps t c v = brought w (ps .entry) (t .entry) (c .entry) (v .entry)
+
+abbrev pub leaving : Watch → Lent → Lent → Lent → Lent → World
+leaving w ps t c v = brought w (ps .exit) (t .exit) (c .exit) (v .exit)
+
+abbrev pub watchOf : Stage → ℕ → Watch
+watchOf k n = record { stage = k; n = n }
+
+-- ---- what a line does
+
+-- The world after it, and what it prints.
+pub record Effect : Type 0 where
+  pub world : World
+  pub output : Output
+
+abbrev pub effectOf : Output → World → Effect
+effectOf o w = record { world = w; output = o }
+
+-- The world with another watch.
+abbrev pub goOn : Watch → Output → World → Effect
+goOn k o w = effectOf o (worldOf k (w .parameters) (w .table) (w .state) (w .values))
+
+-- "and ends": the card is over after this output.
+abbrev pub overWatch : Watch
+overWatch = watchOf (stageAt P.Over 0) 0
+
+abbrev pub stop : Output → World → Effect
+stop o w = goOn overWatch o w
+
+-- The same as the code's answers.
+abbrev pub goingOn : Stage → ℕ → Output → Answered
+goingOn k n o = record { watch = watchOf k n; output = o }
+
+abbrev pub stopped : Output → Answered
+stopped o = record { watch = overWatch; output = o }
+
+-- The rule: its answer, and the table and the state that it leaves.
+pub record AfterRule : Type 0 where
+  pub answer : Compiled
+  pub table : List ℕ
+  pub state : List ℕ
+
+abbrev pub afterRule : Compiled → List ℕ → List ℕ → AfterRule
+afterRule r t c = record { answer = r; table = t; state = c }
+
+abbrev pub freshAs : ℕ → Fresh → Compiled
+freshAs n F.Made = C.Equations n
+freshAs n (F.Refused r) = C.Refused r
+
+abbrev pub madeFresh : ℕ → List ℕ → AfterFresh → AfterRule
+madeFresh n t f = afterRule (freshAs n (f .answer)) t (f .state)
+
+abbrev pub madeAs : Compiled → List ℕ → List ℕ → AfterRule
+madeAs (C.Equations n) t c = madeFresh n t (freshened t n c)
+madeAs (C.Refused r) t c = afterRule (C.Refused r) t c
+
+abbrev pub madeBy : AfterCompile → List ℕ → AfterRule
+madeBy k c = madeAs (k .answer) (k .table) c
+
+-- "a rule's own refusal falls at its line": compiled, and its fresh state made.
+unfoldable pub ruleMade : List ℕ → List ℕ → List ℕ → AfterRule
+ruleMade text t c = madeBy (compiled text t) c
+
+abbrev pub withRule : Stage → Compiled → World → Effect
+withRule k (C.Equations n) w = goOn (watchOf k n) O.Quiet w
+withRule k (C.Refused r) w = stop (O.Refused r) w
+
+abbrev pub ruledWorld : AfterRule → World → World
+ruledWorld r w = worldOf (w .watch) (w .parameters) (r .table) (r .state) (w .values)
+
+abbrev pub ruleEffect : Stage → AfterRule → World → Effect
+ruleEffect k r w = withRule k (r .answer) (ruledWorld r w)
+
+-- A tick line: one step.
+abbrev pub tickOf : ℕ → ℕ → List ℕ → Tick
+tickOf start signals ps = record { start = start; signals = signals; parameters = ps }
+
+abbrev pub withStep : Stage → Stepped → World → Effect
+withStep k (S.Verdict v) w = goOn (watchOf k (w .watch .n)) (O.Verdict v) w
+withStep k (S.Refused r) w = stop (O.Refused r) w
+
+abbrev pub steppedWorld : After → World → World
+steppedWorld a w = worldOf (w .watch) (w .parameters) (w .table) (a .state) (a .values)
+
+abbrev pub stepEffect : Stage → After → World → Effect
+stepEffect k a w = withStep k (a .answer) (steppedWorld a w)
+
+abbrev pub stepOf : ℕ → ℕ → World → After
+stepOf start signals w =
+    stepped standardCap (w .table) (w .watch .n) (w .state) (w .values) (tickOf start signals (w .parameters))
+
+-- What a line does that says so, k being the stage after it.
+abbrev pub playedTo : Stage → Says → World → Effect
+playedTo k edition w = goOn (watchOf k 0) O.Quiet w
+playedTo k (parameters ps) w = effectOf O.Quiet (worldOf (watchOf k 0) ps (w .table) (w .state) (w .values))
+playedTo k (rule text) w = ruleEffect k (ruleMade text (w .table) (w .state)) w
+playedTo k (count m) w = goOn (watchOf k (w .watch .n)) O.Quiet w
+playedTo k (tick start signals) w = stepEffect k (stepOf start signals w) w
+playedTo k (refused r) w = stop (O.Refused r) w
+playedTo k nothing w = stop O.Quiet w
+
+unfoldable pub played : World → Says → Effect
+played w s = playedTo (stageAfter (w .watch .stage .left) s) s w
+
+-- "Checks go line by line": what a line does, given without its byte 10.
+unfoldable pub lined : World → List ℕ → Effect
+lined w l = played w (lineSays (w .watch .stage) l)
+
+-- ---- what is printed
+
+-- "A refusal prints `refused=` and its number, and ends."
+abbrev pub lastOutput : Says → Output
+lastOutput edition = O.Quiet
+lastOutput (parameters ps) = O.Quiet
+lastOutput (rule text) = O.Quiet
+lastOutput (count k) = O.Quiet
+lastOutput (tick start signals) = O.Quiet
+lastOutput (refused r) = O.Refused r
+lastOutput nothing = O.Quiet
+
+-- A refusal's number in decimal digits. Refusals are 1 to 18: of a longer number these would be the last two digits.
+unfoldable pub refusalDigits : ℕ → List ℕ
+refusalDigits r = cond (ltb r 10) ((48 + r % 10) ∷ []) ((48 + r / 10 % 10) ∷ (48 + r % 10) ∷ [])
+
+-- "It prints `verdict=` and 0 or 1 for each tick. A refusal prints `refused=` and its number". A verdict is one digit.
+unfoldable pub outputBytes : Output → List ℕ
+outputBytes O.Quiet = []
+outputBytes (O.Verdict v) = bytes "verdict=" ++ ((48 + v % 10) ∷ 10 ∷ [])
+outputBytes (O.Refused r) = bytes "refused=" ++ (refusalDigits r ++ (10 ∷ []))
+
+-- What is printed for these lines and then the end of the input after these bytes.
+unfoldable pub owed : World → List (List ℕ) → List ℕ → List ℕ
+owed w [] tail = outputBytes (lastOutput (endSays (w .watch .stage) (length tail)))
+owed w (l ∷ ls) tail = outputBytes (lined w l .output) ++ owed (lined w l .world) ls tail
+
+-- What is printed from here on, if these are all the bytes that are left.
+unfoldable pub prints : World → List ℕ → List ℕ
+prints w s = owed w (cut s .whole) (cut s .tail)
+
+-- Before the first line: the lent arrays are 0.
+abbrev pub start : World
+start =
+    worldOf (watchOf first 0)
+    (replicate parameterCount 0) (replicate tableRoom 0) (replicate equationLimit 0) (replicate equationLimit 0)
+
+-- What the program prints for a whole card.
+unfoldable pub printed : List ℕ → List ℕ
+printed card = prints start card

@@ -1,0 +1,5 @@
+-- What a card prints, from its bytes on.
+pub mod Card
+pub mod Feed
+pub mod Pieces
+pub mod Meant

@@ -1,0 +1,53 @@
+-- `reader::rule_at` meets its contract: the part from after `watch=` on is the line there. Assumes nothing.
+use mathlib.Core.Path.{_≡_, sym, ap, _∙_}
+use Prim.Native.Nat.{ℕ, _+_, _-_, _≤_}
+use native.Mathlib.Omega.{arith}
+use borrow.Author.Needs.{needs}
+use lib.ListN.{length, take, drop, length-drop}
+use Rattle.cards.proofs.Lines.{line-past, take-line, line-within}
+use Rattle.reader.proofs.rule_at.Statement.{statement}
+use Rattle.reader.proofs.rule_at.Tie as tie
+
+returns : tie.Need-returns
+returns c =
+    let args = c .before .before .before .args in
+    sym (line-past (args .s .now) (args .at + 6) (omega arith))
+
+returns-2 : tie.Need-returns-2
+returns-2 c =
+    let args = c .before .before .before .before .args in
+    sym (line-past (args .s .now) (args .at + 6) (omega arith))
+
+-- The line from there on ends in s.
+inside : (c : tie.After-line-length) →
+    let args = c .before .before .before .before .args in
+    args .at + 6 + c .line-length .result ≤ length (args .s .now)
+inside c =
+    let args = c .before .before .before .before .args in
+    let rest = drop (args .at + 6) (args .s .now) in
+    omega (arith, c .line-length .ensures, line-within rest, length-drop (args .at + 6) (args .s .now))
+
+returns-3 : tie.Need-returns-3
+returns-3 c =
+    let args = c .before .before .before .before .before .args in
+    let rest = drop (args .at + 6) (args .s .now) in
+    let n = c .before .line-length .result in
+    let z : args .at + 6 + n - (args .at + 6) ≡ n = omega arith in
+    rw z (ap (λ (k : ℕ). take k rest) (c .before .line-length .ensures) ∙ take-line rest)
+
+pub rule-at-spec : {M : Type 1} → statement M
+rule-at-spec =
+    tie.close
+    (tie.spec
+    (λ c. search needs)
+    returns
+    (λ c. search needs)
+    (λ c. search needs)
+    returns-2
+    (λ c. search needs)
+    (λ c κs. omega arith)
+    (λ c. omega (arith, inside c))
+    (λ c. search needs)
+    (λ c. search needs)
+    (λ c. omega (arith, inside c))
+    returns-3)

@@ -1,0 +1,9 @@
+-- Which part of a card is the rule text. Definitions only.
+use mathlib.Core.List.{List}
+use Prim.Native.Nat.{ℕ, _+_}
+use Rattle.cards.specs.Lines.{lineFrom}
+
+-- What stands after the six bytes `watch=` at a place, up to the line's end (document 01, "towerwatch": "`watch=` rule
+-- text", "Lines end in byte 10").
+abbrev pub ruleFrom : List ℕ → ℕ → List ℕ
+ruleFrom s at = lineFrom s (at + 6)
