@@ -8,7 +8,8 @@ ghost use lib.ListN.{length, drop};
 ghost use Rattle.cards.specs.Numbers.{isDigit, hasPrefix, NumberAt, valuesOf, parametersOf, countOf};
 ghost use Rattle.cards.specs.Ticks.{hexOf, tickLine, tickFirst};
 ghost use Rattle.cards.specs.Lines.{lineFrom};
-ghost use Rattle.cards.specs.Says.{editionOf, saysBy, brokenBy, lineSays, endSays, stageAt, stageAfter, isOver, first};
+ghost use Rattle.cards.specs.Says.{editionOf, saysBy, brokenBy, lineSays, endSays, stageAt, stageAfter, isOver};
+ghost use Rattle.cards.specs.Says.{first};
 
 // The number at a place of a line, and the place after it.
 pub enum Number {

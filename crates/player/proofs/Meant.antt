@@ -47,7 +47,8 @@ use Rattle.cards.specs.declared.Count.the-variants as K
 use Rattle.cards.specs.declared.Phase.the-variants as P
 use Rattle.cards.specs.declared.Stage.{Stage}
 use Rattle.cards.proofs.Sized.{parameters-low, parameters-short, count-short}
-use Rattle.player.specs.Card.{World, worldOf, watchOf, Effect, effectOf, tickOf, stepOf, ruleMade, played, lined}
+use Rattle.player.specs.Card.{World, worldOf, watchOf, Effect, effectOf, tickOf, stepOf, ruleMade, played}
+use Rattle.player.specs.Card.{lined}
 use Rattle.player.specs.Card.{outputBytes, owed, prints, start, printed}
 use Rattle.player.specs.Meant.{TickLines, Fine, verdictLines}
 use Rattle.player.specs.Meant.TickLines.{none as no-lines, more as more-lines}
