@@ -123,7 +123,8 @@ render-more e f j h = rw (add-one j, take-suc f j 0 h, render-append, append-nil
 
 pub form-more : (f : List ℕ) (e : Equation) (x q : ℕ) {b m p : List ℕ} {r j k : ℕ}
     → Placed (pieceRoom * j) (render e (take j f)) b m r → j < length f → x ≡ getD f j 0 → q ≡ min r (length m)
-    → Placed pieceRoom (piece e x) (lent m q) p k → Placed (pieceRoom * (j + 1)) (render e (take (j + 1) f)) b (back m q p) (r + k)
+    → Placed pieceRoom (piece e x) (lent m q) p k
+    → Placed (pieceRoom * (j + 1)) (render e (take (j + 1) f)) b (back m q p) (r + k)
 form-more f e x q {b} {m} {p} {r} {j} {k} w h ex eq v =
     let n : pieceRoom * j + pieceRoom ≡ pieceRoom * (j + 1) = omega arith in
     rw (render-more e f j h, ← ex, ← n) (joined q w eq v)

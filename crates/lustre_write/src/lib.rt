@@ -73,7 +73,8 @@ fn write_piece(e: Numbers, x: u8, out: &mut [u8]) -> usize
 // The text of a form.
 fn write_form(form: &[u8], e: Numbers, out: &mut [u8]) -> usize
     requires { ⌜ length (now form) ≤ formWidth ⌝ }
-    ensures { λ r. ⌜ Placed formRoom (render (equationOf e) (now (form .entry))) (now (out .entry)) (now (out .exit)) r ⌝ }
+    ensures { λ r. ⌜ Placed formRoom (render (equationOf e) (now (form .entry)))
+        (now (out .entry)) (now (out .exit)) r ⌝ }
 {
     let mut at = 0;
     let mut j = 0;
