@@ -1,5 +1,6 @@
--- P1 to P13, by computation: the interval meaning gives the verdicts of each row, and so do the answers of its
--- observer, over the five ticks from the fresh state. What Theorem asks of a formula holds of each. Assumes nothing.
+-- P1 to P13, by computation: the answers of each row's observer, over the five ticks from the fresh state, are the
+-- verdicts, which are the interval meaning's (formulas, proofs/Trials.antt). What Theorem asks of a formula holds of each.
+-- Assumes nothing.
 use mathlib.Core.Bool.{Bool, true, _&&_}
 use mathlib.Core.Path.{_≡_, refl}
 use mathlib.Core.List.{map}
@@ -10,6 +11,7 @@ use Rattle.formulas.specs.Tree.{leads}
 use Rattle.formulas.specs.Bounds.{bounded}
 use Rattle.formulas.specs.Arena.{flat}
 use Rattle.formulas.specs.Raw.{raw}
+use Rattle.formulas.specs.Trials.{Trial, trials}
 use Rattle.tables.specs.Table.{all, kindOf, shapeOf, sameSort, isFlow, operandFits, shapeFits, lengthFits}
 use Rattle.tables.specs.Table.{equationsFit}
 use Rattle.limits.specs.Limits.{standardCap}
@@ -18,10 +20,7 @@ use Rattle.tables.specs.Table.{isMemory}
 use Rattle.flows.specs.Step.{parameterFits, cellFits, freshChecked, stepChecked, freshened, afterTick, stepped}
 use Rattle.flows.specs.Run.{answers}
 use Rattle.flows.specs.declared.Stepped.the-variants.{Verdict}
-use Rattle.agreement.specs.Trials.{Trial, trials, meant, ran}
-
-pub trials-meant : map meant trials ≡ map (λ (r : Trial). r .verdicts) trials
-trials-meant = refl
+use Rattle.agreement.specs.Trials.{ran}
 
 pub trials-ran : map ran trials ≡ map (λ (r : Trial). map Verdict (r .verdicts)) trials
 unfolding all kindOf shapeOf sameSort isFlow operandFits shapeFits lengthFits equationsFit

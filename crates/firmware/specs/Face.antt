@@ -5,11 +5,11 @@ use Prim.Native.Nat.{ℕ, _≤_}
 use Rattle.traces.specs.declared.Tick.{Tick}
 use Rattle.tables.specs.Reply.{Reply}
 use Rattle.flows.specs.Step.{After, AfterFresh, freshened, stepped, freshReply, stepReply}
-use Rattle.rules.specs.declared.Answer as rules
+use Rattle.rules.specs.declared.Read as rules
 use Rattle.rules.specs.declared.Same.{Same}
-use Rattle.rules.specs.Answer as read
+use Rattle.rules.specs.Contract as read
 use Rattle.rules.specs.Same as same
-use Rattle.rules.specs.Same.{Compared}
+use Rattle.rules.specs.Same.{SameAnswer}
 use Rattle.rules.specs.Reading.{ruleOf}
 use Rattle.observers.specs.declared.Compiled.{Compiled}
 use Rattle.observers.specs.declared.Compiled.the-variants.{Equations, Refused}
@@ -54,7 +54,7 @@ abbrev pub tick : After → LeftValues
 tick x = leftValues (answer (stepReply (x .answer))) (x .state) (x .values)
 
 -- The answers of reading, compiling and comparing rules, by the definitions that give document 01's numbers.
-abbrev pub readAnswer : rules.Answer → Answer
+abbrev pub readAnswer : rules.Read → Answer
 readAnswer x = record { refusal = read.refusalOf x; result = read.resultOf x }
 
 abbrev pub compiledAnswer : Compiled → Answer
@@ -69,7 +69,7 @@ sameAnswer x = record { refusal = same.refusalOf x; result = same.resultOf x }
 -- The answer of the comparison that document 01 has for the two texts.
 pub record SameTold (first second : List ℕ) (r : Answer) : Type 0 where
   pub told : Same
-  pub compared : Compared (ruleOf first) (ruleOf second) told
+  pub compared : SameAnswer (ruleOf first) (ruleOf second) told
   pub answer : r ≡ sameAnswer told
 
 -- A number of equations that C's answer has room for.

@@ -10,7 +10,7 @@ ghost use mathlib.Core.Path.{_≡_};
 ghost use Rattle.limits.specs.Limits.{standardCap};
 ghost use Rattle.flows.specs.Step.{freshened, stepped, freshReply, stepReply};
 ghost use Rattle.rules.specs.Reading.{ruleOf};
-ghost use Rattle.rules.specs.Answer.{answerOf};
+ghost use Rattle.rules.specs.Contract.{answerOf};
 ghost use Rattle.observers.specs.Compile.{compiled};
 ghost use Rattle.firmware.specs.Face.{answer, tickOf, left, fresh, leftValues, tick};
 ghost use Rattle.lustre.specs.Write.{writeEffect};
@@ -91,15 +91,15 @@ pub extern "C" fn towerwatch_step(
 }
 
 // The answer of reading a rule.
-fn read_answer(a: rules::Answer) -> Answer
+fn read_answer(a: rules::Read) -> Answer
     ensures { λ r. ⌜ r ≡ readAnswer a ⌝ }
 {
     match a {
-        rules::Answer::Rule(nodes) => Answer {
+        rules::Read::Rule(nodes) => Answer {
             refusal: 0,
             result: nodes,
         },
-        rules::Answer::Refused(number) => Answer {
+        rules::Read::Refused(number) => Answer {
             refusal: number,
             result: 0,
         },

@@ -6,7 +6,7 @@ use borrow.Author.Needs.{needs}
 use lib.ListN.{length, take}
 use lib.Seq.{length-take-le}
 use Rattle.rules.specs.Reading.{ruleOf}
-use Rattle.rules.proofs.Sameness.{Front, front-of, refused-as}
+use Rattle.rules.proofs.Laid.{Front, front-of, refused-as}
 use Rattle.observers.specs.Demand.Compiles.{not-read, no-room}
 use Rattle.observers.proofs.Demand.{refused-compiled, short-compiled, emitted-rule}
 use Rattle.observers.proofs.compile_rule.Statement.{statement}
