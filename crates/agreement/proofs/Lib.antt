@@ -1,5 +1,5 @@
--- Every observer agrees with the interval meaning of its formula (Theorem): its flows tick by tick, and its answers over
--- lists of calls.
+-- Every observer agrees with the interval meaning of its formula (Theorem): its flows tick by tick, and its answers
+-- over lists of calls.
 pub mod Verdicts
 pub mod Calls
 pub mod Answers

@@ -1,6 +1,6 @@
 -- P1 to P13, by computation: the answers of each row's observer, over the five ticks from the fresh state, are the
--- verdicts, which are the interval meaning's (formulas, proofs/Trials.antt). What Theorem asks of a formula holds of each.
--- Assumes nothing.
+-- verdicts, which are the interval meaning's (formulas, proofs/Trials.antt). What Theorem asks of a formula holds of
+-- each. Assumes nothing.
 use mathlib.Core.Bool.{Bool, true, _&&_}
 use mathlib.Core.Path.{_≡_, refl}
 use mathlib.Core.List.{map}

@@ -1,4 +1,5 @@
-// Trees of rule texts, formulas and their interval meaning: definitions and laws, and the numbers that trees are written with.
+// Trees of rule texts, formulas and their interval meaning: definitions and laws, and the numbers that trees are
+// written with.
 
 // The kinds of records that a tree is written as (specs/Arena.antt).
 pub const CONSTANT: u32 = 0;

@@ -19,14 +19,14 @@ use Rattle.formulas.specs.Raw.{raw}
 use Rattle.formulas.proofs.Formulas.{formula-raw}
 use Rattle.grammar.proofs.Theorems.{rule-numbers, rule-size}
 use Rattle.tables.specs.Table.{Equation}
-use Rattle.limits.specs.Limits.{standardCap}
+use Rattle.limits.specs.Limits.{arenaLimit, literalCount, standardCap, tableRoom}
 use Rattle.scheme.specs.Emit.{observer, numbersOf}
 use Rattle.agreement.specs.Agreement.{Observes}
 use Rattle.agreement.proofs.Theorem.{observes}
 use Rattle.emitter.specs.Contract.{Emitted}
 use Rattle.scheme.proofs.Sizes.{observer-size}
 use Rattle.emitter.proofs.Size.{observer-front}
-use Rattle.emitter.proofs.Written.{numbers-length}
+use Rattle.scheme.proofs.Places.{length-numbers}
 use Rattle.rules.specs.Reading.{Outcome, ruleOf}
 use Rattle.rules.specs.Reading.Outcome.{refused, rule}
 use Rattle.rules.specs.Admitted.{Admitted}
@@ -43,8 +43,8 @@ pub record Known (t : Tree) : Type 0 where
   pub is : formulaOf t ≡ some formula
   pub tree : t ≡ raw formula
   pub led : leads t ≡ true
-  pub bound : bounded 1000000 t ≡ true
-  pub small : length (flat t) ≤ 1920
+  pub bound : bounded literalCount t ≡ true
+  pub small : length (flat t) ≤ arenaLimit
 
 pub known : (text : List ℕ) (t : Tree) → ruleOf text ≡ rule t → Known t
 known text t e =
@@ -64,11 +64,11 @@ module _ {t : Tree} (k : Known t) where
   led-raw : leads (raw (k .formula)) ≡ true
   led-raw = subst (λ (u : Tree). leads u ≡ true) (k .tree) (k .led)
 
-  bound-raw : bounded 1000000 (raw (k .formula)) ≡ true
-  bound-raw = subst (λ (u : Tree). bounded 1000000 u ≡ true) (k .tree) (k .bound)
+  bound-raw : bounded literalCount (raw (k .formula)) ≡ true
+  bound-raw = subst (λ (u : Tree). bounded literalCount u ≡ true) (k .tree) (k .bound)
 
-  pub small-raw : length (flat (raw (k .formula))) ≤ 1920
-  small-raw = subst (λ (u : Tree). length (flat u) ≤ 1920) (k .tree) (k .small)
+  pub small-raw : length (flat (raw (k .formula))) ≤ arenaLimit
+  small-raw = subst (λ (u : Tree). length (flat u) ≤ arenaLimit) (k .tree) (k .small)
 
   -- Whatever stands after them, the observer's equations observe the formula.
   pub observes-rule : (junk : List ℕ)
@@ -88,14 +88,14 @@ module _ (text before : List ℕ) where
 
   module _ (t : Tree) (e : ruleOf text ≡ rule t) where
     -- Too short a table.
-    pub short-compiled : length before < 16384 → afterCompile (Refused 9) before ≡ compiled text before
+    pub short-compiled : length before < tableRoom → afterCompile (Refused 9) before ≡ compiled text before
     unfolding compiled
     short-compiled h =
         sym (ap (λ (o : Outcome). ofOutcome o before) e
         ∙ ap (λ (b : Bool). cond b (afterCompile (Refused 9) before) (stored (observerOf (formulaOf t)) before)) (lt-ltb _ _ h))
 
     -- Long enough a table, with the observer es of the formula f at its front.
-    module _ (f : Formula) (is : formulaOf t ≡ some f) (room : 16384 ≤ length before) where
+    module _ (f : Formula) (is : formulaOf t ≡ some f) (room : tableRoom ≤ length before) where
       pub room-compiled : (es : List Equation) → observer f ≡ es → stored es before ≡ compiled text before
       unfolding compiled
       room-compiled es same =
@@ -111,11 +111,11 @@ module _ (text before : List ℕ) where
           observed {n = length es} {after = sets before 0 (numbersOf es)} {t = t} {f = f} e is room
           (length-sets before 0 (numbersOf es))
           (ap (drop (4 * length es)) front
-          ∙ drop-at (numbersOf es) (drop (4 * length es) before) (4 * length es) (numbers-length es))
+          ∙ drop-at (numbersOf es) (drop (4 * length es) before) (4 * length es) (length-numbers es))
           (subst (λ (l : List ℕ). Observes standardCap l (length es) f (nodes t)) (sym front) h)
 
 -- What the pass over the tree's records left is what compiling is to leave.
-pub emitted-rule : (text before : List ℕ) (t : Tree) → ruleOf text ≡ rule t → 16384 ≤ length before
+pub emitted-rule : (text before : List ℕ) (t : Tree) → ruleOf text ≡ rule t → tableRoom ≤ length before
     → (arena : List ℕ) (r : ℕ) (after : List ℕ) → arena ≡ flat t → Emitted arena before after r
     → (afterCompile (Equations r) after ≡ compiled text before) × Compiles text before (Equations r) after
 emitted-rule text before t e room arena r after same h =

@@ -1,5 +1,5 @@
-// Equation tables: the kinds of equations by their numbers, and the check of a table, refusals 10 and 11. What they mean
-// is in specs/.
+// Equation tables: the kinds of equations by their numbers, and the check of a table, refusals 10 and 11. What they
+// mean is in specs/.
 ghost use mathlib.Core.Path.{_≡_};
 ghost use mathlib.Core.Bool.{_&&_};
 ghost use Prim.Native.Nat.{_*_, _≤_, _<_};

@@ -13,7 +13,8 @@ enum-known-c c = search needs
 
 cast-t5 : tie.Need-cast-t5
 cast-t5 c =
-    let few : c .before .c .given .0 .0 ≤ 4096 = subst small (c .before .c .given .1) (c .before .before .before .pre) in
+    let answered = c .before .c .given in
+    let few : answered .0 .0 ≤ 4096 = subst small (answered .1) (c .before .before .before .pre) in
     omega (arith, few)
 
 enum-known-c-2 : tie.Need-enum-known-c-2

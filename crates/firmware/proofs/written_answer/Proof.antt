@@ -12,7 +12,8 @@ enum-known-w c = search needs
 
 cast-t5 : tie.Need-cast-t5
 cast-t5 c =
-    let fits : c .before .w .given .0 .0 ≤ 409700 = subst short (c .before .w .given .1) (c .before .before .before .pre) in
+    let answered = c .before .w .given in
+    let fits : answered .0 .0 ≤ 409700 = subst short (answered .1) (c .before .before .before .pre) in
     omega (arith, fits)
 
 enum-known-w-2 : tie.Need-enum-known-w-2

@@ -17,7 +17,8 @@ returns : tie.Need-returns
 unfolding freshened
 returns c =
     let passed = c .before .before .before .before in
-    rw (← passed .before .before .check-fresh .ensures, passed .enum-told .given .1) (ap (afterFresh Made) (c .before .before .reset .ensures))
+    rw (← passed .before .before .check-fresh .ensures, passed .enum-told .given .1)
+    (ap (afterFresh Made) (c .before .before .reset .ensures))
 
 returns-2 : tie.Need-returns-2
 unfolding freshened

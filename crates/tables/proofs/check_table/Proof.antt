@@ -45,14 +45,16 @@ returns-5 c =
     let tested = c .before .before .before .before in
     let fit = tested .equations-fit in
     let fits = sym (fit .ensures) ∙ not-false (fit .result) (c .before .before .before .if4 .left) in
-    sym (decide tested true false fits (boolean-or-count _ ∙ ap not (sym (c .before .is-count .ensures) ∙ c .if5 .taken)))
+    let counts = sym (c .before .is-count .ensures) ∙ c .if5 .taken in
+    sym (decide tested true false fits (boolean-or-count _ ∙ ap not counts))
 
 returns-6 : tie.Need-returns-6
 returns-6 c =
     let tested = c .before .before .before .before in
     let fit = tested .equations-fit in
     let fits = sym (fit .ensures) ∙ not-false (fit .result) (c .before .before .before .if4 .left) in
-    sym (decide tested true true fits (boolean-or-count _ ∙ ap not (sym (c .before .is-count .ensures) ∙ c .if5 .left)))
+    let counts = sym (c .before .is-count .ensures) ∙ c .if5 .left in
+    sym (decide tested true true fits (boolean-or-count _ ∙ ap not counts))
 
 pub check-table-spec : {M : Type 1} → statement M
 check-table-spec =

@@ -159,7 +159,8 @@ module _ (t : ℕ) where
   returns-3 : Here lts.Need-returns-3
   returns-3 c =
       let here = c .before .before in
-      Chains.done (chain-D (begun here .args .inside)) (parts here) (λ e. c .if1 .left (c .before .number-at .ensures ∙ e))
+      Chains.done (chain-D (begun here .args .inside)) (parts here)
+      (λ e. c .if1 .left (c .before .number-at .ensures ∙ e))
 
   -- So the member meets its contract, if the calls with lower measures do.
   pub met : {M : Type 1} → lts.Closed (calls-parse-d t) (parse-d-at t) reads.Post M

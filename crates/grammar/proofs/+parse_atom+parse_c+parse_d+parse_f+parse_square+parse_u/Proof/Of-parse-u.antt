@@ -296,7 +296,8 @@ module _ (t : ℕ) where
       let signal = at-signal (exists-call tree) in
       let here = at-exists signal in
       Steps.U-exists (here .before .if4 .left) (exists-word here) (signal-word signal) (exists-tree tree)
-      (signal .before .before .number-at3 .ensures) (c .before .before .before .push2 .ensures) (c .exists-facts .ensures)
+      (signal .before .before .number-at3 .ensures) (c .before .before .before .push2 .ensures)
+      (c .exists-facts .ensures)
 
   -- or an atom.
   parse-atom-requires : Here lts.Need-parse-atom-requires
