@@ -10,7 +10,8 @@ use lib.Dec.{eqb}
 use lib.ListN.{length, getD, take, drop, length-take, drop-of-length-le}
 use lib.Seq.{drop-cons, take-length}
 use borrow.Author.Tests.{ne-eqb}
-use Rattle.cards.specs.Lines.{lineEnd, line, Cut, cutAs, withLine, pushOn, cut}
+use Rattle.lists.specs.Line.{lineEnd, line}
+use Rattle.cards.specs.Lines.{Cut, cutAs, withLine, pushOn, cut}
 
 pub append-nil : (l : List ℕ) → l ++ [] ≡ l
 append-nil [] = refl
@@ -58,20 +59,6 @@ pub first-long : (s more : List ℕ) → LongFirst s more
 unfolding line
 first-long [] more = omega arith
 first-long (b ∷ s) more = first-split b s more (eqb b lineEnd) refl (first-long s more)
-
--- The line from a place on: at a line end, at the end of the bytes, at any other byte.
-module _ (s : List ℕ) (i : ℕ) where
-  pub line-stop : i < length s → getD s i 0 ≡ lineEnd → line (drop i s) ≡ []
-  unfolding line
-  line-stop h e = rw (drop-cons s i 0, e)
-
-  pub line-past : length s ≤ i → line (drop i s) ≡ []
-  unfolding line
-  line-past h = rw (drop-of-length-le s h)
-
-  pub line-more : i < length s → (getD s i 0 ≡ lineEnd → ⊥) → line (drop i s) ≡ getD s i 0 ∷ line (drop (i + 1) s)
-  unfolding line
-  line-more h n = rw (drop-cons s i 0, ne-eqb _ _ n, add-one i)
 
 -- The line is the front of the bytes.
 take-line-split : (b : ℕ) (s : List ℕ) (t : Bool) → eqb b lineEnd ≡ t → take (length (line s)) s ≡ line s

@@ -5,67 +5,23 @@ use mathlib.Core.List.{List, [], _∷_, _++_}
 use Prim.Native.Nat.{ℕ, zero, suc, _+_, _-_, _*_, _≤_, _<_}
 use native.Mathlib.Omega.{arith}
 use native.Mathlib.Numerals.{add-one}
-use lib.Dec.{ltb, leb, eqb}
+use lib.Dec.{eqb}
 use lib.ListN.{length, getD, set, take, drop, length-set, drop-of-length-le}
 use lib.Seq.{drop-cons, take-suc-set, set-split}
-use borrow.Author.Tests.{eq-eqb, ne-eqb, le-leb, lt-leb, ltb-false, leb-true}
+use borrow.Author.Tests.{eq-eqb, ne-eqb}
 use Rattle.limits.specs.Limits.{literalCount}
 use Rattle.lists.specs.Text.{bytes}
-use Rattle.cards.specs.Numbers.{readTo, NumberAt, isDigit, digits, number, hasPrefix, beforeComma}
+use Rattle.lists.specs.Decimal.{DecimalAt}
+use Rattle.lists.specs.declared.Decimal.{Decimal}
+use Rattle.lists.specs.declared.Decimal.the-variants as D
+use Rattle.lists.proofs.Decimals.{is-of, is-next, above-of, missing-of}
+use Rattle.cards.specs.Numbers.{parsed, readTo, NumberAt, number, hasPrefix, beforeComma}
 use Rattle.cards.specs.Numbers.{atEnd, numbers, Listed, wholly, parametersOf}
 use Rattle.cards.specs.Numbers.Parsed.{done, none}
 use Rattle.cards.specs.Numbers.Listed.{are, broken}
 use Rattle.cards.specs.declared.Number.{Number}
 use Rattle.cards.specs.declared.Number.the-variants as N
 use Rattle.cards.specs.declared.Count.the-variants as K
-
--- The digits from place i on, v being the number so far: at the end, at another byte, at a digit.
-module _ (s : List ℕ) (i v : ℕ) where
-  pub digits-end : length s ≤ i → digits v (drop i s) ≡ done v (drop i s)
-  unfolding digits
-  digits-end h = rw (drop-of-length-le s h)
-
-  pub digits-stop : i < length s → isDigit (getD s i 0) ≡ false → digits v (drop i s) ≡ done v (drop i s)
-  unfolding digits
-  digits-stop h e = rw (drop-cons s i 0, e)
-
-  pub digits-over : i < length s → isDigit (getD s i 0) ≡ true → literalCount ≤ v * 10 + (getD s i 0 - 48)
-      → digits v (drop i s) ≡ none
-  unfolding digits
-  digits-over h e o = rw (drop-cons s i 0, e, le-leb _ _ o)
-
-  pub digits-more : i < length s → isDigit (getD s i 0) ≡ true → v * 10 + (getD s i 0 - 48) < literalCount
-      → digits v (drop i s) ≡ digits (v * 10 + (getD s i 0 - 48)) (drop (i + 1) s)
-  unfolding digits
-  digits-more h e o = rw (drop-cons s i 0, e, lt-leb _ _ o, add-one i)
-
--- The number at a place: none at the end, 0 at a 0, none at a byte that is no digit, else its digits.
-module _ (s : List ℕ) (at : ℕ) where
-  pub number-end : length s ≤ at → number (drop at s) ≡ none
-  unfolding number
-  number-end h = rw (drop-of-length-le s h)
-
-  pub number-zero : at < length s → getD s at 0 ≡ 48 → number (drop at s) ≡ done 0 (drop (at + 1) s)
-  unfolding number
-  number-zero h e = rw (drop-cons s at 0, e, add-one at)
-
-  pub number-none : at < length s → (getD s at 0 ≡ 48 → ⊥) → isDigit (getD s at 0) ≡ false → number (drop at s) ≡ none
-  unfolding number
-  number-none h n e = rw (drop-cons s at 0, ne-eqb _ _ n, e)
-
-  pub number-digits : at < length s → (getD s at 0 ≡ 48 → ⊥) → isDigit (getD s at 0) ≡ true
-      → number (drop at s) ≡ digits (getD s at 0 - 48) (drop (at + 1) s)
-  unfolding number
-  number-digits h n e = rw (drop-cons s at 0, ne-eqb _ _ n, e, add-one at)
-
-both-parts : (t u : Bool) → cond t false u ≡ true → (t ≡ false) × (u ≡ true)
-both-parts true u e = absurd (let z : _≡_ {A = ℕ} 0 1 = cc in omega arith)
-both-parts false u e = (refl, e)
-
--- A digit is a byte from 48 to 57
-pub digit-range : (b : ℕ) → isDigit b ≡ true → (48 ≤ b) × (b ≤ 57)
-unfolding isDigit
-digit-range b e = let r = both-parts (ltb b 48) (leb b 57) e in (ltb-false _ _ (r .0), leb-true _ _ (r .1))
 
 -- After a number that ends before place n: the end of the line, a comma, or another byte.
 module _ (s : List ℕ) (n v : ℕ) where
@@ -100,22 +56,23 @@ module _ (s : List ℕ) (n v : ℕ) where
 
 -- Whether s begins with w, from place k on.
 module _ (w s : List ℕ) (k : ℕ) where
-  pub hasPrefix-all : length w ≤ k → hasPrefix (drop k w) (drop k s) ≡ true
+  pub prefix-all : length w ≤ k → hasPrefix (drop k w) (drop k s) ≡ true
   unfolding hasPrefix
-  hasPrefix-all h = rw (drop-of-length-le w h)
+  prefix-all h = rw (drop-of-length-le w h)
 
-  pub hasPrefix-short : k < length w → length s ≤ k → hasPrefix (drop k w) (drop k s) ≡ false
+  pub prefix-short : k < length w → length s ≤ k → hasPrefix (drop k w) (drop k s) ≡ false
   unfolding hasPrefix
-  hasPrefix-short h e = rw (drop-cons w k 0, drop-of-length-le s e)
+  prefix-short h e = rw (drop-cons w k 0, drop-of-length-le s e)
 
-  pub hasPrefix-miss : k < length w → k < length s → (getD s k 0 ≡ getD w k 0 → ⊥) → hasPrefix (drop k w) (drop k s) ≡ false
+  pub prefix-miss : k < length w → k < length s → (getD s k 0 ≡ getD w k 0 → ⊥)
+      → hasPrefix (drop k w) (drop k s) ≡ false
   unfolding hasPrefix
-  hasPrefix-miss h g e = rw (drop-cons w k 0, drop-cons s k 0, ne-eqb _ _ e)
+  prefix-miss h g e = rw (drop-cons w k 0, drop-cons s k 0, ne-eqb _ _ e)
 
-  pub hasPrefix-more : k < length w → k < length s → getD s k 0 ≡ getD w k 0
+  pub prefix-more : k < length w → k < length s → getD s k 0 ≡ getD w k 0
       → hasPrefix (drop k w) (drop k s) ≡ hasPrefix (drop (k + 1) w) (drop (k + 1) s)
   unfolding hasPrefix
-  hasPrefix-more h g e = rw (drop-cons w k 0, drop-cons s k 0, eq-eqb _ _ e, add-one k)
+  prefix-more h g e = rw (drop-cons w k 0, drop-cons s k 0, eq-eqb _ _ e, add-one k)
 
 true-then : (t : Bool) {u : Bool} → cond t u false ≡ true → u ≡ true
 true-then true e = e
@@ -135,59 +92,30 @@ pub record Matching (w s : List ℕ) (k : ℕ) : Type 0 where
 
 module _ {w s : List ℕ} {k : ℕ} (m : Matching w s k) where
   pub match-all : length w ≤ k → true ≡ hasPrefix w s
-  match-all h = sym (hasPrefix-all w s k h) ∙ m .rest
+  match-all h = sym (prefix-all w s k h) ∙ m .rest
 
   pub match-short : k < length w → length s ≤ k → false ≡ hasPrefix w s
-  match-short h g = sym (hasPrefix-short w s k h g) ∙ m .rest
+  match-short h g = sym (prefix-short w s k h g) ∙ m .rest
 
   pub match-miss : k < length w → k < length s → (getD s k 0 ≡ getD w k 0 → ⊥) → false ≡ hasPrefix w s
-  match-miss h g e = sym (hasPrefix-miss w s k h g e) ∙ m .rest
+  match-miss h g e = sym (prefix-miss w s k h g e) ∙ m .rest
 
   pub match-more : k < length w → k < length s → getD s k 0 ≡ getD w k 0 → Matching w s (k + 1)
-  match-more h g e = record { rest = sym (hasPrefix-more w s k h g e) ∙ m .rest; within = omega arith }
+  match-more h g e = record { rest = sym (prefix-more w s k h g e) ∙ m .rest; within = omega arith }
 
--- The loop of `number_at`: the digits from place i on, after those that made v, read as the number at `at` does.
-pub record Numbering (s : List ℕ) (at v i : ℕ) : Type 0 where
-  pub rest : digits v (drop i s) ≡ number (drop at s)
-  pub within : i ≤ length s
-  pub small : v < literalCount
+-- What the decimal reader answers.
+module _ {s : List ℕ} {at : ℕ} {r : Decimal} (h : DecimalAt s at (literalCount - 1) r) where
+  pub number-is : {v n : ℕ} → r ≡ D.Is v n → NumberAt (N.Is v n) s at
+  unfolding number
+  number-is e = record { means = sym (ap parsed (is-of h e)); within = is-next h e }
 
-module _ {s : List ℕ} {at : ℕ} where
-  pub reads-end : length s ≤ at → NumberAt N.Broken s at
-  reads-end h = record { means = sym (number-end s at h); within = omega arith }
+  pub number-above : {n : ℕ} → r ≡ D.Above n → NumberAt N.Broken s at
+  unfolding number
+  number-above e = record { means = sym (ap parsed (above-of h e)); within = omega arith }
 
-  module _ (h : at < length s) where
-    pub reads-zero : getD s at 0 ≡ 48 → NumberAt (N.Is 0 (at + 1)) s at
-    reads-zero e = record { means = sym (number-zero s at h e); within = omega arith }
-
-    module _ (n : getD s at 0 ≡ 48 → ⊥) where
-      pub reads-none : isDigit (getD s at 0) ≡ false → NumberAt N.Broken s at
-      reads-none e = record { means = sym (number-none s at h n e); within = omega arith }
-
-      pub number-begun : isDigit (getD s at 0) ≡ true → Numbering s at (getD s at 0 - 48) (at + 1)
-      number-begun e =
-          record {
-            rest = sym (number-digits s at h n e);
-            within = omega arith;
-            small = omega (arith, digit-range _ e);
-          }
-
-module _ {s : List ℕ} {at v i : ℕ} (k : Numbering s at v i) where
-  pub number-ended : length s ≤ i → NumberAt (N.Is v i) s at
-  number-ended h = record { means = sym (digits-end s i v h) ∙ k .rest; within = k .within }
-
-  module _ (h : i < length s) where
-    pub number-stopped : isDigit (getD s i 0) ≡ false → NumberAt (N.Is v i) s at
-    number-stopped e = record { means = sym (digits-stop s i v h e) ∙ k .rest; within = k .within }
-
-    module _ (e : isDigit (getD s i 0) ≡ true) where
-      pub number-over : literalCount ≤ v * 10 + (getD s i 0 - 48) → NumberAt N.Broken s at
-      number-over o = record { means = sym (digits-over s i v h e o) ∙ k .rest; within = omega arith }
-
-      pub number-more : v * 10 + (getD s i 0 - 48) < literalCount
-          → Numbering s at (v * 10 + (getD s i 0 - 48)) (i + 1)
-      number-more o =
-          record { rest = sym (digits-more s i v h e o) ∙ k .rest; within = omega arith; small = o }
+  pub number-missing : r ≡ D.Missing → NumberAt N.Broken s at
+  unfolding number
+  number-missing e = record { means = sym (ap parsed (missing-of h e)); within = omega arith }
 
 -- What the code's answer says of the definition
 module _ {r : Number} {s : List ℕ} {at : ℕ} (h : NumberAt r s at) where

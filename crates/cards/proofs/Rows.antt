@@ -3,7 +3,8 @@ use mathlib.Core.Path.{_≡_, refl}
 use mathlib.Core.Bool.{true, false}
 use mathlib.Core.List.{[], _∷_}
 use Rattle.lists.specs.Text.{bytes}
-use Rattle.cards.specs.Numbers.{isDigit, digits, number, hasPrefix, beforeComma, atEnd, numbers, parametersOf}
+use Rattle.lists.specs.Decimal.{isDigit, digitsAfter, numeral}
+use Rattle.cards.specs.Numbers.{number, hasPrefix, beforeComma, atEnd, numbers, parametersOf}
 use Rattle.cards.specs.Numbers.{wholly, countOf}
 use Rattle.cards.specs.Numbers.Listed.{are, broken}
 use Rattle.cards.specs.Ticks.{hexOf, hexes, tickLine}
@@ -22,36 +23,36 @@ no-edition = refl
 -- "`k=` eight numbers 0 to 999,999 with commas"
 eight : parametersOf (bytes "k=0,10,200,3000,40000,500000,6,999999")
     ≡ are (0 ∷ 10 ∷ 200 ∷ 3000 ∷ 40000 ∷ 500000 ∷ 6 ∷ 999999 ∷ [])
-unfolding parametersOf hasPrefix numbers beforeComma atEnd number digits isDigit
+unfolding parametersOf hasPrefix numbers beforeComma atEnd number numeral digitsAfter isDigit
 eight = refl
 
 seven : parametersOf (bytes "k=0,0,0,0,0,0,0") ≡ broken
-unfolding parametersOf hasPrefix numbers beforeComma atEnd number digits isDigit
+unfolding parametersOf hasPrefix numbers beforeComma atEnd number numeral digitsAfter isDigit
 seven = refl
 
 nine : parametersOf (bytes "k=0,0,0,0,0,0,0,0,0") ≡ broken
-unfolding parametersOf hasPrefix numbers beforeComma atEnd number digits isDigit
+unfolding parametersOf hasPrefix numbers beforeComma atEnd number numeral digitsAfter isDigit
 nine = refl
 
 too-large : parametersOf (bytes "k=0,0,0,0,0,0,0,1000000") ≡ broken
-unfolding parametersOf hasPrefix numbers beforeComma atEnd number digits isDigit
+unfolding parametersOf hasPrefix numbers beforeComma atEnd number numeral digitsAfter isDigit
 too-large = refl
 
 -- "`ticks=` 0 to 999,999", "decimal numbers have no needless 0"
 five : countOf (bytes "ticks=5") ≡ K.Is 5
-unfolding countOf hasPrefix wholly number digits isDigit
+unfolding countOf hasPrefix wholly number numeral digitsAfter isDigit
 five = refl
 
 no-ticks : countOf (bytes "ticks=0") ≡ K.Is 0
-unfolding countOf hasPrefix wholly number digits isDigit
+unfolding countOf hasPrefix wholly number numeral digitsAfter isDigit
 no-ticks = refl
 
 needless : countOf (bytes "ticks=05") ≡ K.Broken
-unfolding countOf hasPrefix wholly number digits isDigit
+unfolding countOf hasPrefix wholly number numeral digitsAfter isDigit
 needless = refl
 
 nothing : countOf (bytes "ticks=") ≡ K.Broken
-unfolding countOf hasPrefix wholly number digits isDigit
+unfolding countOf hasPrefix wholly number numeral digitsAfter isDigit
 nothing = refl
 
 -- "whose bit j is signal j": signal 0, signals 0 and 1, signal 63, signal 32

@@ -6,16 +6,19 @@ use Prim.Native.Nat.{ℕ, zero, suc, _+_, _-_, _*_, _≤_, _<_}
 use native.Mathlib.Omega.{arith}
 use lib.Dec.{leb, eqb}
 use lib.ListN.{length, getD, drop, length-drop}
-use borrow.Author.Tests.{leb-false, eqb-false}
+use borrow.Author.Tests.{leb-true, eqb-false}
 use Rattle.limits.specs.Limits.{literalCount, lineLimit}
 use Rattle.lists.specs.Text.{bytes}
-use Rattle.cards.specs.Numbers.{Parsed, isDigit, digits, number, hasPrefix, Listed, beforeComma, atEnd, numbers}
+use Rattle.lists.specs.Decimal.{Numeral, isDigit, settled, digitsAfter, numeral}
+use Rattle.lists.specs.Decimal.Numeral.{is, above, missing}
+use Rattle.lists.proofs.Choice.{chosen}
+use Rattle.lists.proofs.Decimals.{digit-range, is-bounded}
+use Rattle.cards.specs.Numbers.{Parsed, parsed, number, hasPrefix, Listed, beforeComma, atEnd, numbers}
 use Rattle.cards.specs.Numbers.{parametersOf, wholly, countOf}
 use Rattle.cards.specs.Numbers.Parsed.{done, none}
 use Rattle.cards.specs.Numbers.Listed.{are, broken}
 use Rattle.cards.specs.declared.Count.{Count}
 use Rattle.cards.specs.declared.Count.the-variants as K
-use Rattle.cards.proofs.Numbers.{digit-range}
 
 -- ---- how large
 
@@ -34,29 +37,14 @@ abbrev Small : Parsed → Type 0
 Small (done v r) = v < literalCount
 Small none = Unit {0}
 
-digit-small : (b v : ℕ) (l : List ℕ) (d o : Bool) → leb literalCount (v * 10 + (b - 48)) ≡ o → v < literalCount
-    → (v * 10 + (b - 48) < literalCount → Small (digits (v * 10 + (b - 48)) l))
-    → Small (cond d (cond o none (digits (v * 10 + (b - 48)) l)) (done v (b ∷ l)))
-digit-small b v l true true e h ih = tt
-digit-small b v l true false e h ih = ih (omega (arith, leb-false literalCount (v * 10 + (b - 48)) e))
-digit-small b v l false o e h ih = h
-
-digits-small : (l : List ℕ) (v : ℕ) → v < literalCount → Small (digits v l)
-unfolding digits
-digits-small [] v h = h
-digits-small (b ∷ l) v h =
-    digit-small b v l (isDigit b) (leb literalCount (v * 10 + (b - 48))) refl h (λ z. digits-small l (v * 10 + (b - 48)) z)
-
-first-small : (b : ℕ) (l : List ℕ) (z d : Bool) → isDigit b ≡ d
-    → Small (cond z (done 0 l) (cond d (digits (b - 48) l) none))
-first-small b l true d e = omega arith
-first-small b l false true e = digits-small l (b - 48) (omega (arith, digit-range b e))
-first-small b l false false e = tt
+parsed-small : (l : List ℕ) (n : Numeral) → numeral (literalCount - 1) l ≡ n → Small (parsed n)
+parsed-small l (is v r) e = omega (arith, is-bounded (literalCount - 1) l e)
+parsed-small l (above r) e = tt
+parsed-small l missing e = tt
 
 number-small : (l : List ℕ) → Small (number l)
 unfolding number
-number-small [] = tt
-number-small (b ∷ l) = first-small b l (eqb b 48) (isDigit b) refl
+number-small l = parsed-small l (numeral (literalCount - 1) l) refl
 
 -- So all numbers of a list that was read are.
 abbrev AllLow : Listed → Type 0
@@ -73,8 +61,8 @@ if-low : (b : Bool) (x : Listed) → AllLow x → AllLow (cond b x broken)
 if-low true x h = h
 if-low false x h = tt
 
-comma-low : (p : Parsed) (k : ℕ → List ℕ → Listed) → Small p → ((v : ℕ) (r : List ℕ) → v < literalCount → AllLow (k v r))
-    → AllLow (beforeComma p k)
+comma-low : (p : Parsed) (k : ℕ → List ℕ → Listed) → Small p
+    → ((v : ℕ) (r : List ℕ) → v < literalCount → AllLow (k v r)) → AllLow (beforeComma p k)
 unfolding beforeComma
 comma-low none k s h = tt
 comma-low (done v []) k s h = tt
@@ -120,9 +108,14 @@ abbrev Takes : ℕ → List ℕ → Parsed → Type 0
 Takes m l (done v r) = length l ≤ m + length r
 Takes m l none = Unit {0}
 
-one-more : (m b : ℕ) (l : List ℕ) (p : Parsed) → Takes m l p → Takes (suc m) (b ∷ l) p
-one-more m b l (done v r) h = omega arith
-one-more m b l none h = tt
+-- The same of what the definition of decimal numbers says.
+abbrev Spends : ℕ → List ℕ → Numeral → Type 0
+Spends m l n = Takes m l (parsed n)
+
+one-more : (m b : ℕ) (l : List ℕ) (n : Numeral) → Spends m l n → Spends (suc m) (b ∷ l) n
+one-more m b l (is v r) h = omega arith
+one-more m b l (above r) h = tt
+one-more m b l missing h = tt
 
 -- From this number on, k digits more are too many: they would make it 1,000,000 or more.
 abbrev least : ℕ → ℕ
@@ -143,36 +136,46 @@ least-step (suc (suc (suc (suc zero)))) = omega arith
 least-step (suc (suc (suc (suc (suc zero))))) = omega arith
 least-step (suc (suc (suc (suc (suc (suc k)))))) = omega arith
 
-digit-takes : (k b v : ℕ) (l : List ℕ) (d o : Bool) → leb literalCount (v * 10 + (b - 48)) ≡ o → least k ≤ v → v < literalCount
-    → ((m : ℕ) → least m ≤ v * 10 + (b - 48) → v * 10 + (b - 48) < literalCount → Takes m l (digits (v * 10 + (b - 48)) l))
-    → Takes k (b ∷ l) (cond d (cond o none (digits (v * 10 + (b - 48)) l)) (done v (b ∷ l)))
-digit-takes k b v l true true e h u ih = tt
-digit-takes zero b v l true false e h u ih = absurd (omega arith)
-digit-takes (suc k) b v l true false e h u ih =
-    one-more k b l (digits (v * 10 + (b - 48)) l)
-    (ih k (omega (arith, h, least-step k)) (omega (arith, leb-false literalCount (v * 10 + (b - 48)) e)))
-digit-takes k b v l false o e h u ih = omega arith
+-- The digits end here: the number is read, or it is too large.
+settled-spends : (m v : ℕ) (l r : List ℕ) → length l ≤ m + length r → Spends m l (settled (literalCount - 1) v r)
+settled-spends m v l r h = chosen (Spends m l) (leb v (literalCount - 1)) (λ _. h) (λ _. tt)
 
-digits-take : (l : List ℕ) (k v : ℕ) → least k ≤ v → v < literalCount → Takes k l (digits v l)
-unfolding digits
-digits-take [] k v h u = omega arith
-digits-take (b ∷ l) k v h u =
-    digit-takes k b v l (isDigit b) (leb literalCount (v * 10 + (b - 48))) refl h u
-    (λ m g w. digits-take l m (v * 10 + (b - 48)) g w)
+large-settled : (m v : ℕ) (l r : List ℕ) → literalCount ≤ v → Spends m l (settled (literalCount - 1) v r)
+large-settled m v l r h =
+    chosen (Spends m l) (leb v (literalCount - 1))
+    (λ e. absurd (omega (arith, leb-true v (literalCount - 1) e))) (λ _. tt)
 
-first-takes : (b : ℕ) (l : List ℕ) (z d : Bool) → eqb b 48 ≡ z → isDigit b ≡ d
-    → Takes 7 (b ∷ l) (cond z (done 0 l) (cond d (digits (b - 48) l) none))
-first-takes b l true d q e = omega arith
-first-takes b l false true q e =
-    let other = eqb-false b 48 q in
-    let range = digit-range b e in
-    one-more 6 b l (digits (b - 48) l) (digits-take l 6 (b - 48) (omega (arith, other, range)) (omega (arith, range)))
-first-takes b l false false q e = tt
+-- A number that is too large is none, whatever digits follow.
+large-spends : (r : List ℕ) (m v : ℕ) (l : List ℕ) → literalCount ≤ v → Spends m l (digitsAfter (literalCount - 1) v r)
+unfolding digitsAfter
+large-spends [] m v l h = large-settled m v l [] h
+large-spends (b ∷ r) m v l h =
+    chosen (Spends m l) (isDigit b) (λ _. large-spends r m (v * 10 + (b - 48)) l (omega arith))
+    (λ _. large-settled m v l (b ∷ r) h)
+
+digit-spends : (k b v : ℕ) (l : List ℕ) → least k ≤ v
+    → ((m : ℕ) → least m ≤ v * 10 + (b - 48) → Spends m l (digitsAfter (literalCount - 1) (v * 10 + (b - 48)) l))
+    → Spends k (b ∷ l) (digitsAfter (literalCount - 1) (v * 10 + (b - 48)) l)
+digit-spends zero b v l h ih = large-spends l zero (v * 10 + (b - 48)) (b ∷ l) (omega arith)
+digit-spends (suc k) b v l h ih =
+    one-more k b l (digitsAfter (literalCount - 1) (v * 10 + (b - 48)) l) (ih k (omega (arith, h, least-step k)))
+
+digits-spend : (l : List ℕ) (k v : ℕ) → least k ≤ v → Spends k l (digitsAfter (literalCount - 1) v l)
+unfolding digitsAfter
+digits-spend [] k v h = settled-spends k v [] [] (omega arith)
+digits-spend (b ∷ l) k v h =
+    chosen (Spends k (b ∷ l)) (isDigit b)
+    (λ _. digit-spends k b v l h (λ m g. digits-spend l m (v * 10 + (b - 48)) g))
+    (λ _. settled-spends k v (b ∷ l) (b ∷ l) (omega arith))
 
 number-takes : (l : List ℕ) → Takes 7 l (number l)
-unfolding number
+unfolding number numeral
 number-takes [] = tt
-number-takes (b ∷ l) = first-takes b l (eqb b 48) (isDigit b) refl refl
+number-takes (b ∷ l) =
+    chosen (Spends 7 (b ∷ l)) (eqb b 48) (λ _. omega arith)
+    (λ z. chosen (Spends 7 (b ∷ l)) (isDigit b)
+    (λ d. one-more 6 b l (digitsAfter (literalCount - 1) (b - 48) l)
+    (digits-spend l 6 (b - 48) (omega (arith, eqb-false b 48 z, digit-range b d)))) (λ _. tt))
 
 -- A list of numbers that was read has at most m bytes.
 abbrev Spans : ℕ → List ℕ → Listed → Type 0
@@ -218,7 +221,8 @@ unfolding parametersOf
 parameters-short l ps e =
     let rest = drop 2 l in
     let most : length rest ≤ 63 =
-    subst (Spans 63 rest) e (if-spans 63 rest (hasPrefix (bytes "k=") l) (numbers 7 [] rest) (numbers-span 7 [] rest)) in
+    subst (Spans 63 rest) e
+    (if-spans 63 rest (hasPrefix (bytes "k=") l) (numbers 7 [] rest) (numbers-span 7 [] rest)) in
     omega (arith, most, length-drop 2 l)
 
 abbrev Counts : ℕ → List ℕ → Count → Type 0

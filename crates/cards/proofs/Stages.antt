@@ -15,8 +15,7 @@ use Rattle.cards.specs.Numbers.Listed.{are, broken}
 use Rattle.cards.specs.Ticks.{tickLine}
 use Rattle.cards.specs.Lines.{overLong}
 use Rattle.cards.specs.Says.{Says, stageAt, isOver, brokenBy, editionOf, parametersSay, countSays, tickSays}
-use Rattle.cards.specs.Says.{saysIn}
-use Rattle.cards.specs.Says.{lineSays, stageAfter, endIn, endSays}
+use Rattle.cards.specs.Says.{saysIn, lineSays, stageAfter, endIn, endSays}
 use Rattle.cards.specs.Says.Says.{edition, parameters, rule, count, tick, refused, nothing}
 use Rattle.cards.specs.declared.Phase.{Phase}
 use Rattle.cards.specs.declared.Phase.the-variants as P

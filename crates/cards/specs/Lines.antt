@@ -1,26 +1,17 @@
--- Bytes cut into lines. Definitions only. The sentences quoted are document 01's, from "towerwatch".
+-- Over-long lines, and bytes cut into lines. Definitions only. The sentence quoted is document 01's, from
+-- "towerwatch".
 use mathlib.Core.Bool.{Bool, cond}
 use mathlib.Core.List.{List, [], _∷_}
 use Prim.Native.Nat.{ℕ}
 use lib.Dec.{eqb, leb}
-use lib.ListN.{length, drop}
+use lib.ListN.{length}
 use Rattle.limits.specs.Limits.{lineLimit}
+use Rattle.lists.specs.Line.{lineEnd}
 
--- "Lines end in byte 10"
-abbrev pub lineEnd : ℕ
-lineEnd = 10
-
--- "and have at most 4,096 bytes with it": a line that is given without it is over-long from so many bytes on.
+-- "Lines end in byte 10 and have at most 4,096 bytes with it": a line that is given without its byte 10 is over-long
+-- from so many bytes on.
 abbrev pub overLong : List ℕ → Bool
 overLong l = leb lineLimit (length l)
-
--- The bytes before the first line end; all of them, where there is none.
-unfoldable pub line : List ℕ → List ℕ
-line [] = []
-line (b ∷ s) = cond (eqb b lineEnd) [] (b ∷ line s)
-
-abbrev pub lineFrom : List ℕ → ℕ → List ℕ
-lineFrom s at = line (drop at s)
 
 -- The lines that end in byte 10, without it, and the bytes after the last of them.
 pub record Cut : Type 0 where

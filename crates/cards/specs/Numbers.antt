@@ -3,11 +3,13 @@
 use mathlib.Core.Bool.{Bool, true, false, cond}
 use mathlib.Core.List.{List, [], _∷_, _++_}
 use mathlib.Core.Path.{_≡_}
-use Prim.Native.Nat.{ℕ, zero, suc, _+_, _-_, _*_, _≤_}
-use lib.Dec.{ltb, leb, eqb}
+use Prim.Native.Nat.{ℕ, zero, suc, _-_, _≤_}
+use lib.Dec.{eqb}
 use lib.ListN.{length, drop}
 use Rattle.limits.specs.Limits.{literalCount, parameterCount}
 use Rattle.lists.specs.Text.{bytes}
+use Rattle.lists.specs.Decimal.{Numeral, numeral}
+use Rattle.lists.specs.Decimal.Numeral.{is, above, missing}
 use Rattle.cards.specs.declared.Number.{Number}
 use Rattle.cards.specs.declared.Number.the-variants as N
 use Rattle.cards.specs.declared.Parameters.{Parameters}
@@ -19,22 +21,14 @@ pub data Parsed : Type 0 where
   done : ℕ → List ℕ → Parsed
   none : Parsed
 
--- `0` to `9`
-unfoldable pub isDigit : ℕ → Bool
-isDigit b = cond (ltb b 48) false (leb b 57)
+abbrev pub parsed : Numeral → Parsed
+parsed (is v l) = done v l
+parsed (above l) = none
+parsed missing = none
 
--- The digits that are left, v being the number so far: "0 to 999,999".
-unfoldable pub digits : ℕ → List ℕ → Parsed
-digits v [] = done v []
-digits v (b ∷ l) =
-    cond (isDigit b)
-    (cond (leb literalCount (v * 10 + (b - 48))) none (digits (v * 10 + (b - 48)) l))
-    (done v (b ∷ l))
-
--- "decimal numbers have no needless 0": after a first digit 0 no digit is read.
+-- "0 to 999,999", and "decimal numbers have no needless 0".
 unfoldable pub number : List ℕ → Parsed
-number [] = none
-number (b ∷ l) = cond (eqb b 48) (done 0 l) (cond (isDigit b) (digits (b - 48) l) none)
+number l = parsed (numeral (literalCount - 1) l)
 
 -- Whether the second text begins with the first.
 unfoldable pub hasPrefix : List ℕ → List ℕ → Bool

@@ -1,6 +1,6 @@
--- What a line of a card says (`lineSays`), the line that comes next after it (`stageAfter`), and what the end of the input
--- says (`endSays`): the card as lines, with no table, no state and no step. A rule's own refusal and a step's are the
--- player's. Definitions only. The sentences quoted are document 01's, from "towerwatch".
+-- What a line of a card says (`lineSays`), the line that comes next after it (`stageAfter`), and what the end of the
+-- input says (`endSays`): the card as lines, with no table, no state and no step. A rule's own refusal and a step's are
+-- the player's. Definitions only. The sentences quoted are document 01's, from "towerwatch".
 use mathlib.Core.Bool.{Bool, true, false, cond}
 use mathlib.Core.List.{List}
 use Prim.Native.Nat.{ℕ, _-_}
@@ -32,7 +32,8 @@ pub data Says : Type 0 where
   refused : ℕ → Says
   nothing : Says
 
--- What the code's answer says: the parameters stand beside it, and the rule text is the part after `watch=` of the line l.
+-- What the code's answer says: the parameters stand beside it, and the rule text is the part after `watch=` of the
+-- line l.
 abbrev pub saysBy : Content → List ℕ → List ℕ → Says
 saysBy C.Edition ps l = edition
 saysBy C.Parameters ps l = parameters ps

@@ -1,15 +1,15 @@
-// Cards: what a line of a card says. A light machine over bytes: which line comes next, how many ticks are left, and for
-// each line what it says or its refusal. No table, no state and no step is in it; the definition is `lineSays` in
+// Cards: what a line of a card says. A light machine over bytes: which line comes next, how many ticks are left, and
+// for each line what it says or its refusal. No table, no state and no step is in it; the definition is `lineSays` in
 // specs/Says.antt. The sentences quoted are document 01's, from "towerwatch".
+use lists::Decimal;
 ghost use mathlib.Core.Path.{_≡_};
 ghost use mathlib.Core.List.{List};
-ghost use Prim.Native.Nat.{ℕ, _≤_};
-ghost use lib.ListN.{length, drop};
-ghost use Rattle.cards.specs.Numbers.{isDigit, hasPrefix, NumberAt, valuesOf, parametersOf, countOf};
+ghost use Prim.Native.Nat.{ℕ};
+ghost use lib.ListN.{drop};
+ghost use Rattle.cards.specs.Numbers.{hasPrefix, NumberAt, valuesOf, parametersOf, countOf};
 ghost use Rattle.cards.specs.Ticks.{hexOf, tickLine, tickFirst};
-ghost use Rattle.cards.specs.Lines.{lineFrom};
-ghost use Rattle.cards.specs.Says.{editionOf, saysBy, brokenBy, lineSays, endSays, stageAt, stageAfter, isOver};
-ghost use Rattle.cards.specs.Says.{first};
+ghost use Rattle.cards.specs.Says.{editionOf, saysBy, brokenBy, lineSays, endSays, stageAt, stageAfter, first};
+ghost use Rattle.cards.specs.Says.{isOver};
 
 // The number at a place of a line, and the place after it.
 pub enum Number {
@@ -69,15 +69,6 @@ pub struct Told {
     pub values: [u32; 8],
 }
 
-fn is_digit(b: u8) -> bool
-    ensures { λ r. ⌜ r ≡ isDigit b ⌝ }
-{
-    if b < b'0' {
-        return false;
-    }
-    b <= b'9'
-}
-
 // Whether s begins with the bytes w.
 fn has_prefix(s: &[u8], w: &[u8]) -> bool
     ensures { λ r. ⌜ r ≡ hasPrefix (now (w .entry)) (now (s .entry)) ⌝ }
@@ -95,37 +86,15 @@ fn has_prefix(s: &[u8], w: &[u8]) -> bool
     true
 }
 
-// The decimal number at a place: at most 999,999, and "decimal numbers have no needless 0".
+// The decimal number at a place: "0 to 999,999", and "decimal numbers have no needless 0".
 fn number_at(s: &[u8], at: usize) -> Number
     ensures { λ r. ⌜ NumberAt r (now (s .entry)) at ⌝ }
 {
-    if s.len() <= at {
-        return Number::Broken;
+    match lists::read_decimal(s, at, limits::LITERALS - 1) {
+        Decimal::Is { value, next } => Number::Is { value, next },
+        Decimal::Above { next } => Number::Broken,
+        Decimal::Missing => Number::Broken,
     }
-    let b = s[at];
-    if b == b'0' {
-        return Number::Is {
-            value: 0,
-            next: at + 1,
-        };
-    }
-    if !is_digit(b) {
-        return Number::Broken;
-    }
-    let mut v = (b - b'0') as u32;
-    let mut i = at + 1;
-    while i < s.len() {
-        let d = s[i];
-        if !is_digit(d) {
-            return Number::Is { value: v, next: i };
-        }
-        v = v * 10 + (d - b'0') as u32;
-        if limits::LITERALS <= v {
-            return Number::Broken;
-        }
-        i += 1;
-    }
-    Number::Is { value: v, next: i }
 }
 
 // "`k=` eight numbers 0 to 999,999 with commas"
@@ -266,10 +235,12 @@ fn edition_line(s: &[u8]) -> bool
 
 // The tick line at a place of s, where it is there with its byte 10.
 pub fn tick_at(s: &[u8], at: usize) -> TickLine
-    requires { ⌜ at ≤ length (now s) ⌝ }
     ensures { λ r. ⌜ r ≡ tickFirst (drop at (now (s .entry))) ⌝ }
 {
-    if s.len() - at <= 20 {
+    if s.len() <= 20 {
+        return TickLine::Broken;
+    }
+    if s.len() - 20 <= at {
         return TickLine::Broken;
     }
     let stop = at + 20;
@@ -277,21 +248,6 @@ pub fn tick_at(s: &[u8], at: usize) -> TickLine
         return TickLine::Broken;
     }
     tick_line(&s[at..stop])
-}
-
-// How many bytes of s from a place on stand before the first byte 10.
-pub fn line_length(s: &[u8], at: usize) -> usize
-    requires { ⌜ at ≤ length (now s) ⌝ }
-    ensures { λ r. ⌜ r ≡ length (lineFrom (now (s .entry)) at) ⌝ }
-{
-    let mut i = at;
-    while i < s.len() {
-        if s[i] == 10 {
-            return i - at;
-        }
-        i += 1;
-    }
-    i - at
 }
 
 // "A broken, missing or over-long line is 17 in the four first lines, 18 later"
@@ -425,10 +381,7 @@ pub fn end(stage: Stage, n: usize) -> Content
 pub fn first_stage() -> Stage
     ensures { λ r. ⌜ r ≡ first ⌝ }
 {
-    Stage {
-        phase: Phase::Edition,
-        left: 0,
-    }
+    stage_at(Phase::Edition, 0)
 }
 
 // Whether nothing more is said.

@@ -1,5 +1,6 @@
--- A card comes to its end: the lines that may still come grow fewer with each line (`rank` of the crate cards), and each has
--- at most 4,096 bytes, so the bytes that a piece brings are bounded by what the lines before it left. Assumes nothing.
+-- A card comes to its end: the lines that may still come grow fewer with each line (`rank` of the crate cards), and
+-- each has at most 4,096 bytes, so the bytes that a piece brings are bounded by what the lines before it left. Assumes
+-- nothing.
 use mathlib.Core.Path.{_≡_, refl, _∙_, sym, ap}
 use mathlib.Core.Bool.{Bool, true, false, false≢true}
 use mathlib.Core.List.{List, [], _∷_}

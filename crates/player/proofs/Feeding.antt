@@ -7,7 +7,7 @@ use native.Mathlib.Omega.{arith}
 use lib.ListN.{length, take, drop, length-append, length-drop, drop-of-length-le}
 use lib.Seq.{drop-drop, length-take-le, take-add, take-at, drop-at}
 use Rattle.limits.specs.Limits.{lineLimit}
-use Rattle.cards.specs.Lines.{line, lineFrom}
+use Rattle.lists.specs.Line.{line, lineFrom}
 use Rattle.cards.specs.Says.{brokenBy}
 use Rattle.cards.specs.declared.Phase.the-variants as P
 use Rattle.cards.proofs.Lines.{line-within, one-line}
@@ -153,7 +153,8 @@ module _ {w₀ w : World} {b out₀ out : List ℕ} {u at : ℕ} (k : Between w�
       left-past : leftOver b ≡ leftOver (drop (u + n + 1) b)
       left-past = k .left ∙ rw rest-after (left-line (drop u b) whole)
 
-      pays : length (outputBytes (t .output)) + debt (w .watch .stage .phase) ≤ n + 1 + debt (t .world .watch .stage .phase)
+      pays : length (outputBytes (t .output)) + debt (w .watch .stage .phase)
+          ≤ n + 1 + debt (t .world .watch .stage .phase)
       pays = rw (q, m) (lined-pays w (line (drop u b)) .paid)
 
       pub said-room : at + length (outputBytes (t .output)) ≤ length out
@@ -183,7 +184,9 @@ module _ {w₀ w : World} {b out₀ out : List ℕ} {u at : ℕ} (k : Between w�
       left-over h = left-short-over (record { one = one-line _ all-of-it; below = omega (arith, all-of-it, m) })
 
       -- and over-long else: t is what the code makes of it.
-      module _ (h : lineLimit ≤ n) (t : Answered) (q : t ≡ stopped (lastOutput (brokenBy (w .watch .stage .phase)))) where
+      module _
+          (h : lineLimit ≤ n) (t : Answered)
+          (q : t ≡ stopped (lastOutput (brokenBy (w .watch .stage .phase)))) where
         abbrev stoppedAt : World
         stoppedAt = worldOf (t .watch) (w .parameters) (w .table) (w .state) (w .values)
 
@@ -208,7 +211,8 @@ module _ {w₀ w : World} {b out₀ out : List ℕ} {u at : ℕ} (k : Between w�
         over-long e p =
             record {
               goes =
-                  goes-rest nothing-left (goes-out (put-takes out (outputBytes (t .output)) at e p last-room) goes-over);
+                  goes-rest nothing-left
+                  (goes-out (put-takes out (outputBytes (t .output)) at e p last-room) goes-over);
               world = world-over;
               left = nothing-left ∙ left-long (drop u b) (one-line _ all-of-it) long ∙ sym (k .left);
               used = line-inside;

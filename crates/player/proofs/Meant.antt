@@ -178,17 +178,19 @@ module _ (t c v : List ℕ) where
   edition-lined ps = refl
 
   parameters-lined : (old ps l : List ℕ) → length l < lineLimit → parametersOf l ≡ are ps
-      → lined (worldOf (watchOf (stageAt P.Parameters 0) 0) old t c v) l ≡ silent (worldOf (watchOf (stageAt P.Rule 0) 0) ps t c v)
+      → lined (worldOf (watchOf (stageAt P.Parameters 0) 0) old t c v) l
+      ≡ silent (worldOf (watchOf (stageAt P.Rule 0) 0) ps t c v)
   unfolding lined played lineSays
   parameters-lined old ps l h e = rw (lt-leb lineLimit (length l) h, e)
 
   count-lined : (ps l : List ℕ) (n k : ℕ) → length l < lineLimit → countOf l ≡ K.Is k
-      → lined (worldOf (watchOf (stageAt P.Count 0) n) ps t c v) l ≡ silent (worldOf (watchOf (stageAt P.Ticks k) n) ps t c v)
+      → lined (worldOf (watchOf (stageAt P.Count 0) n) ps t c v) l
+      ≡ silent (worldOf (watchOf (stageAt P.Ticks k) n) ps t c v)
   unfolding lined played lineSays
   count-lined ps l n k h e = rw (lt-leb lineLimit (length l) h, e)
 
-  rule-lined : (ps text t' : List ℕ) (n : ℕ) → length text ≤ textLimit → compiled text t ≡ afterCompile (C.Equations n) t'
-      → freshened t' n c .answer ≡ F.Made
+  rule-lined : (ps text t' : List ℕ) (n : ℕ) → length text ≤ textLimit
+      → compiled text t ≡ afterCompile (C.Equations n) t' → freshened t' n c .answer ≡ F.Made
       → lined (worldOf (watchOf (stageAt P.Rule 0) 0) ps t c v) (bytes "watch=" ++ text)
       ≡ silent (worldOf (watchOf (stageAt P.Count 0) n) ps t' (freshened t' n c .state) v)
   unfolding lined played lineSays ruleMade hasPrefix

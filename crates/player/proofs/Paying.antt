@@ -76,7 +76,8 @@ over-pays : (n : ℕ) (w : World) → Pays P.Over n (stop O.Quiet w)
 unfolding outputBytes
 over-pays n w = record { paid = omega arith }
 
-played-pays : (k : Stage) (p : Phase) (left n : ℕ) (s : Says) (w : World) → Follows p left n s → Pays p n (playedTo k s w)
+played-pays : (k : Stage) (p : Phase) (left n : ℕ) (s : Says) (w : World) → Follows p left n s
+    → Pays p n (playedTo k s w)
 played-pays k p left n edition w h = quiet-pays p n (ap isOver h) _
 played-pays k p left n (parameters ps) w h = quiet-pays p n (ap isOver h) _
 played-pays k p left n (rule text) w h =

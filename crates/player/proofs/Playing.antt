@@ -1,12 +1,12 @@
--- What a line does, from what it says (`played`): what the code's answers make of it, once a card is over, and over-long
--- lines. Assumes nothing.
+-- What a line does, from what it says (`played`): what the code's answers make of it, over-long lines, and lines once a
+-- card is over. Assumes nothing.
 use mathlib.Core.Path.{_≡_, refl, _∙_, sym, ap}
 use mathlib.Core.List.{List}
 use Prim.Native.Nat.{ℕ, _+_, _≤_}
 use lib.ListN.{length, drop}
 use lib.Seq.{drop-drop}
 use Rattle.limits.specs.Limits.{lineLimit}
-use Rattle.cards.specs.Lines.{line, lineFrom}
+use Rattle.lists.specs.Line.{line, lineFrom}
 use Rattle.cards.specs.Says.{Says, brokenBy, lineSays, stageAfter}
 use Rattle.cards.specs.Says.Says.{rule}
 use Rattle.cards.specs.declared.Phase.{Phase}

@@ -1,5 +1,5 @@
--- How a card goes on: laws of `Goes` and `Short`, and of the world and the bytes left over after a piece (specs/Feed.antt).
--- Assumes nothing.
+-- How a card goes on: laws of `Goes` and `Short`, and of the world and the bytes left over after a piece
+-- (specs/Feed.antt). Assumes nothing.
 use mathlib.Core.Path.{_≡_, refl, _∙_, sym, ap, subst}
 use mathlib.Core.List.{List, [], _∷_, _++_, append-assoc}
 use Prim.Native.Nat.{ℕ, suc, _≤_, _<_}
@@ -7,7 +7,8 @@ use native.Mathlib.Omega.{arith}
 use lib.ListN.{length, drop}
 use borrow.Author.Tests.{le-leb, lt-leb}
 use Rattle.limits.specs.Limits.{lineLimit}
-use Rattle.cards.specs.Lines.{line, cut}
+use Rattle.lists.specs.Line.{line}
+use Rattle.cards.specs.Lines.{cut}
 use Rattle.cards.specs.Says.{Says, brokenBy, endIn, endSays}
 use Rattle.cards.specs.declared.Phase.{Phase}
 use Rattle.cards.specs.declared.Phase.the-variants as P

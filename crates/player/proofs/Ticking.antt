@@ -10,7 +10,7 @@ use Rattle.flows.specs.Step.{After, after, parameterFits, stepChecked, stepped}
 use Rattle.tables.specs.declared.Checked.the-variants.{Passed}
 use Rattle.flows.specs.declared.Stepped.the-variants as S
 use Rattle.flows.proofs.Runs.{step-on}
-use Rattle.cards.specs.Lines.{line}
+use Rattle.lists.specs.Line.{line}
 use Rattle.cards.specs.Says.{stageAt, lineSays}
 use Rattle.cards.specs.Ticks.{tickLine, tickFirst}
 use Rattle.cards.specs.declared.Phase.the-variants as P
@@ -58,7 +58,8 @@ module _ (ps t : List ℕ) where
           phase = k .phase;
           passes = λ start signals.
               subst
-              (λ (y : After). stepChecked standardCap t (w .n) (y .state) (y .values) (tickOf start signals ps) ≡ Passed)
+              (λ (y : After).
+              stepChecked standardCap t (w .n) (y .state) (y .values) (tickOf start signals ps) ≡ Passed)
               (sym a)
               (step-on standardCap t (w .n) c v (tickOf i j ps) (k .passes i j) (tickOf start signals ps) refl);
         }
@@ -108,7 +109,8 @@ runs-none w b out =
 
 -- Those that the loop over the tick lines has run.
 pub runs-all : {w₀ w : World} {b out₀ out : List ℕ} {u at : ℕ} → Between w₀ b out₀ w out u at
-    → w₀ .watch .stage .phase ≡ P.Ticks → w .watch .stage .phase ≡ P.Ticks → Runs w₀ b (fedTo (w .watch) u at) w out₀ out
+    → w₀ .watch .stage .phase ≡ P.Ticks → w .watch .stage .phase ≡ P.Ticks
+    → Runs w₀ b (fedTo (w .watch) u at) w out₀ out
 runs-all s p q =
     record {
       goes = s .goes;

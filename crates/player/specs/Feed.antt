@@ -7,7 +7,8 @@ use lib.ListN.{length, take, drop}
 use Rattle.limits.specs.Limits.{standardCap, lineLimit}
 use Rattle.flows.specs.Step.{stepChecked}
 use Rattle.tables.specs.declared.Checked.the-variants.{Passed}
-use Rattle.cards.specs.Lines.{overLong, line, lineFrom, cut}
+use Rattle.lists.specs.Line.{line, lineFrom}
+use Rattle.cards.specs.Lines.{overLong, cut}
 use Rattle.cards.specs.Ticks.{tickFirst}
 use Rattle.cards.specs.declared.Phase.the-variants as P
 use Rattle.cards.specs.declared.TickLine.the-variants as T

@@ -18,7 +18,8 @@ concat (c ∷ cs) = c ++ concat cs
 -- what is left over is a broken line or none (`ended`, which is what `finish` does); and the program may leave once
 -- the card is over, whatever is still to come (`over`, which is what `is_over` tells).
 pub data Run : World → List ℕ → List (List ℕ) → List ℕ → Type 0 where
-  ended : {w : World} {s : List ℕ} → Short s → Run w s [] (outputBytes (lastOutput (endSays (w .watch .stage) (length s))))
+  ended : {w : World} {s : List ℕ} → Short s
+      → Run w s [] (outputBytes (lastOutput (endSays (w .watch .stage) (length s))))
   piece : {w v : World} {s t c o p : List ℕ} {cs : List (List ℕ)} → Goes w (s ++ c) o v t → Run v t cs p
       → Run w s (c ∷ cs) (o ++ p)
   over : {w : World} {s : List ℕ} {cs : List (List ℕ)} → w .watch .stage .phase ≡ P.Over → Run w s cs []

@@ -1,5 +1,5 @@
-// The player: compiles a card's rule, steps its observer at each tick line and prints, with the card handed over piece by
-// piece. What a line says is `cards`'; what a card prints is defined in specs/Card.antt, what a piece of it does in
+// The player: compiles a card's rule, steps its observer at each tick line and prints, with the card handed over piece
+// by piece. What a line says is `cards`'; what a card prints is defined in specs/Card.antt, what a piece of it does in
 // specs/Feed.antt. The sentences quoted are document 01's, from "towerwatch".
 use cards::Content;
 use cards::Phase;
@@ -14,7 +14,7 @@ ghost use mathlib.Core.Path.{_≡_};
 ghost use mathlib.Core.List.{List};
 ghost use Prim.Native.Nat.{ℕ, _+_, _-_, _≤_, _<_};
 ghost use lib.ListN.{length, take, drop};
-ghost use Rattle.cards.specs.Lines.{lineFrom};
+ghost use Rattle.lists.specs.Line.{lineFrom};
 ghost use Rattle.cards.specs.Says.{saysBy, stageAt, isOver};
 ghost use Rattle.reader.specs.Part.{ruleFrom};
 ghost use Rattle.player.specs.Card.{World, brought, entering, leaving, start};
@@ -115,7 +115,7 @@ fn last_output(content: Content) -> Output
     }
 }
 
-// What the line at a place does, which ends before `stop`.
+// What the line at the place `at` does, which ends before the place `to`.
 fn on_line(
     w: Watch,
     bytes: &[u8],
@@ -367,7 +367,7 @@ fn feed(
         w = ran;
         used += f.used;
         at += f.filled;
-        let n = cards::line_length(bytes, used);
+        let n = lists::line_length(bytes, used);
         let to = used + n;
         if to == bytes.len() {
             if n < limits::LINE {
@@ -402,8 +402,8 @@ fn shift(buf: &mut [u8], from: usize, to: usize)
     }
 }
 
-// A turn of the program between a read and a write: the first `to` bytes of buf are at hand. What is left over of them is
-// kept at the front of buf.
+// A turn of the program between a read and a write: the first `to` bytes of buf are at hand. What is left over of them
+// is kept at the front of buf.
 pub fn run_turn(
     watch: Watch,
     buf: &mut [u8],

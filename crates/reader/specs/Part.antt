@@ -1,7 +1,7 @@
 -- Which part of a card is the rule text. Definitions only.
 use mathlib.Core.List.{List}
 use Prim.Native.Nat.{ℕ, _+_}
-use Rattle.cards.specs.Lines.{lineFrom}
+use Rattle.lists.specs.Line.{lineFrom}
 
 -- What stands after the six bytes `watch=` at a place, up to the line's end (document 01, "towerwatch": "`watch=` rule
 -- text", "Lines end in byte 10").

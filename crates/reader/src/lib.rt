@@ -1,6 +1,6 @@
-// The card reader: it holds the bytes that are lent and the place of a line in them, and hands out the rule text as that
-// part of the bytes (document 01: "The reader hands out the rule text as that part of the card it was given"). No byte is
-// copied.
+// The card reader: it holds the bytes that are lent and the place of a line in them, and hands out the rule text as
+// that part of the bytes (document 01: "The reader hands out the rule text as that part of the card it was given"). No
+// byte is copied.
 ghost use mathlib.Core.Path.{_≡_};
 ghost use Rattle.reader.specs.Part.{ruleFrom};
 
@@ -21,7 +21,7 @@ pub fn rule_at(s: &[u8], at: usize) -> &[u8]
         return &s[..0];
     }
     let from = at + 6;
-    let stop = from + cards::line_length(s, from);
+    let stop = from + lists::line_length(s, from);
     &s[from..stop]
 }
 

@@ -90,8 +90,8 @@ front-goes {w} {w'} {s} {s'} {o} g =
     ∙ take-append-seam o (prints w' (s' ++ [])))
 
 -- and all of it where the card is over.
-all-over : {w w' : World} {s s' o : List ℕ} → Goes w s o w' s' → isOver (w' .watch .stage .phase) ≡ true → (more : List ℕ)
-    → o ≡ prints w (s ++ more)
+all-over : {w w' : World} {s s' o : List ℕ} → Goes w s o w' s' → isOver (w' .watch .stage .phase) ≡ true
+    → (more : List ℕ) → o ≡ prints w (s ++ more)
 all-over {w} {w'} {s} {s'} {o} g e more =
     sym
     (g .tells more
@@ -174,8 +174,8 @@ goes-both {u} {v} {w} {r} {s} {t} {o} {p} c g h =
     }
 
 -- and ends after it.
-ends-both : {v : World} {r s o : List ℕ} → Goes start r o v s → (c p : List ℕ) (k : Stand) → Ends k (prints v) (s ++ c) p
-    → Ends k printed (r ++ c) (o ++ p)
+ends-both : {v : World} {r s o : List ℕ} → Goes start r o v s → (c p : List ℕ) (k : Stand)
+    → Ends k (prints v) (s ++ c) p → Ends k printed (r ++ c) (o ++ p)
 unfolding printed
 ends-both {v} {r} {s} {o} g c p S.Reading e = e
 ends-both {v} {r} {s} {o} g c p S.Ended e = ap (λ (l : List ℕ). o ++ l) e ∙ sym (g .tells c)
@@ -215,7 +215,8 @@ module _ {w w' : World} {s s' out : List ℕ} {g h : ℕ} (r : Reached w s g h) 
     near : length s + n .got + lineLimit * rank (w' .watch .stage)
         ≤ lineLimit * rank (w .watch .stage) + length s'
     near =
-        let b = fed-near w (s ++ t .piece) (ap (λ (x : World). isOver (x .watch .stage .phase)) (sym (on .world)) ∙ on .going) in
+        let going = ap (λ (x : World). isOver (x .watch .stage .phase)) (sym (on .world)) ∙ on .going in
+        let b = fed-near w (s ++ t .piece) going in
         rw (on .world, on .left) (omega (arith, length-append s (t .piece), o .got, b))
 
     -- Fewer bytes may still come.

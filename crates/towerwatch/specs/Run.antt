@@ -1,6 +1,6 @@
 -- What the program does between its reads and its writes: one turn, and a whole run. Definitions only. Which bytes a
--- read brings and a write takes is the system's, and no contract of theirs says it. So a turn answers how many bytes came
--- in and how many it handed to the write, and its contract says which bytes those are.
+-- read brings and a write takes is the system's, and no contract of theirs says it. So a turn answers how many bytes
+-- came in and how many it handed to the write, and its contract says which bytes those are.
 use mathlib.Core.List.{List, _++_}
 use mathlib.Core.Bool.{Bool, true, false}
 use mathlib.Core.Path.{_≡_}

@@ -98,8 +98,8 @@ fn reads_on(stand: Stand) -> bool
     }
 }
 
-// The end of the input, where no byte came in and the first `to` bytes of buf are left over: what they print, whatever the
-// lent arrays hold.
+// The end of the input, where no byte came in and the first `to` bytes of buf are left over: what they print, whatever
+// the lent arrays hold.
 fn end(watch: Watch, buf: &[u8], to: usize, got: usize, out: &mut [u8]) -> Next
     requires { ⌜ Ready (now buf) to (now out) × (got ≡ 0) ⌝ }
     ensures { λ r. ⌜ (r .to ≡ 0) × ((ps t c v : List ℕ) (w : World) (s : List ℕ) →

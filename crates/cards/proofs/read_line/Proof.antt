@@ -1,5 +1,5 @@
--- `cards::read_line` meets its contract: one case for each way out, by the phase and the answers on the way. `line` is the
--- place where the phase is known. Assumes nothing.
+-- `cards::read_line` meets its contract: one case for each way out, by the phase and the answers on the way. `line` is
+-- the place where the phase is known. Assumes nothing.
 use mathlib.Core.Path.{sym, _∙_}
 use borrow.Author.Needs.{needs}
 use borrow.Author.Tests.{le-leb, lt-leb, eq-eqb, ne-eqb, not-true, not-false}

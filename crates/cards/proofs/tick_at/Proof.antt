@@ -1,44 +1,66 @@
 -- `cards::tick_at` meets its contract: too few bytes, no byte 10 after twenty of them, or a line. Assumes nothing.
-use mathlib.Core.Path.{_≡_, _∙_, ap}
+use mathlib.Core.Path.{_≡_, sym, _∙_, ap}
+use mathlib.Core.List.{List}
+use Prim.Native.Nat.{ℕ, _+_, _-_, _≤_, _<_}
 use native.Mathlib.Omega.{arith}
-use Prim.Native.Nat.{ℕ, _+_, _-_}
-use lib.ListN.{take, drop, length-drop}
+use lib.ListN.{length, getD, take, drop, length-drop}
 use lib.Seq.{getD-drop}
 use borrow.Author.Needs.{needs}
 use borrow.Author.Tests.{le-leb, lt-leb, eq-eqb, ne-eqb}
+use Rattle.lists.specs.Line.{lineEnd}
 use Rattle.cards.specs.Ticks.{tickLine, tickFirst}
+use Rattle.cards.specs.declared.TickLine.the-variants.{Broken}
 use Rattle.cards.proofs.tick_at.Statement.{statement}
 use Rattle.cards.proofs.tick_at.Tie as tie
 
+module _ (s : List ℕ) (at : ℕ) where
+  short : length s ≤ at + 20 → Broken ≡ tickFirst (drop at s)
+  unfolding tickFirst
+  short h = rw (le-leb (length (drop at s)) 20 (omega (arith, length-drop at s)))
+
+  module _ (h : at + 20 < length s) where
+    long : 20 < length (drop at s)
+    long = omega (arith, length-drop at s)
+
+    unended : (getD s (at + 20) 0 ≡ lineEnd → ⊥) → Broken ≡ tickFirst (drop at s)
+    unfolding tickFirst
+    unended e = rw (lt-leb (length (drop at s)) 20 long, getD-drop at s 20 0, ne-eqb _ _ e)
+
+    ended : getD s (at + 20) 0 ≡ lineEnd → tickLine (take (at + 20 - at) (drop at s)) ≡ tickFirst (drop at s)
+    unfolding tickFirst
+    ended e =
+        let z : at + 20 - at ≡ 20 = omega arith in
+        rw (lt-leb (length (drop at s)) 20 long, getD-drop at s 20 0, eq-eqb _ _ e, z)
+
 returns : tie.Need-returns
-unfolding tickFirst
-returns c = simp (length-drop, le-leb _ _ (c .if1 .taken))
+returns c = let args = c .before .before .args in short (args .s .now) (args .at) (omega arith)
 
 returns-2 : tie.Need-returns-2
-unfolding tickFirst
-returns-2 c = simp (length-drop, lt-leb _ _ (c .before .before .if1 .left), getD-drop, ne-eqb _ _ (c .if2 .taken))
+returns-2 c = let args = c .before .before .before .args in short (args .s .now) (args .at) (omega arith)
 
 returns-3 : tie.Need-returns-3
-unfolding tickFirst
 returns-3 c =
-    let start = c .before .before .before .before .before .before in
-    let at = start .args .at in
-    let z : at + 20 - at ≡ 20 = omega arith in
-    simp
-    (length-drop, lt-leb _ _ (c .before .before .before .before .if1 .left), getD-drop, eq-eqb _ _ (c .before .before .if2 .left))
-    (c .tick-line .ensures ∙ ap (λ (n : ℕ). tickLine (take n (drop at (start .args .s .now)))) z)
+    let args = c .before .before .before .before .before .args in
+    unended (args .s .now) (args .at) (omega arith) (c .if3 .taken)
+
+returns-4 : tie.Need-returns-4
+returns-4 c =
+    let line = c .before .before in
+    let args = line .before .before .before .before .before .args in
+    c .tick-line .ensures ∙ ended (args .s .now) (args .at) (omega arith) (line .if3 .left)
 
 pub tick-at-spec : {M : Type 1} → statement M
 tick-at-spec =
     tie.close
     (tie.spec
-    (λ c. search needs)
     returns
-    (λ c. search needs)
     (λ c. search needs)
     returns-2
     (λ c. search needs)
     (λ c. search needs)
+    returns-3
+    (λ c. search needs)
+    (λ c. search needs)
     (λ c. search needs)
     (λ c κs. search needs)
-    returns-3)
+    returns-4)

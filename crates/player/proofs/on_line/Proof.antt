@@ -1,5 +1,5 @@
--- `player::on_line` meets its contract: one case for each thing that the line says, and for each answer to it. `told` is the
--- place where it is known what the line says, and the stage after it. Assumes nothing.
+-- `player::on_line` meets its contract: one case for each thing that the line says, and for each answer to it. At
+-- `After-stage-after` it is known what the line says, and the stage after it. Assumes nothing.
 use mathlib.Core.Path.{_≡_, sym, _∙_, ap}
 use mathlib.Core.List.{List}
 use Prim.Native.Nat.{ℕ, _+_, _-_}
@@ -11,8 +11,9 @@ use Rattle.observers.specs.declared.Compiled.the-variants as C
 use Rattle.flows.specs.Step.{After, after}
 use Rattle.flows.specs.declared.Stepped.{Stepped}
 use Rattle.flows.specs.declared.Stepped.the-variants as S
-use Rattle.cards.specs.Lines.{lineFrom}
+use Rattle.lists.specs.Line.{lineFrom}
 use Rattle.cards.specs.Says.{saysBy, lineSays}
+use Rattle.cards.specs.declared.Stage.{Stage}
 use Rattle.cards.specs.declared.Content.{Content}
 use Rattle.cards.specs.declared.Content.the-variants as Line
 use Rattle.cards.proofs.Lines.{take-line}
@@ -32,6 +33,12 @@ module _ (c : tie.After-stage-after) where
   abbrev told : Content
   told = c .before .read-line .result .content
 
+  abbrev eight : List ℕ
+  eight = c .before .read-line .result .values
+
+  abbrev next : Stage
+  next = c .stage-after .result
+
   abbrev line : List ℕ
   line = lineFrom (begun c .args .bytes .now) (begun c .args .at)
 
@@ -49,35 +56,35 @@ module _ (c : tie.After-stage-after) where
       ap (λ (n : ℕ). take n (drop at (args .bytes .now))) e ∙ take-line (drop at (args .bytes .now))
 
   -- so it says what the line says.
-  says : saysBy told (c .before .read-line .result .values) line ≡ lineSays (world .watch .stage) line
+  says : saysBy told eight line ≡ lineSays (world .watch .stage) line
   says = rw is-line at (c .before .read-line .ensures)
 
   -- What is played of it.
-  ends : (x : Content) → told ≡ x
-      → playedTo (c .stage-after .result) (saysBy x (c .before .read-line .result .values) line) world ≡ lined world line
+  ends : (x : Content) → told ≡ x → playedTo next (saysBy x eight line) world ≡ lined world line
   ends x e =
-      ap (λ (y : Content). playedTo (c .stage-after .result) (saysBy y (c .before .read-line .result .values) line) world) (sym e)
+      ap (λ (y : Content). playedTo next (saysBy y eight line) world) (sym e)
       ∙ plays world line _ _ says (c .stage-after .ensures _ _)
 
   -- The rule, with this answer and this table and state after it; a tick, with these.
   rule-ends : told ≡ Line.Rule → (a r : Compiled) (t s : List ℕ) → r ≡ a
-      → afterRule r t s ≡ ruleMade (ruleFrom (begun c .args .bytes .now) (begun c .args .at)) (world .table) (world .state)
-      → ruleEffect (c .stage-after .result) (afterRule a t s) world ≡ lined world line
+      → afterRule r t s
+      ≡ ruleMade (ruleFrom (begun c .args .bytes .now) (begun c .args .at)) (world .table) (world .state)
+      → ruleEffect next (afterRule a t s) world ≡ lined world line
   rule-ends e a r t s i h =
       let args = begun c .args in
-      let is : saysBy Line.Rule (c .before .read-line .result .values) line ≡ lineSays (world .watch .stage) line =
-      ap (λ (y : Content). saysBy y (c .before .read-line .result .values) line) (sym e) ∙ says in
+      let is : saysBy Line.Rule eight line ≡ lineSays (world .watch .stage) line =
+      ap (λ (y : Content). saysBy y eight line) (sym e) ∙ says in
       let text = text-at (world .watch .stage) (args .bytes .now) (args .at) is in
-      ap (λ (x : AfterRule). ruleEffect (c .stage-after .result) x world)
+      ap (λ (x : AfterRule). ruleEffect next x world)
       (ap (λ (x : Compiled). afterRule x t s) (sym i)
       ∙ h ∙ ap (λ (l : List ℕ). ruleMade l (world .table) (world .state)) text)
       ∙ ends Line.Rule e
 
   tick-ends : (start signals : ℕ) → told ≡ Line.Tick start signals → (a r : Stepped) (s v : List ℕ) → r ≡ a
       → after r s v ≡ stepOf start signals world
-      → stepEffect (c .stage-after .result) (after a s v) world ≡ lined world line
+      → stepEffect next (after a s v) world ≡ lined world line
   tick-ends start signals e a r s v i h =
-      ap (λ (x : After). stepEffect (c .stage-after .result) x world) (ap (λ (x : Stepped). after x s v) (sym i) ∙ h)
+      ap (λ (x : After). stepEffect next x world) (ap (λ (x : Stepped). after x s v) (sym i) ∙ h)
       ∙ ends (Line.Tick start signals) e
 
 -- ---- the ways out
@@ -88,15 +95,18 @@ returns c = rw (c .go-on .ensures) (ends (c .before .before .before) Line.Editio
 
 returns-2 : tie.Need-returns-2
 returns-2 c =
-    rw (c .go-on2 .ensures) (ends (c .before .before .before .before) Line.Parameters (c .before .before .enum-told2 .given .1))
+    let told = c .before .before in
+    rw (c .go-on2 .ensures) (ends (told .before .before) Line.Parameters (told .enum-told2 .given .1))
 
 returns-5 : tie.Need-returns-5
 returns-5 c =
-    rw (c .go-on4 .ensures) (ends (c .before .before .before .before) (Line.Count _) (c .before .before .content .given .1))
+    let told = c .before .before in
+    rw (c .go-on4 .ensures) (ends (told .before .before) (Line.Count _) (told .content .given .1))
 
 returns-8 : tie.Need-returns-8
 returns-8 c =
-    rw (c .stop3 .ensures) (ends (c .before .before .before .before) (Line.Refused _) (c .before .before .content3 .given .1))
+    let told = c .before .before in
+    rw (c .stop3 .ensures) (ends (told .before .before) (Line.Refused _) (told .content3 .given .1))
 
 returns-9 : tie.Need-returns-9
 returns-9 c = rw (c .stop4 .ensures) (ends (c .before .before .before) Line.Nothing (c .before .enum-told4 .given .1))

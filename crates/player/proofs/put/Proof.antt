@@ -38,7 +38,7 @@ returns c =
 returns-2 : tie.Need-returns-2
 unfolding outputBytes
 returns-2 c =
-    rw (c .before .before .before .before .before .before .d .given .1)
+    rw (let said = c .before .before .before in said .before .before .before .d .given .1)
     (c .before .before .put-word .ensures)
 
 returns-3 : tie.Need-returns-3

@@ -1,5 +1,5 @@
--- `player::rule_line` meets its contract: the rule text that the reader hands out is compiled, and the table's fresh state
--- made. `made` is the place after the compiling, `fresh` the one after the fresh state. Assumes nothing.
+-- `player::rule_line` meets its contract: the rule text that the reader hands out is compiled, and the table's fresh
+-- state made. `made` is the place after the compiling, `fresh` the one after the fresh state. Assumes nothing.
 use mathlib.Core.Path.{ap}
 use borrow.Author.Needs.{needs}
 use Rattle.player.specs.Card.{freshAs, ruleMade}

@@ -52,7 +52,8 @@ stopped c = let line = c .before .before .before .before in line .before .before
 
 loop-holds : tie.Need-loop-holds Inv-loop μ-loop
 loop-holds c =
-    let pre = c .before .before .before .before .before .before .pre in
+    let lent = c .before .before .before in
+    let pre = lent .before .before .before .pre in
     (begun _ _ _ (pre .0), pre .1, refl, refl)
 
 -- The next line is broken or not whole, or no tick is left.
@@ -119,7 +120,7 @@ run-ticks-spec =
     Inv-loop
     μ-loop
     loop-holds
-    (λ c κs. c .before .loop .inv .0 .within)
+    (λ c κs. search needs)
     (λ c. search needs)
     (λ c. search needs)
     (λ c κs. search needs)

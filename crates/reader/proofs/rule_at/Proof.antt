@@ -3,8 +3,9 @@ use mathlib.Core.Path.{_≡_, sym, ap, _∙_}
 use Prim.Native.Nat.{ℕ, _+_, _-_, _≤_}
 use native.Mathlib.Omega.{arith}
 use borrow.Author.Needs.{needs}
-use lib.ListN.{length, take, drop, length-drop}
-use Rattle.cards.proofs.Lines.{line-past, take-line, line-within}
+use lib.ListN.{length, take, drop}
+use Rattle.lists.proofs.Lines.{line-past, line-fits}
+use Rattle.cards.proofs.Lines.{take-line}
 use Rattle.reader.proofs.rule_at.Statement.{statement}
 use Rattle.reader.proofs.rule_at.Tie as tie
 
@@ -24,8 +25,7 @@ inside : (c : tie.After-line-length) →
     args .at + 6 + c .line-length .result ≤ length (args .s .now)
 inside c =
     let args = c .before .before .before .before .args in
-    let rest = drop (args .at + 6) (args .s .now) in
-    omega (arith, c .line-length .ensures, line-within rest, length-drop (args .at + 6) (args .s .now))
+    omega (arith, c .line-length .ensures, line-fits (args .s .now) (args .at + 6) (omega arith))
 
 returns-3 : tie.Need-returns-3
 returns-3 c =

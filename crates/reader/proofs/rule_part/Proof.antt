@@ -1,6 +1,6 @@
 -- `reader::rule_part` meets its contract, by a walk of its code: the reader that `new` returns is held in a local and
--- passed to `rule_text`. In a local the lifetime in the reader's type is erased; what the reader owns does not depend on
--- its name. Assumes nothing.
+-- passed to `rule_text`. In a local the lifetime in the reader's type is erased; what the reader owns does not depend
+-- on its name. Assumes nothing.
 use mathlib.Core.Path.{_≡_, refl, ap, _∙_}
 use Prim.Native.Nat.{ℕ, _<_, _^_}
 use mathlib.Core.List.{List, [], _∷_}
@@ -198,7 +198,8 @@ module _
         peeks ! R (Is R) (shows 𝓤 H A R) t (u′ ∷ []) (λ is′.
         land ! (from ! (stop !)) (init ! 9 refl (shr-slice-lawful 𝓤 H A W (named 0) κ u8 .typed t _ is′ .0)) $
         returns ! (look ! 9 refl) $ forget ! 3 refl $ forget ! 5 refl $ forget ! 7 refl $ forget ! 9 refl $
-        move ! (9 ∷ 10 ∷ []) $ free1 ! $ move ! (7 ∷ 8 ∷ []) $ free1 ! $ move ! (5 ∷ 6 ∷ []) $ free1 ! $ move ! (3 ∷ 4 ∷ []) $ free1 ! $ free0 ! $
+        move ! (9 ∷ 10 ∷ []) $ free1 ! $ move ! (7 ∷ 8 ∷ []) $ free1 ! $
+        move ! (5 ∷ 6 ∷ []) $ free1 ! $ move ! (3 ∷ 4 ∷ []) $ free1 ! $ free0 ! $
         by ! (exits t u′ (found r t e f))))))))))))))
 
 module _

@@ -1,5 +1,5 @@
--- `reader::rule_text` meets its contract, by a walk of its code: the reader is taken apart, and `rule_at` is called on the
--- slice and the place. The result is a part of the slice, at the reader's own lifetime. Assumes nothing.
+-- `reader::rule_text` meets its contract, by a walk of its code: the reader is taken apart, and `rule_at` is called on
+-- the slice and the place. The result is a part of the slice, at the reader's own lifetime. Assumes nothing.
 use mathlib.Core.Path.{_≡_, refl}
 use Prim.Native.Nat.{ℕ, _<_, _^_}
 use mathlib.Core.List.{List, [], _∷_}

@@ -8,7 +8,8 @@ use Rattle.towerwatch.proofs.main.Tie as tie
 
 run-requires : tie.Need-run-requires
 run-requires c κs =
-    ((record { short = short-none; within = omega arith; size = search needs; room = search needs }, search needs), refl)
+    let ready = record { short = short-none; within = omega arith; size = search needs; room = search needs } in
+    ((ready, search needs), refl)
 
 pub main-spec : {M : Type 1} → statement M
 main-spec =

@@ -1,4 +1,5 @@
--- `towerwatch::once` meets its contract: a read keeps what was left over, so the turn is one from there. Assumes nothing.
+-- `towerwatch::once` meets its contract: a read keeps what was left over, so the turn is one from there. Assumes
+-- nothing.
 use mathlib.Core.Path.{sym}
 use mathlib.Core.List.{[]}
 use native.Mathlib.Omega.{arith}

@@ -77,8 +77,8 @@ room c = lengths c .1 ∙ entry (loop-at (c .before)) .pre .0 .1
 
 reached : (c : tie.After-once Inv-loop μ-loop) →
     let loop = loop-at (c .before) .loop in
-    Reached (worldOf (loop .watch) (loop .parameters) (loop .table) (loop .state) (loop .values)) (take (loop .to) (loop .buf))
-    (loop .got) (loop .shown)
+    Reached (worldOf (loop .watch) (loop .parameters) (loop .table) (loop .state) (loop .values))
+    (take (loop .to) (loop .buf)) (loop .got) (loop .shown)
 reached c = loop-at (c .before) .loop .inv .1
 
 add-got : tie.Need-add-got Inv-loop μ-loop
@@ -94,8 +94,8 @@ add-shown c =
 returns : tie.Need-returns Inv-loop μ-loop
 returns c =
     let done = made (c .before) in
-    ends-whole (reached done) _ (done .once .ensures .1) (sym (c .before .reads-on .ensures) ∙ not-true _ (c .if1 .taken))
-    _ refl refl refl
+    let over = sym (c .before .reads-on .ensures) ∙ not-true _ (c .if1 .taken) in
+    ends-whole (reached done) _ (done .once .ensures .1) over _ refl refl refl
 
 loop-less : tie.Need-loop-less Inv-loop μ-loop
 loop-less c =
