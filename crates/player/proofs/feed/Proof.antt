@@ -228,7 +228,7 @@ feed-spec =
     (λ c κs. rest-room (loop-at (c .before) .loop .inv .0))
     add-used
     add-at
-    (λ c κs. run (called (c .before .before)) .within)
+    (λ c κs. search needs)
     add-to
     (λ c κs. search needs)
     (λ c. lengths (left-at c) .0)

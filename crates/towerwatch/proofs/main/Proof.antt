@@ -7,9 +7,13 @@ use Rattle.towerwatch.proofs.main.Statement.{statement}
 use Rattle.towerwatch.proofs.main.Tie as tie
 
 run-requires : tie.Need-run-requires
-run-requires c κs =
-    let ready = record { short = short-none; within = omega arith; size = search needs; room = search needs } in
-    ((ready, search needs), refl)
+run-requires c κs = (
+  (
+    record { short = short-none; within = omega arith; size = search needs; room = search needs },
+    search needs,
+  ),
+  refl,
+)
 
 pub main-spec : {M : Type 1} → statement M
 main-spec =
