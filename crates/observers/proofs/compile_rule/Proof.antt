@@ -12,6 +12,13 @@ use Rattle.observers.proofs.Demand.{refused-compiled, short-compiled, e
 use Rattle.observers.proofs.compile_rule.Statement.{statement}
 use Rattle.observers.proofs.compile_rule.Tie as tie
 
+-- The places before a tree is at hand: the call of `read_tree`, from after its answer was taken apart, and the start.
+abbrev reading : tie.After-known-told → tie.After-read-tree
+reading c = c .before .before .before .before
+
+abbrev start : tie.After-read-tree → tie.Start
+start c = c .before .before .before .before
+
 slice-aggregate-read-tree : tie.Need-slice-aggregate-read-tree
 slice-aggregate-read-tree c = search needs
 
@@ -27,22 +34,28 @@ enum-told c = search needs
 records-refusal-requires : tie.Need-records-refusal-requires
 records-refusal-requires c κs = search needs
 
+-- The text is no rule.
 returns : tie.Need-returns
 returns c =
     let told = c .before .enum-told .given in
-    let e = refused-as (c .before .before .before .before .read-tree .ensures) (told .0 .0) _ (told .1) (c .records-refusal .ensures) in
-    (refused-compiled (c .before .before .before .before .before .before .before .before .args .text .now) _ _ e, not-read e)
+    let call = c .before .before .before .before in
+    let e = refused-as (call .read-tree .ensures) (told .0 .0) _ (told .1) (c .records-refusal .ensures) in
+    (refused-compiled (start call .args .text .now) _ _ e, not-read e)
 
 -- The tree that was read, its numbers at the front of the arena.
 tree : (c : tie.After-known-told) →
-    Front (ruleOf (c .before .before .before .before .before .before .before .before .args .text .now)) (c .before .records .given .0 .0) (c .before .before .before .before .read-tree .last .1 .0)
+    let call = reading c in
+    Front (ruleOf (start call .args .text .now)) (c .before .records .given .0 .0) (call .read-tree .last .1 .0)
 tree c =
-    front-of (c .before .before .before .before .read-tree .ensures) (omega arith) (c .before .records .given .0 .0) _ (c .before .records .given .1)
+    let records = c .before .records .given in
+    front-of (reading c .read-tree .ensures) (omega arith) (records .0 .0) _ (records .1)
 
+-- There is no room for a table.
 returns-2 : tie.Need-returns-2
 returns-2 c =
     let h = tree (c .before) in
-    (short-compiled (c .before .before .before .before .before .before .before .before .before .args .text .now) _ (h .tree) (h .is) (c .if1 .taken), no-room (h .is) (c .if1 .taken))
+    let text = start (reading (c .before)) .args .text .now in
+    (short-compiled text _ (h .tree) (h .is) (c .if1 .taken), no-room (h .is) (c .if1 .taken))
 
 array-share-prefix-arena : tie.Need-array-share-prefix-arena
 array-share-prefix-arena c = let h = tree (c .before) in omega (arith, h .fits)
@@ -54,9 +67,10 @@ slice-aggregate-emit-observer c =
 
 emit-observer-requires : tie.Need-emit-observer-requires
 emit-observer-requires c κs =
-    let h = tree (c .before .before .before) in
-    let size = c .before .before .before .before .records .given .0 .0 in
-    let part = length-take-le size (c .before .before .before .before .before .before .before .read-tree .last .1 .0) (omega (arith, h .fits)) in
+    let known = c .before .before .before in
+    let h = tree known in
+    let size = known .before .records .given .0 .0 in
+    let part = length-take-le size (reading known .read-tree .last .1 .0) (omega (arith, h .fits)) in
     omega (arith, h .fits, part)
 
 cast-t10 : tie.Need-cast-t10
@@ -65,11 +79,14 @@ cast-t10 c = search needs
 same-length : tie.Need-same-length
 same-length c = search needs
 
+-- The observer's equations are written.
 returns-3 : tie.Need-returns-3
 returns-3 c =
-    let h = tree (c .before .before .before .before .before .before) in
-    emitted-rule (c .before .before .before .before .before .before .before .before .before .before .before .before .before .before .args .text .now) (c .before .before .before .before .before .before .before .before .before .before .before .before .before .before .args .table .now) (h .tree) (h .is) (c .before .before .before .before .before .if1 .left) _ _ _
-    (h .front) (c .before .before .emit-observer .ensures)
+    let roomy = c .before .before .before .before .before in
+    let h = tree (roomy .before) in
+    let args = start (reading (roomy .before)) .args in
+    emitted-rule (args .text .now) (args .table .now) (h .tree) (h .is) (roomy .if1 .left) _ _ _ (h .front)
+    (c .before .before .emit-observer .ensures)
 
 pub compile-rule-spec : {M : Type 1} → statement M
 compile-rule-spec =
