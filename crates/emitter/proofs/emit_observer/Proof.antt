@@ -6,8 +6,10 @@ use Rattle.emitter.proofs.emit_observer.Tie as tie
 
 returns : tie.Need-returns
 returns c =
-    let back = c .before .before .before .before .before .before .before .before in
-    let back2 = back .before .before .before .before .before .before .before .before in
+    let earlier = c .before .before .before .before in
+    let back = earlier .before .before .before .before in
+    let first-call = back .before .before .before .before in
+    let back2 = first-call .before .before .before .before in
     let the-pre = back2 .pre in
     let the-mark-all = back .before .before .before .before .mark-all in
     let the-settle-all = back .settle-all in

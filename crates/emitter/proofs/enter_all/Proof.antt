@@ -39,9 +39,10 @@ loop-less c = omega arith
 
 loop-again : tie.Need-loop-again Inv-loop μ-loop
 loop-again c =
-    let the-loop = c .before .before .before .before .before .before .before .before .loop in
-    let the-loop-test = c .before .before .before .before .before .before .before .loop-test in
-    let the-record-at = c .before .before .before .before .before .before .record-at in
+    let earlier = c .before .before .before .before in
+    let the-loop = earlier .before .before .before .before .loop in
+    let the-loop-test = earlier .before .before .before .loop-test in
+    let the-record-at = earlier .before .before .record-at in
     let the-enter = c .before .before .before .enter in
     entering-one (the-loop .inv) (the-loop-test .taken) (the-record-at .ensures) (the-enter .ensures)
     (the-enter .kept .0) (the-enter .kept .1 .0)
@@ -57,13 +58,15 @@ enter-requires-2 c κs = record { near = omega arith; low = omega arith }
 same-length : tie.Need-same-length Inv-loop μ-loop
 same-length c =
     let the-enter2 = c .before .before .before .enter2 in
-    let the-loop = c .before .before .before .before .before .before .before .loop in
+    let earlier = c .before .before .before .before in
+    let the-loop = earlier .before .before .before .loop in
     the-enter2 .kept .0 ∙ the-loop .inv .same
 
 returns : tie.Need-returns Inv-loop μ-loop
 returns c =
-    let the-loop = c .before .before .before .before .before .before .before .loop in
-    let the-loop-test = c .before .before .before .before .before .before .loop-test in
+    let earlier = c .before .before .before .before in
+    let the-loop = earlier .before .before .before .loop in
+    let the-loop-test = earlier .before .before .loop-test in
     let the-enter2 = c .before .before .before .enter2 in
     entering-all (the-loop .inv) (the-loop-test .left) (the-enter2 .ensures)
 

@@ -6,7 +6,8 @@ use Rattle.emitter.proofs.mark.Tie as tie
 
 returns : tie.Need-returns
 returns c =
-    let the-args = c .before .before .before .before .before .before .before .before .args in
+    let earlier = c .before .before .before .before in
+    let the-args = earlier .before .before .before .before .args in
     let the-if1 = c .before .before .before .before .before .if1 in
     let the-store = c .before .before .store in
     marked-signal (the-args .x) (the-args .named .now) (the-if1 .taken) (the-store .ensures)

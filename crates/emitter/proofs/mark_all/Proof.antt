@@ -32,7 +32,8 @@ loop-less c = omega arith
 
 loop-again : tie.Need-loop-again Inv-loop μ-loop
 loop-again c =
-    let the-loop = c .before .before .before .before .before .before .loop in
+    let earlier = c .before .before .before .before in
+    let the-loop = earlier .before .before .loop in
     let the-loop-test = c .before .before .before .before .before .loop-test in
     let the-record-at = c .before .before .before .before .record-at in
     let the-mark = c .before .before .mark in

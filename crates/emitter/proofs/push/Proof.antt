@@ -6,7 +6,8 @@ use Rattle.emitter.proofs.push.Tie as tie
 
 returns : tie.Need-returns
 returns c =
-    let the-pre = c .before .before .before .before .before .before .pre in
+    let earlier = c .before .before .before .before in
+    let the-pre = earlier .before .before .pre in
     let the-lowered = c .before .before .before .before .lowered in
     let the-store = c .before .before .store in
     pushed the-pre (the-lowered .ensures) (the-store .ensures)

@@ -22,8 +22,10 @@ returns c = written-one _ _ _ _ _ _
 -- At the end of the table each number by itself.
 returns-2 : tie.Need-returns-2
 returns-2 c =
-    let back = c .before .before .before .before .before .before .before .before in
-    let back2 = back .before .before .before .before .before .before .before .before in
+    let earlier = c .before .before .before .before in
+    let back = earlier .before .before .before .before in
+    let first-call = back .before .before .before .before in
+    let back2 = first-call .before .before .before .before in
     let the-args = back2 .before .before .args in
     cc (written-one (the-args .t .now) (the-args .o) (the-args .kind) (the-args .a) (the-args .b) (the-args .c))
 

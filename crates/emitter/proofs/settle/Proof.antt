@@ -6,7 +6,8 @@ use Rattle.emitter.proofs.settle.Tie as tie
 
 returns : tie.Need-returns
 returns c =
-    let back = c .before .before .before .before .before .before .before .before in
+    let earlier = c .before .before .before .before in
+    let back = earlier .before .before .before .before in
     let the-args = back .before .args in
     let the-at = c .before .before .before .before .before .number-at in
     let the-if1 = c .if1 in
@@ -16,11 +17,12 @@ returns c =
 
 returns-2 : tie.Need-returns-2
 returns-2 c =
-    let back = c .before .before .before .before .before .before .before .before in
+    let earlier = c .before .before .before .before in
+    let back = earlier .before .before .before .before in
     let the-args = back .before .before .before .before .before .args in
     let the-at = back .before .number-at in
     let the-if1 = c .before .before .before .before .if1 in
-    let the-store = c .before .before .before .before .before .before .before .store in
+    let the-store = earlier .before .before .before .store in
     let the-put = c .before .before .put in
     settled-named (the-args .table .now) (the-args .named .now) (the-args .j) (the-args .next) (the-at .result)
     (the-at .ensures) (the-if1 .left) (the-store .ensures) (the-put .ensures)

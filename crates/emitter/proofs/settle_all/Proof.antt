@@ -30,8 +30,9 @@ loop-less c = omega arith
 
 loop-again : tie.Need-loop-again Inv-loop μ-loop
 loop-again c =
-    let the-loop = c .before .before .before .before .before .before .before .before .loop in
-    let the-loop-test = c .before .before .before .before .before .before .before .loop-test in
+    let earlier = c .before .before .before .before in
+    let the-loop = earlier .before .before .before .before .loop in
+    let the-loop-test = earlier .before .before .before .loop-test in
     let the-settle = c .before .before .before .before .settle in
     settling-one (the-loop .inv) (the-loop-test .taken) (the-settle .ensures) (the-settle .kept .0)
     (the-settle .kept .1 .0)
@@ -40,7 +41,8 @@ same-length : tie.Need-same-length Inv-loop μ-loop
 same-length c =
     let the-loop = c .before .loop in
     let the-put2 = c .before .before .before .before .put2 in
-    let the-put = c .before .before .before .before .before .before .before .before .put in
+    let earlier = c .before .before .before .before in
+    let the-put = earlier .before .before .before .before .put in
     the-loop .inv .same ∙ the-put2 .kept .0 ∙ the-put .kept .0
 
 same-length-2 : tie.Need-same-length-2 Inv-loop μ-loop
@@ -50,7 +52,8 @@ same-length-2 c =
 
 returns : tie.Need-returns Inv-loop μ-loop
 returns c =
-    let back = c .before .before .before .before .before .before .before .before in
+    let earlier = c .before .before .before .before in
+    let back = earlier .before .before .before .before in
     let the-args = back .before .before .before .before .args in
     let the-put = back .put in
     let the-put2 = c .before .before .before .before .put2 in
