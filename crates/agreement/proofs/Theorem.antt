@@ -11,7 +11,7 @@ use Rattle.formulas.specs.Tree.{nodes, leads}
 use Rattle.formulas.specs.Bounds.{bounded}
 use Rattle.formulas.specs.Arena.{flat}
 use Rattle.formulas.specs.Raw.{raw}
-use Rattle.limits.specs.Limits.{equationLimit, signalCount}
+use Rattle.limits.specs.Limits.{arenaLimit, equationLimit, literalCount, signalCount}
 use Rattle.tables.specs.Table.{checked}
 use Rattle.flows.specs.Step.{AfterFresh}
 use Rattle.tables.specs.declared.Checked.the-variants.{Passed}
@@ -25,14 +25,14 @@ use Rattle.agreement.proofs.Answers.{made, passes, answered}
 -- For every cap up to a million, every formula f whose `then`s have leads on their left, whose signals, parameters and
 -- literals are in range, and whose tree has no more records than reading makes, and whatever numbers stand after its
 -- observer in the table: the observer observes f.
-pub observes : (cap : ℕ) → cap ≤ 1000000 → (f : Formula) → leads (raw f) ≡ true → bounded cap (raw f) ≡ true
-    → length (flat (raw f)) ≤ 1920 → (junk : List ℕ)
+pub observes : (cap : ℕ) → cap ≤ literalCount → (f : Formula) → leads (raw f) ≡ true → bounded cap (raw f) ≡ true
+    → length (flat (raw f)) ≤ arenaLimit → (junk : List ℕ)
     → Observes cap (numbersOf (observer f) ++ junk) (length (observer f)) f (nodes (raw f))
 observes cap low f led bound size junk =
     record {
       formed = formed;
       fresh = λ old room. ap (λ (y : AfterFresh). y .answer) (made t n old formed room);
-      agrees = answered cap low 64 few f led bound below junk short;
+      agrees = answered cap low signalCount few f led bound below junk short;
       few = memories-few f junk;
     }
   where
@@ -42,15 +42,15 @@ observes cap low f led bound size junk =
     n : ℕ
     n = length (observer f)
 
-    few : 64 ≤ signalCount
+    few : signalCount ≤ signalCount
     few = omega arith
 
     -- The formula names signals 0 to 63 only.
-    below : (j : ℕ) → names f j ≡ true → j < 64
+    below : (j : ℕ) → names f j ≡ true → j < signalCount
     below j e = names-below cap j f bound e
 
     short : n ≤ equationLimit
     short = observer-size f size
 
     formed : checked t n ≡ Passed
-    formed = passes cap low 64 few f led bound below junk short
+    formed = passes cap low signalCount few f led bound below junk short

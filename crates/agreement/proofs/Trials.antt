@@ -14,7 +14,7 @@ use Rattle.formulas.specs.Raw.{raw}
 use Rattle.formulas.specs.Trials.{Trial, trials}
 use Rattle.tables.specs.Table.{all, kindOf, shapeOf, sameSort, isFlow, operandFits, shapeFits, lengthFits}
 use Rattle.tables.specs.Table.{equationsFit}
-use Rattle.limits.specs.Limits.{standardCap}
+use Rattle.limits.specs.Limits.{arenaLimit, standardCap}
 use Rattle.flows.specs.Flow.{increased, valueOf, flows, written, initial, inRange}
 use Rattle.tables.specs.Table.{isMemory}
 use Rattle.flows.specs.Step.{parameterFits, cellFits, freshChecked, stepChecked, freshened, afterTick, stepped}
@@ -30,7 +30,7 @@ trials-ran = refl
 
 -- What Theorem asks of a formula.
 abbrev covered : Formula → Bool
-covered f = leads (raw f) && (bounded standardCap (raw f) && leb (length (flat (raw f))) 1920)
+covered f = leads (raw f) && (bounded standardCap (raw f) && leb (length (flat (raw f))) arenaLimit)
 
 pub trials-covered : map (λ (r : Trial). covered (r .formula)) trials ≡ map (λ (r : Trial). true) trials
 trials-covered = refl

@@ -68,10 +68,10 @@ fn put_row(t: &mut [u32], o: u32, v: Values, r: Row)
     let x = r.1;
     let y = r.2;
     let z = r.3;
-    let kind = scheme::kind_for(v, k);
-    let a = scheme::value(v, x);
-    let b = scheme::value(v, y);
-    let c = scheme::value(v, z);
+    let kind = nodes::kind_for(v, k);
+    let a = nodes::value(v, x);
+    let b = nodes::value(v, y);
+    let c = nodes::value(v, z);
     put(t, o, kind, a, b, c);
 }
 
@@ -182,7 +182,7 @@ fn values_at(stack: &[u32], places: &[u32], m: Place, x: Record) -> Values
         previous: operand(stack, m.height, 1),
         signal: lists::number_at(places, x.a as usize),
         a: x.a,
-        comparison: scheme::comparison_of(x.b),
+        comparison: nodes::comparison_of(x.b),
         c: x.c,
     }
 }
@@ -194,12 +194,12 @@ fn add_node(table: &mut [u32], stack: &mut [u32], m: Place, v: Values, k: u32) -
     ensures { λ r. ⌜ Added (nodeOf k) v (now (table .entry)) (now (stack .entry)) m (now (table .exit))
         (now (stack .exit)) r ⌝ }
 {
-    let d = scheme::node_of(k);
+    let d = nodes::node_of(k);
     fill(table, v, d);
     let result = d.result;
-    let out = scheme::value(v, result);
+    let out = nodes::value(v, result);
     let next = d.idle;
-    let idle = scheme::value(v, next);
+    let idle = nodes::value(v, next);
     let height = push(stack, m.height, d.takes, out);
     Place {
         next: m.next + d.count,

@@ -8,7 +8,7 @@ use lib.ListN.{length}
 use Rattle.formulas.specs.Formula.{Formula}
 use Rattle.formulas.specs.Tree.{Tree, nodes, formulaOf}
 use Rattle.formulas.specs.Meaning.{verdict}
-use Rattle.limits.specs.Limits.{standardCap}
+use Rattle.limits.specs.Limits.{standardCap, tableRoom}
 use Rattle.flows.specs.Step.{AfterFresh, freshened}
 use Rattle.flows.specs.Run.{Call, answers, ticks, expected}
 use Rattle.agreement.specs.Agreement.{SameParameters, traceOfTicks, Observes}
@@ -41,7 +41,7 @@ record Left (text : List ℕ) (n : ℕ) (after : List ℕ) : Type 0 where
   pub observes : Observes standardCap after n formula (nodes tree)
 
 of-observed : (text before : List ℕ) (n m : ℕ) (after : List ℕ) (t : Tree) (f : Formula) → ruleOf text ≡ rule t
-    → formulaOf t ≡ some f → 16384 ≤ length before → Observes standardCap after m f (nodes t) → m ≡ n
+    → formulaOf t ≡ some f → tableRoom ≤ length before → Observes standardCap after m f (nodes t) → m ≡ n
     → afterCompile (Equations n) after ≡ compiled text before → Left text n after
 of-observed text before n m after t f e is room h number c =
     let whole = c ∙ sym (room-compiled text before t e f is room (observer f) refl) in

@@ -1,5 +1,5 @@
 -- What compiling a text does (document 01: "Compile a text. 1 to 8 as above; 9: the lent table has under 16,384 numbers.").
--- Which table it makes is free in document 01; here it is the observer of crates/agreement/specs/Emit.antt.
+-- Which table it makes is free in document 01; here it is the observer of crates/scheme/specs/Emit.antt.
 -- Definitions only.
 use mathlib.Core.Bool.{cond}
 use mathlib.Core.List.{List, []}
@@ -10,6 +10,7 @@ use lib.ListN.{length}
 use lib.Seq.{sets}
 use Rattle.formulas.specs.Formula.{Formula}
 use Rattle.formulas.specs.Tree.{Tree, formulaOf}
+use Rattle.limits.specs.Limits.{tableRoom}
 use Rattle.tables.specs.Table.{Equation}
 use Rattle.scheme.specs.Emit.{observer, numbersOf}
 use Rattle.rules.specs.Reading.{Outcome, ruleOf}
@@ -38,7 +39,7 @@ stored es table = afterCompile (Equations (length es)) (sets table 0 (numbersOf 
 abbrev pub ofOutcome : Outcome → List ℕ → AfterCompile
 ofOutcome (refused n) table = afterCompile (Refused n) table
 ofOutcome (rule t) table =
-    cond (ltb (length table) 16384) (afterCompile (Refused 9) table) (stored (observerOf (formulaOf t)) table)
+    cond (ltb (length table) tableRoom) (afterCompile (Refused 9) table) (stored (observerOf (formulaOf t)) table)
 
 -- The whole effect of compiling a text into a lent table.
 unfoldable pub compiled : List ℕ → List ℕ → AfterCompile

@@ -9,7 +9,7 @@ use Prim.Native.Nat.{ℕ, _*_, _≤_, _<_}
 use lib.ListN.{length, drop}
 use Rattle.formulas.specs.Formula.{Formula}
 use Rattle.formulas.specs.Tree.{Tree, nodes, formulaOf}
-use Rattle.limits.specs.Limits.{standardCap}
+use Rattle.limits.specs.Limits.{standardCap, tableRoom}
 use Rattle.agreement.specs.Agreement.{Observes}
 use Rattle.rules.specs.Reading.{ruleOf}
 use Rattle.rules.specs.Reading.Outcome.{refused, rule}
@@ -21,8 +21,8 @@ pub data Compiles (text before : List ℕ) : Compiled → List ℕ → Type 0 wh
   -- "1 to 8 as above", the table unchanged
   not-read : {k : ℕ} → ruleOf text ≡ refused k → Compiles text before (Refused k) before
   -- "9: the lent table has under 16,384 numbers", the table unchanged
-  no-room : {t : Tree} → ruleOf text ≡ rule t → length before < 16384 → Compiles text before (Refused 9) before
+  no-room : {t : Tree} → ruleOf text ≡ rule t → length before < tableRoom → Compiles text before (Refused 9) before
   -- Else the table's n equations observe the rule's formula, and all numbers after them are kept.
   observed : {n : ℕ} {after : List ℕ} {t : Tree} {f : Formula} → ruleOf text ≡ rule t → formulaOf t ≡ some f
-      → 16384 ≤ length before → length after ≡ length before → drop (4 * n) after ≡ drop (4 * n) before
+      → tableRoom ≤ length before → length after ≡ length before → drop (4 * n) after ≡ drop (4 * n) before
       → Observes standardCap after n f (nodes t) → Compiles text before (Equations n) after

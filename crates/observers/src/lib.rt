@@ -16,12 +16,12 @@ pub fn compile_rule(text: &[u8], table: &mut [u32]) -> Compiled
     ensures { λ r. ⌜ afterCompile r (now (table .exit)) ≡ compiled (now (text .entry)) (now (table .entry)) ⌝ }
     ensures { λ r. ⌜ Compiles (now (text .entry)) (now (table .entry)) r (now (table .exit)) ⌝ }
 {
-    let mut arena = [0u32; 1920];
+    let mut arena = [0u32; limits::ARENA];
     let records = rules::read_tree(text, &mut arena);
     let Records::Rule(size, _) = records else {
         return Compiled::Refused(rules::records_refusal(records));
     };
-    if table.len() < 16384 {
+    if table.len() < limits::TABLE {
         return Compiled::Refused(9);
     }
     let n = emitter::emit_observer(&arena[..size], table);

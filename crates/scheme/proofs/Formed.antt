@@ -8,6 +8,7 @@ use lib.ListN.{length, length-append}
 use Rattle.formulas.specs.Formula.{Formula}
 use Rattle.formulas.specs.Bounds.{bounded}
 use Rattle.formulas.specs.Raw.{raw}
+use Rattle.tables.specs.Kind.{START, NOT}
 use Rattle.tables.specs.Table.{Equation, kindOf, kindAt, shapeOf, sortOf, sameSort, shapeFits, operandFits}
 use Rattle.tables.specs.Table.{equationFits, checked, all}
 use Rattle.limits.specs.Limits.{equationLimit, literalCount, signalCount}
@@ -54,11 +55,11 @@ module _ (cap : ℕ) (low : cap ≤ literalCount) (m : ℕ) (few : m ≤ signalC
   -- The start flow and its negation stand first,
   start : Before t 1 Boolean 0
   unfolding kindOf shapeOf sameSort
-  start = here t n 0 0 1 (head-kinds .0) refl
+  start = here t n 0 0 START (head-kinds .0) refl
 
   negation : Before t 2 Boolean 1
   unfolding kindOf shapeOf sameSort
-  negation = here t n 0 1 3 (head-kinds .1 .0) refl
+  negation = here t n 0 1 NOT (head-kinds .1 .0) refl
 
   -- and every named signal before the formula's equations.
   named : (j : ℕ) → names f j ≡ true → Before t (bodyPlace m f) Boolean (flowAmong (names f) m j)

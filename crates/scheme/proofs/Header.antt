@@ -12,6 +12,7 @@ use Rattle.formulas.specs.Formula.Prop.{constant, signal, negP, andP, orP}
 use Rattle.formulas.specs.Formula.Formula.{test, len, count, neg, and, or, then}
 use Rattle.formulas.specs.Bounds.{bounded, numBound}
 use Rattle.formulas.specs.Raw.{rawP, raw}
+use Rattle.tables.specs.Kind.{SIGNAL}
 use Rattle.tables.specs.Table.{Equation, kindOf, shapeOf, shapeFits, operandFits}
 use Rattle.limits.specs.Limits.{signalCount}
 use Rattle.scheme.specs.Scheme.{_⊕_, equation}
@@ -25,16 +26,16 @@ use Rattle.scheme.proofs.Roles.{Fits}
 module _ (named : ℕ → Bool) where
   -- What holds of each equation at its place holds of signal j ⊕ i's at the flow that is looked up for it.
   pub signal-at : (R : ℕ → Equation → Type 0) (m j o i : ℕ) → Each R o (signals named j m) → i < m
-      → named (j ⊕ i) ≡ true → R (getD (places named j o m) i 0) (equation 0 (j ⊕ i) 0 0)
+      → named (j ⊕ i) ≡ true → R (getD (places named j o m) i 0) (equation SIGNAL (j ⊕ i) 0 0)
   signal-at R zero j o i h l e = absurd (omega arith)
   signal-at R (suc m) j o zero h l e =
-      subst (λ (x : Bool). Each R o (cond x (equation 0 j 0 0 ∷ signals named (suc j) m) (signals named (suc j) m)))
+      subst (λ (x : Bool). Each R o (cond x (equation SIGNAL j 0 0 ∷ signals named (suc j) m) (signals named (suc j) m)))
       e h .0
   signal-at R (suc m) j o (suc i) h l e =
       rw (← suc-⊕ j i)
       (signal-at R m (suc j) (cond (named j) (suc o) o) i (others (named j) h) (omega arith) (rw suc-⊕ e))
     where
-      others : (x : Bool) → Each R o (cond x (equation 0 j 0 0 ∷ signals named (suc j) m) (signals named (suc j) m))
+      others : (x : Bool) → Each R o (cond x (equation SIGNAL j 0 0 ∷ signals named (suc j) m) (signals named (suc j) m))
           → Each R (cond x (suc o) o) (signals named (suc j) m)
       others true h = h .1
       others false h = h
@@ -44,14 +45,14 @@ module _ (named : ℕ → Bool) where
       → getD (places named j o m) i 0 < after o (signals named j m)
   signal-before zero j o i l e = absurd (omega arith)
   signal-before (suc m) j o zero l e =
-      subst (λ (x : Bool). o < after o (cond x (equation 0 j 0 0 ∷ signals named (suc j) m) (signals named (suc j) m)))
+      subst (λ (x : Bool). o < after o (cond x (equation SIGNAL j 0 0 ∷ signals named (suc j) m) (signals named (suc j) m)))
       (sym e) (after-later (signals named (suc j) m) (suc o))
   signal-before (suc m) j o (suc i) l e =
       others (named j) (λ o. signal-before m (suc j) o i (omega arith) (rw suc-⊕ e))
     where
       others : (x : Bool) → ((o : ℕ) → getD (places named (suc j) o m) i 0 < after o (signals named (suc j) m))
           → getD (places named (suc j) (cond x (suc o) o) m) i 0
-          < after o (cond x (equation 0 j 0 0 ∷ signals named (suc j) m) (signals named (suc j) m))
+          < after o (cond x (equation SIGNAL j 0 0 ∷ signals named (suc j) m) (signals named (suc j) m))
       others true h = h (suc o)
       others false h = h o
 
@@ -62,7 +63,7 @@ module _ (named : ℕ → Bool) where
   signals-fit t N (suc m) j o h = with-first (named j) (λ o. signals-fit t N m (suc j) o (omega arith))
     where
       with-first : (x : Bool) → ((o : ℕ) → Each (Fits t N) o (signals named (suc j) m))
-          → Each (Fits t N) o (cond x (equation 0 j 0 0 ∷ signals named (suc j) m) (signals named (suc j) m))
+          → Each (Fits t N) o (cond x (equation SIGNAL j 0 0 ∷ signals named (suc j) m) (signals named (suc j) m))
       with-first true rest = (record { fits = rw (lt-ltb j signalCount (omega arith)) }, rest (suc o))
       with-first false rest = rest o
 
@@ -72,7 +73,7 @@ module _ (named : ℕ → Bool) where
   signals-length (suc m) j = with-first (named j) (signals-length m (suc j))
     where
       with-first : (x : Bool) → length (signals named (suc j) m) ≤ m
-          → length (cond x (equation 0 j 0 0 ∷ signals named (suc j) m) (signals named (suc j) m)) ≤ suc m
+          → length (cond x (equation SIGNAL j 0 0 ∷ signals named (suc j) m) (signals named (suc j) m)) ≤ suc m
       with-first true h = omega arith
       with-first false h = omega arith
 

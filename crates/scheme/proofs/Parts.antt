@@ -7,6 +7,8 @@ use Prim.Native.Nat.{ℕ}
 use native.Mathlib.Omega.{arith}
 use lib.ListN.{getD, length}
 use Rattle.formulas.specs.Formula.{Formula}
+use Rattle.limits.specs.Limits.{signalCount}
+use Rattle.tables.specs.Kind.{START, NOT}
 use Rattle.tables.specs.Table.{Equation}
 use Rattle.scheme.specs.Scheme.{_⊕_, equation}
 use Rattle.scheme.specs.Emit.{Block, after, emit, names, signals, places, whole-es, observer}
@@ -14,7 +16,7 @@ use Rattle.scheme.proofs.Places.{after-append, after-length}
 
 -- The start flow, its negation, and the named signals among the first m.
 abbrev pub headRows : (ℕ → Bool) → ℕ → List Equation
-headRows named m = equation 1 0 0 0 ∷ equation 3 0 0 0 ∷ signals named 0 m
+headRows named m = equation START 0 0 0 ∷ equation NOT 0 0 0 ∷ signals named 0 m
 
 -- The flow of signal j.
 abbrev pub flowAmong : (ℕ → Bool) → ℕ → ℕ → ℕ
@@ -45,5 +47,5 @@ module _ (m : ℕ) (f : Formula) where
       ∙ after-append (bodyBlock .es) wholeRows bodyPlace)
       ∙ after-length observerOver 0 ∙ omega arith
 
-pub is-observer : (f : Formula) → observerOver 64 f ≡ observer f
+pub is-observer : (f : Formula) → observerOver signalCount f ≡ observer f
 is-observer f = refl

@@ -14,9 +14,10 @@ use Rattle.formulas.specs.Formula.Count.{sum, age}
 use Rattle.formulas.specs.Formula.Formula.{test, len, count, neg, and, or, then}
 use Rattle.formulas.specs.Arena.{flat}
 use Rattle.formulas.specs.Raw.{rawP, raw}
+use Rattle.tables.specs.Kind.{START, NOT}
 use Rattle.tables.specs.Table.{Equation}
-use Rattle.limits.specs.Limits.{equationLimit}
-use Rattle.scheme.specs.Scheme.{_⊕_, equation}
+use Rattle.limits.specs.Limits.{arenaLimit, equationLimit, signalCount}
+use Rattle.scheme.specs.Scheme.{_⊕_, equation, widest}
 use Rattle.scheme.specs.Emit.{after, emitP, emit, names, flowIn, signals, header, whole-es, body, observer}
 use Rattle.scheme.proofs.Header.{signals-length}
 
@@ -31,7 +32,7 @@ module _ (flowOf : ℕ → ℕ) where
   prop-size (orP p q) o =
       simp length-append (omega (arith, prop-size p o, prop-size q (after o (emitP flowOf p o .es))))
 
-  size : (f : Formula) (s n o : ℕ) → 4 * length (emit flowOf f s n o .es) ≤ 5 * length (flat (raw f))
+  size : (f : Formula) (s n o : ℕ) → 4 * length (emit flowOf f s n o .es) ≤ widest * length (flat (raw f))
   size (test begin p) s n o = simp length-append (omega (arith, prop-size p o))
   size (test end p) s n o = simp length-append (omega (arith, prop-size p o))
   size (test point p) s n o = simp length-append (omega (arith, prop-size p o))
@@ -50,20 +51,20 @@ module _ (flowOf : ℕ → ℕ) where
       simp length-append (omega (arith, size l s n o, size f (o′ ⊕ 3) (o′ ⊕ 4) (o′ ⊕ 5)))
 
 -- The header of an observer, and its three parts together.
-header-size : (named : ℕ → Bool) (m : ℕ) → length (equation 1 0 0 0 ∷ equation 3 0 0 0 ∷ signals named 0 m) ≤ m + 2
+header-size : (named : ℕ → Bool) (m : ℕ) → length (equation START 0 0 0 ∷ equation NOT 0 0 0 ∷ signals named 0 m) ≤ m + 2
 header-size named m = omega (arith, signals-length named m 0)
 
 three-size : (xs ys zs : List Equation) (a b c : ℕ) → length xs ≤ a → length ys ≤ b → length zs ≤ c
     → length (xs ++ (ys ++ zs)) ≤ a + b + c
 three-size xs ys zs a b c p q r = simp length-append (omega arith)
 
-body-size : (k m : ℕ) → 4 * k ≤ 5 * m → m ≤ 1920 → k ≤ 2400
+body-size : (k m : ℕ) → 4 * k ≤ widest * m → m ≤ arenaLimit → k ≤ 2400
 body-size k m g h = omega arith
 
-pub observer-size : (f : Formula) → length (flat (raw f)) ≤ 1920 → length (observer f) ≤ equationLimit
+pub observer-size : (f : Formula) → length (flat (raw f)) ≤ arenaLimit → length (observer f) ≤ equationLimit
 observer-size f h =
     let o : ℕ = after 0 (header (names f)) in
     let few = body-size (length (body f .es)) (length (flat (raw f))) (size (flowIn (names f)) f 0 1 o) h in
-    let all = three-size (header (names f)) (body f .es) (whole-es 0 (after o (body f .es)) (body f .out)) 66 2400 4
-    (header-size (names f) 64) few (omega arith) in
+    let all = three-size (header (names f)) (body f .es) (whole-es 0 (after o (body f .es)) (body f .out)) (signalCount + 2) 2400 4
+    (header-size (names f) signalCount) few (omega arith) in
     le-trans all (omega arith)

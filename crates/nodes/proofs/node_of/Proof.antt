@@ -1,13 +1,13 @@
--- `scheme::node_of` meets its contract: each arm gives the node of its own kind. Assumes nothing.
+-- `nodes::node_of` meets its contract: each arm gives the node of its own kind. Assumes nothing.
 use mathlib.Core.Path.{_≡_, sym, ap, _∙_}
 use Prim.Native.Nat.{ℕ}
 use lib.ListN.{List·getD-eq-default}
 use borrow.Author.Needs.{needs}
 use Rattle.tables.proofs.Numbers.{none-below}
 use Rattle.scheme.specs.Scheme.{Node, nodes, nodeCount, noNode, nodeOf, asNode}
 use Rattle.scheme.specs.declared.Node.{Node as CodeNode}
-use Rattle.scheme.proofs.node_of.Statement.{statement}
-use Rattle.scheme.proofs.node_of.Tie as tie
+use Rattle.nodes.proofs.node_of.Statement.{statement}
+use Rattle.nodes.proofs.node_of.Tie as tie
 
 -- The arm of the kind j.
 arm : {k j : ℕ} {d : CodeNode} → k ≡ j → d ≡ asNode (nodeOf j) → d ≡ asNode (nodeOf k)

@@ -1,8 +1,8 @@
--- `scheme::value` meets its contract: by cases on the name. Assumes nothing.
+-- `nodes::value` meets its contract: by cases on the name. Assumes nothing.
 use native.Mathlib.Numerals.{add-one, add-two, add-three, add-four}
 use borrow.Author.Needs.{needs}
-use Rattle.scheme.proofs.value.Statement.{statement}
-use Rattle.scheme.proofs.value.Tie as tie
+use Rattle.nodes.proofs.value.Statement.{statement}
+use Rattle.nodes.proofs.value.Tie as tie
 
 second : tie.Need-returns-10
 second c = rw (c .before .enum-told10 .given .1, add-one)
