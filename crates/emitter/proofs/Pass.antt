@@ -16,7 +16,19 @@ use Rattle.formulas.specs.Arena.{row, flat}
 use Rattle.formulas.proofs.Formulas.{rawP, raw}
 use Rattle.tables.specs.Table.{Equation}
 use Rattle.scheme.specs.Scheme.{_⊕_, Node, nodeOf, beginNode, pointNode, heldNode, keptNode, sumNode, ageNode}
-use Rattle.scheme.specs.Emit.{Block, after, ownFlow, emitP, emit, not-block, join-block, atom-block, not-es, and-es, or-es}
+use Rattle.scheme.specs.Emit.{
+  Block,
+  after,
+  ownFlow,
+  emitP,
+  emit,
+  not-block,
+  join-block,
+  atom-block,
+  not-es,
+  and-es,
+  or-es,
+}
 use Rattle.scheme.specs.Emit.{begin-es, point-es, held-es, kept-es, sum-es, age-es, lead-end-es, then-es}
 use Rattle.emitter.specs.Machine.{written, State, state, before, recordOf}
 use Rattle.emitter.specs.Machine.{valuesAt, applied, step, run}
@@ -134,7 +146,8 @@ module _ (places : List ℕ) where
   run-formula (test end p) r s =
       let x : Block = blockP p s in
       of-test end p r s ∙ ap (run places r) (rw (written-none (done x s .table) (done x s .next)))
-  run-formula (test point p) r s = of-test point p r s ∙ atom-done (point-es (before (s .idle))) pointNode (blockP p s) r s
+  run-formula (test point p) r s = of-test point p r s ∙ atom-done (point-es (before (s .idle))) pointNode
+      (blockP p s) r s
   run-formula (test held p) r s =
       of-test held p r s ∙ atom-done (held-es (before (s .idle)) (s .idle)) heldNode (blockP p s) r s
   run-formula (test kept p) r s = of-test kept p r s ∙ atom-done (kept-es (before (s .idle))) keptNode (blockP p s) r s

@@ -1,6 +1,6 @@
 -- The compiler's pass over the records of a tree (`flat` of formulas, specs/Arena.antt) as a machine: a record's kind
--- picks a node of the observer scheme (scheme, specs/Scheme.antt), and the node's rows are written with their names looked
--- up. No public promise cites this module: it is what the code does, and proofs/ show that what it writes is the
+-- picks a node of the observer scheme (scheme, specs/Scheme.antt), and the node's rows are written with their names
+-- looked up. No public promise cites this module: it is what the code does, and proofs/ show that what it writes is the
 -- `observer` (scheme, specs/Emit.antt). Definitions only.
 use mathlib.Core.Bool.{cond}
 use mathlib.Core.List.{List, [], _∷_}
@@ -121,7 +121,8 @@ headerOf t l o = record { table = t; places = l; next = o }
 -- Signal j: a marked one gets its equation, and in any case its mark gives way to its place.
 unfoldable pub settled : ℕ → Header → Header
 settled j h =
-    headerOf (cond (nonzero (getD (h .places) j 0)) (written (h .table) (h .next) (equation SIGNAL j 0 0 ∷ [])) (h .table))
+    headerOf (cond (nonzero (getD (h .places) j 0)) (written (h .table) (h .next) (equation SIGNAL j 0 0 ∷ []))
+    (h .table))
     (set (h .places) j (h .next)) (cond (nonzero (getD (h .places) j 0)) (suc (h .next)) (h .next))
 
 -- The m signals from j on.

@@ -1,6 +1,6 @@
 // The observer of a rule (document 01, "Compile a text"): one pass over the records of the rule's tree, operands
-// first, as a stack machine. A record's kind picks a node of the observer scheme (crate scheme), and the node's rows go to
-// the table. The pass as a definition is in specs/Machine.antt; that it gives the observer's equations is what
+// first, as a stack machine. A record's kind picks a node of the observer scheme (crate scheme), and the node's rows
+// go to the table. The pass as a definition is in specs/Machine.antt; that it gives the observer's equations is what
 // `emit_observer` promises.
 use scheme::Node;
 use scheme::Row;
@@ -187,8 +187,8 @@ fn values_at(stack: &[u32], places: &[u32], m: Place, x: Record) -> Values
     }
 }
 
-// The node of the kind k: its rows go to the table, its operands come off the stack, its result goes on, and its start is
-// the one from here on.
+// The node of the kind k: its rows go to the table, its operands come off the stack, its result goes on, and its start
+// is the one from here on.
 fn add_node(table: &mut [u32], stack: &mut [u32], m: Place, v: Values, k: u32) -> Place
     requires { ⌜ Room m (now stack) × (v .place ≡ m .next) ⌝ }
     ensures { λ r. ⌜ Added (nodeOf k) v (now (table .entry)) (now (stack .entry)) m (now (table .exit))
@@ -208,8 +208,8 @@ fn add_node(table: &mut [u32], stack: &mut [u32], m: Place, v: Values, k: u32) -
     }
 }
 
-// One record: its kind picks its node. In each arm the kind is a constant, so that the node's rows are found when this is
-// compiled.
+// One record: its kind picks its node. In each arm the kind is a constant, so that the node's rows are found when this
+// is compiled.
 fn enter(table: &mut [u32], stack: &mut [u32], places: &[u32], m: Place, x: Record) -> Place
     requires { ⌜ Room m (now stack) ⌝ }
     ensures { λ r. ⌜ Entered (now (places .entry)) x (now (table .entry)) (now (stack .entry)) m

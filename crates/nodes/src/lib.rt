@@ -1,5 +1,5 @@
-// The nodes of the observer scheme as code: their rows (crate scheme, specs/Scheme.antt), and what the names of a row stand
-// for.
+// The nodes of the observer scheme as code: their rows (crate scheme, specs/Scheme.antt), and what the names of a row
+// stand for.
 use scheme::Name;
 use scheme::Node;
 use scheme::Row;

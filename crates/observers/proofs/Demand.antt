@@ -1,4 +1,5 @@
--- Demand 3 from the text's bytes to the verdicts: the observer of a rule that is read observes its formula. Assumes nothing.
+-- Demand 3 from the text's bytes to the verdicts: the observer of a rule that is read observes its formula. Assumes
+-- nothing.
 use mathlib.Core.Bool.{Bool, true, cond}
 use mathlib.Core.List.{List, _++_}
 use mathlib.Core.Option.{Option, none, some}
@@ -72,10 +73,12 @@ module _ {t : Tree} (k : Known t) where
 
   -- Whatever stands after them, the observer's equations observe the formula.
   pub observes-rule : (junk : List ℕ)
-      → Observes standardCap (numbersOf (observer (k .formula)) ++ junk) (length (observer (k .formula))) (k .formula) (nodes t)
+      → Observes standardCap (numbersOf (observer (k .formula)) ++ junk) (length (observer (k .formula)))
+      (k .formula) (nodes t)
   observes-rule junk =
       let f = k .formula in
-      subst (λ (u : Tree). Observes standardCap (numbersOf (observer f) ++ junk) (length (observer f)) f (nodes u)) (sym (k .tree))
+      subst (λ (u : Tree). Observes standardCap (numbersOf (observer f) ++ junk) (length (observer f)) f (nodes u))
+      (sym (k .tree))
       (observes standardCap (omega arith) f led-raw bound-raw small-raw junk)
 
 -- ---- the effect of compiling
@@ -92,7 +95,8 @@ module _ (text before : List ℕ) where
     unfolding compiled
     short-compiled h =
         sym (ap (λ (o : Outcome). ofOutcome o before) e
-        ∙ ap (λ (b : Bool). cond b (afterCompile (Refused 9) before) (stored (observerOf (formulaOf t)) before)) (lt-ltb _ _ h))
+        ∙ ap (λ (b : Bool). cond b (afterCompile (Refused 9) before) (stored (observerOf (formulaOf t)) before))
+        (lt-ltb _ _ h))
 
     -- Long enough a table, with the observer es of the formula f at its front.
     module _ (f : Formula) (is : formulaOf t ≡ some f) (room : tableRoom ≤ length before) where
@@ -101,10 +105,12 @@ module _ (text before : List ℕ) where
       room-compiled es same =
           ap (λ (x : List Equation). stored x before) (sym same)
           ∙ sym (ap (λ (o : Outcome). ofOutcome o before) e
-          ∙ ap (λ (b : Bool). cond b (afterCompile (Refused 9) before) (stored (observerOf (formulaOf t)) before)) (le-ltb _ _ room)
+          ∙ ap (λ (b : Bool). cond b (afterCompile (Refused 9) before) (stored (observerOf (formulaOf t)) before))
+          (le-ltb _ _ room)
           ∙ ap (λ (x : Option Formula). stored (observerOf x) before) is)
 
-      pub room-compiles : (es : List Equation) → sets before 0 (numbersOf es) ≡ numbersOf es ++ drop (4 * length es) before
+      pub room-compiles : (es : List Equation) → sets before 0 (numbersOf es) ≡ numbersOf es ++ drop (4 * length es)
+          before
           → Observes standardCap (numbersOf es ++ drop (4 * length es) before) (length es) f (nodes t)
           → Compiles text before (Equations (length es)) (sets before 0 (numbersOf es))
       room-compiles es front h =
@@ -128,5 +134,6 @@ emitted-rule text before t e room arena r after same h =
           ∙ room-compiled text before t e f (k .is) room (observer f) refl,
       subst₂ (λ (n : ℕ) (l : List ℕ). Compiles text before (Equations n) l) (sym many) (sym written)
           (room-compiles text before t e f (k .is) room (observer f)
-          (observer-front f before (observer-size f (small-raw k)) room) (observes-rule k (drop (4 * length (observer f)) before))),
+          (observer-front f before (observer-size f (small-raw k)) room)
+          (observes-rule k (drop (4 * length (observer f)) before))),
     )

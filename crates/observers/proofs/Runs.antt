@@ -1,6 +1,6 @@
 -- The trial runs P1 to P13 on compiled tables: of every row (formulas, specs/Trials.antt) the text is read, and the
--- answers of its observer's table, from a fresh state over any old cells of 7, are the row's verdicts. That the texts are
--- read is `rules`' theorem; the rest is computed. Assumes nothing.
+-- answers of its observer's table, from a fresh state over any old cells of 7, are the row's verdicts. That the texts
+-- are read is `rules`' theorem; the rest is computed. Assumes nothing.
 use mathlib.Core.List.{List, [], map}
 use mathlib.Core.Path.{_≡_, refl, _∙_}
 use Prim.Native.Nat.{ℕ}

@@ -27,7 +27,8 @@ use Rattle.observers.specs.declared.Compiled.the-variants.{Equations, Re
 pub alike : (n : ℕ) (t u : List ℕ) (f : Formula) (k m : ℕ) → Observes standardCap t n f k → Observes standardCap u n f m
     → (old old′ : List ℕ) → n ≤ length old → n ≤ length old′ → (ps : List ℕ) (calls : List Call)
     → SameParameters ps (ticks standardCap n calls)
-    → answers standardCap t n (freshened t n old .state) calls ≡ answers standardCap u n (freshened u n old′ .state) calls
+    → answers standardCap t n (freshened t n old .state) calls ≡ answers standardCap u n (freshened u n old′ .state)
+    calls
 alike n t u f k m h h′ old old′ room room′ ps calls same =
     h .agrees old room ps calls same ∙ sym (h′ .agrees old′ room′ ps calls same)
 
@@ -71,7 +72,8 @@ pub same-answers : (a b : List ℕ) → SameRule a b → (before before′ : Lis
     → afterCompile (Equations m) u ≡ compiled b before′ → Compiles b before′ (Equations m) u
     → (n ≡ m) × ((old old′ : List ℕ) → n ≤ length old → m ≤ length old′ → (ps : List ℕ) (calls : List Call)
     → SameParameters ps (ticks standardCap n calls)
-    → answers standardCap t n (freshened t n old .state) calls ≡ answers standardCap u m (freshened u m old′ .state) calls)
+    → answers standardCap t n (freshened t n old .state) calls ≡ answers standardCap u m (freshened u m old′ .state)
+    calls)
 same-answers a b same before before′ n m t u c h c′ h′ =
     let x = left a before n t (Equations n) h refl c in
     let y = left b before′ m u (Equations m) h′ refl c′ in
@@ -81,7 +83,8 @@ same-answers a b same before before′ n m t u c h c′ h′ =
     equal (x .is-formula) (y .is-formula) (x .is-read) (y .is-read) (one .1) (one .2) in
     let numbers : n ≡ m = x .many ∙ ap (λ (g : Formula). length (observer g)) formulas ∙ sym (y .many) in
     let observes : Observes standardCap u n f (nodes (y .tree)) =
-    subst₂ (λ (i : ℕ) (g : Formula). Observes standardCap u i g (nodes (y .tree))) (sym numbers) (sym formulas) (y .observes) in (
+    subst₂ (λ (i : ℕ) (g : Formula). Observes standardCap u i g (nodes (y .tree))) (sym numbers) (sym formulas)
+    (y .observes) in (
       numbers,
       λ old old′ room room′ ps calls params.
           alike n t u f _ _ (x .observes) observes old old′ room (omega arith) ps calls params

@@ -1,5 +1,5 @@
--- What compiling a text does (document 01: "Compile a text. 1 to 8 as above; 9: the lent table has under 16,384 numbers.").
--- Which table it makes is free in document 01; here it is the observer of crates/scheme/specs/Emit.antt.
+-- What compiling a text does (document 01: "Compile a text. 1 to 8 as above; 9: the lent table has under 16,384
+-- numbers."). Which table it makes is free in document 01; here it is the observer of crates/scheme/specs/Emit.antt.
 -- Definitions only.
 use mathlib.Core.Bool.{cond}
 use mathlib.Core.List.{List, []}

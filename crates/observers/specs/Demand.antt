@@ -1,7 +1,7 @@
--- Demand 3 of a text, the table and n that compiling it gave: "For every rule that is read and compiled, and for every list
--- of steps on its table from the fresh state, refused ones included, the number of ticks at which the step's verdict and
--- document 01's interval meaning disagree is nought". `Observes` (crates/agreement/specs/Agreement.antt) is the statement
--- about the list of steps. Definitions only.
+-- Demand 3 of a text, the table and n that compiling it gave: "For every rule that is read and compiled, and for every
+-- list of steps on its table from the fresh state, refused ones included, the number of ticks at which the step's
+-- verdict and document 01's interval meaning disagree is nought". `Observes` (crates/agreement/specs/Agreement.antt)
+-- is the statement about the list of steps. Definitions only.
 use mathlib.Core.List.{List}
 use mathlib.Core.Option.{some}
 use mathlib.Core.Path.{_≡_}
@@ -16,7 +16,8 @@ use Rattle.rules.specs.Reading.Outcome.{refused, rule}
 use Rattle.observers.specs.declared.Compiled.{Compiled}
 use Rattle.observers.specs.declared.Compiled.the-variants.{Equations, Refused}
 
--- Compiling a text into a table: the answer, and the table before and after. It says nothing of how equations are chosen.
+-- Compiling a text into a table: the answer, and the table before and after. It says nothing of how equations are
+-- chosen.
 pub data Compiles (text before : List ℕ) : Compiled → List ℕ → Type 0 where
   -- "1 to 8 as above", the table unchanged
   not-read : {k : ℕ} → ruleOf text ≡ refused k → Compiles text before (Refused k) before

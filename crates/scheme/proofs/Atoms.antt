@@ -116,7 +116,8 @@ module _ (cap : ℕ) (trace : Trace) (flow : ℕ → ℕ → ℕ) where
 
   -- The comparison of a held count, where the parameters are below the cap.
   pub compare-is : ((k j : ℕ) → j < parameterCount → parameterAt (trace k) j < cap) → (i a : ℕ) (op : Op) (x : Num)
-      → numBound cap x ≡ true → Stand cap trace flow i (equation (comparisonOf (numKind x)) a (opNumber op) (numValue x) ∷ [])
+      → numBound cap x ≡ true → Stand cap trace flow i
+      (equation (comparisonOf (numKind x)) a (opNumber op) (numValue x) ∷ [])
       → (k c : ℕ) → flow k a ≡ min cap c → on flow i k ≡ compares op c (value x (trace k))
   unfolding kindOf
   compare-is small i a op (literal n) bound h k c e =

@@ -1,4 +1,5 @@
--- The closing rows: started since the latest start and not before any, so the last flow is the verdict. Assumes nothing.
+-- The closing rows: started since the latest start and not before any, so the last flow is the verdict. Assumes
+-- nothing.
 use mathlib.Core.Bool.{Bool, true, false, not, _||_}
 use mathlib.Core.Option.{Option}
 use mathlib.Core.Path.{_≡_, ap, _∙_}

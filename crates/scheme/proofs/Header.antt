@@ -29,13 +29,15 @@ module _ (named : ℕ → Bool) where
       → named (j ⊕ i) ≡ true → R (getD (places named j o m) i 0) (equation SIGNAL (j ⊕ i) 0 0)
   signal-at R zero j o i h l e = absurd (omega arith)
   signal-at R (suc m) j o zero h l e =
-      subst (λ (x : Bool). Each R o (cond x (equation SIGNAL j 0 0 ∷ signals named (suc j) m) (signals named (suc j) m)))
+      subst (λ (x : Bool). Each R o
+      (cond x (equation SIGNAL j 0 0 ∷ signals named (suc j) m) (signals named (suc j) m)))
       e h .0
   signal-at R (suc m) j o (suc i) h l e =
       rw (← suc-⊕ j i)
       (signal-at R m (suc j) (cond (named j) (suc o) o) i (others (named j) h) (omega arith) (rw suc-⊕ e))
     where
-      others : (x : Bool) → Each R o (cond x (equation SIGNAL j 0 0 ∷ signals named (suc j) m) (signals named (suc j) m))
+      others : (x : Bool) → Each R o
+          (cond x (equation SIGNAL j 0 0 ∷ signals named (suc j) m) (signals named (suc j) m))
           → Each R (cond x (suc o) o) (signals named (suc j) m)
       others true h = h .1
       others false h = h
@@ -45,7 +47,8 @@ module _ (named : ℕ → Bool) where
       → getD (places named j o m) i 0 < after o (signals named j m)
   signal-before zero j o i l e = absurd (omega arith)
   signal-before (suc m) j o zero l e =
-      subst (λ (x : Bool). o < after o (cond x (equation SIGNAL j 0 0 ∷ signals named (suc j) m) (signals named (suc j) m)))
+      subst (λ (x : Bool). o < after o
+      (cond x (equation SIGNAL j 0 0 ∷ signals named (suc j) m) (signals named (suc j) m)))
       (sym e) (after-later (signals named (suc j) m) (suc o))
   signal-before (suc m) j o (suc i) l e =
       others (named j) (λ o. signal-before m (suc j) o i (omega arith) (rw suc-⊕ e))

@@ -1,5 +1,6 @@
--- What the equations of an observer are, tick by tick: well formed, few, with few memories, and in all flows that satisfy
--- them each node's result is its meaning from the latest start on. What that is over lists of calls is `agreement`'s.
+-- What the equations of an observer are, tick by tick: well formed, few, with few memories, and in all flows that
+-- satisfy them each node's result is its meaning from the latest start on. What that is over lists of calls is
+-- `agreement`'s.
 --
 -- Intervals, and equations at their places:
 pub mod Offsets

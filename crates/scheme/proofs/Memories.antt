@@ -104,7 +104,8 @@ module _ (flowOf : ℕ → ℕ) where
 
 -- ---- counted over an observer
 
-counted-header : (named : ℕ → Bool) (m : ℕ) → counted (equation START 0 0 0 ∷ equation NOT 0 0 0 ∷ signals named 0 m) ≡ 0
+counted-header : (named : ℕ → Bool) (m : ℕ) → counted
+    (equation START 0 0 0 ∷ equation NOT 0 0 0 ∷ signals named 0 m) ≡ 0
 unfolding kindOf isMemory
 counted-header named m = omega (arith, counted-signals named m 0)
 

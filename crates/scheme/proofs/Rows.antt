@@ -70,7 +70,8 @@ module _ (t : List ℕ) (N o : ℕ) where
   plays (used b) = b
 
   -- Rows at o, where A is below ba and C below bc.
-  module _ (v : Values) (placed : v .place ≡ o) {rn rs rp rq : Role} (gn : Given rn (v .idle)) (gs : Given rs (v .start))
+  module _ (v : Values) (placed : v .place ≡ o) {rn rs rp rq : Role} (gn : Given rn (v .idle))
+      (gs : Given rs (v .start))
       (gp : Given rp (v .last)) (gq : Given rq (v .previous)) where
     numbers-fit : (ba bc : ℕ) (rows : List Row) → v .a < ba → v .c < bc → o ⊕ length rows ≤ N
         → Kinded (filled v rows) → rowsOk v (rolesOf rn rs rp rq ba bc) rows ≡ true → Each (Fits t N) o (filled v rows)
@@ -126,7 +127,8 @@ module _ (t : List ℕ) (N o : ℕ) where
   pub constant-fine : (c : Bool) → o ⊕ 1 ≤ N → Kinded (constant-es c o) → Fine (constant-es c o) (o ⊕ 1) o
   unfolding all kindOf shapeOf sameSort
   constant-fine c room k = (
-    numbers-fit (constantAt o c) refl unused unused unused unused truthCount 1 constantRows (truth-below c) (omega arith)
+    numbers-fit (constantAt o c) refl unused unused unused unused truthCount 1 constantRows (truth-below c)
+        (omega arith)
         room k refl,
     here o CONSTANT (k .0) refl,
   )

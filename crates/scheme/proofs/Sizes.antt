@@ -51,7 +51,8 @@ module _ (flowOf : ℕ → ℕ) where
       simp length-append (omega (arith, size l s n o, size f (o′ ⊕ 3) (o′ ⊕ 4) (o′ ⊕ 5)))
 
 -- The header of an observer, and its three parts together.
-header-size : (named : ℕ → Bool) (m : ℕ) → length (equation START 0 0 0 ∷ equation NOT 0 0 0 ∷ signals named 0 m) ≤ m + 2
+header-size : (named : ℕ → Bool) (m : ℕ) → length (equation START 0 0 0 ∷ equation NOT 0 0 0 ∷ signals named 0 m) ≤
+    m + 2
 header-size named m = omega (arith, signals-length named m 0)
 
 three-size : (xs ys zs : List Equation) (a b c : ℕ) → length xs ≤ a → length ys ≤ b → length zs ≤ c
@@ -65,6 +66,7 @@ pub observer-size : (f : Formula) → length (flat (raw f)) ≤ arenaLimit → l
 observer-size f h =
     let o : ℕ = after 0 (header (names f)) in
     let few = body-size (length (body f .es)) (length (flat (raw f))) (size (flowIn (names f)) f 0 1 o) h in
-    let all = three-size (header (names f)) (body f .es) (whole-es 0 (after o (body f .es)) (body f .out)) (signalCount + 2) 2400 4
+    let all = three-size (header (names f)) (body f .es) (whole-es 0 (after o (body f .es)) (body f .out))
+    (signalCount + 2) 2400 4
     (header-size (names f) signalCount) few (omega arith) in
     le-trans all (omega arith)

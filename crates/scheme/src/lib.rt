@@ -1,5 +1,5 @@
-// The observer scheme: the types of its rows and nodes, which definitions and code share. specs/Scheme.antt has the rows of
-// each node, specs/Emit.antt makes a formula's observer of them, crate nodes has them as code.
+// The observer scheme: the types of its rows and nodes, which definitions and code share. specs/Scheme.antt has the
+// rows of each node, specs/Emit.antt makes a formula's observer of them, crate nodes has them as code.
 
 // What a number of a row stands for.
 pub enum Name {

@@ -52,7 +52,8 @@ after-2 : (c : tie.After-slice-known3) →
 after-2 c =
     let args = start-2 c .args in
     let d : Node = args .d in
-    row-more (args .t .now) (args .v) (d .first ∷ []) (d .second) (after-1 (from-2 c .before)) (c .before .before .put-row2 .ensures)
+    row-more (args .t .now) (args .v) (d .first ∷ []) (d .second) (after-1 (from-2 c .before))
+    (c .before .before .put-row2 .ensures)
 
 after-3 : (c : tie.After-slice-known4) →
     let args = start-3 c .args in
@@ -61,25 +62,30 @@ after-3 : (c : tie.After-slice-known4) →
 after-3 c =
     let args = start-3 c .args in
     let d : Node = args .d in
-    row-more (args .t .now) (args .v) (d .first ∷ d .second ∷ []) (d .third) (after-2 (from-3 c .before)) (c .before .before .put-row3 .ensures)
+    row-more (args .t .now) (args .v) (d .first ∷ d .second ∷ []) (d .third) (after-2 (from-3 c .before))
+    (c .before .before .put-row3 .ensures)
 
 after-4 : (c : tie.After-slice-known5) →
     let args = start-4 c .args in
     let d : Node = args .d in
-    RowsWritten (args .t .now) (args .v) (d .first ∷ d .second ∷ d .third ∷ d .fourth ∷ []) (c .before .before .put-row4 .last .0)
+    RowsWritten (args .t .now) (args .v) (d .first ∷ d .second ∷ d .third ∷ d .fourth ∷ [])
+    (c .before .before .put-row4 .last .0)
 after-4 c =
     let args = start-4 c .args in
     let d : Node = args .d in
-    row-more (args .t .now) (args .v) (d .first ∷ d .second ∷ d .third ∷ []) (d .fourth) (after-3 (from-4 c .before)) (c .before .before .put-row4 .ensures)
+    row-more (args .t .now) (args .v) (d .first ∷ d .second ∷ d .third ∷ []) (d .fourth)
+    (after-3 (from-4 c .before)) (c .before .before .put-row4 .ensures)
 
 after-5 : (c : tie.After-slice-known6) →
     let args = start-5 c .args in
     let d : Node = args .d in
-    RowsWritten (args .t .now) (args .v) (d .first ∷ d .second ∷ d .third ∷ d .fourth ∷ d .fifth ∷ []) (c .before .before .put-row5 .last .0)
+    RowsWritten (args .t .now) (args .v) (d .first ∷ d .second ∷ d .third ∷ d .fourth ∷ d .fifth ∷ [])
+    (c .before .before .put-row5 .last .0)
 after-5 c =
     let args = start-5 c .args in
     let d : Node = args .d in
-    row-more (args .t .now) (args .v) (d .first ∷ d .second ∷ d .third ∷ d .fourth ∷ []) (d .fifth) (after-4 (from-5 c .before)) (c .before .before .put-row5 .ensures)
+    row-more (args .t .now) (args .v) (d .first ∷ d .second ∷ d .third ∷ d .fourth ∷ []) (d .fifth)
+    (after-4 (from-5 c .before)) (c .before .before .put-row5 .ensures)
 
 returns : tie.Need-returns
 returns c =
