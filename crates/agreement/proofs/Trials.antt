@@ -15,7 +15,7 @@ use Rattle.formulas.specs.Trials.{Trial, trials}
 use Rattle.tables.specs.Table.{all, kindOf, shapeOf, sameSort, isFlow, operandFits, shapeFits, lengthFits}
 use Rattle.tables.specs.Table.{equationsFit}
 use Rattle.limits.specs.Limits.{arenaLimit, standardCap}
-use Rattle.flows.specs.Flow.{increased, valueOf, flows, written, initial, inRange}
+use Rattle.flows.specs.Flow.{increased, valueOf, flows, memoriesSet, initial, inRange}
 use Rattle.tables.specs.Table.{isMemory}
 use Rattle.flows.specs.Step.{parameterFits, cellFits, freshChecked, stepChecked, freshened, afterTick, stepped}
 use Rattle.flows.specs.Run.{answers}
@@ -24,7 +24,7 @@ use Rattle.agreement.specs.Trials.{ran}
 
 pub trials-ran : map ran trials ≡ map (λ (r : Trial). map Verdict (r .verdicts)) trials
 unfolding all kindOf shapeOf sameSort isFlow operandFits shapeFits lengthFits equationsFit
-    increased valueOf flows isMemory written initial inRange
+    increased valueOf flows isMemory memoriesSet initial inRange
     parameterFits cellFits freshChecked stepChecked freshened afterTick stepped answers
 trials-ran = refl
 

@@ -13,8 +13,8 @@ use Rattle.tables.specs.Kind.{SIGNAL, START, NOT}
 use Rattle.tables.specs.Table.{Equation}
 use Rattle.limits.specs.Limits.{signalCount}
 use Rattle.scheme.specs.Scheme.{equation}
-use Rattle.scheme.specs.Emit.{after, signals, places}
-use Rattle.emitter.specs.Machine.{written, Header, headerOf, settled, settle}
+use Rattle.scheme.specs.Emit.{placeAfter, signals, places}
+use Rattle.emitter.specs.Machine.{withEquations, Header, headerOf, settled, settle}
 use Rattle.emitter.specs.Contract.{Headed}
 use Rattle.emitter.proofs.Written.{written-append}
 
@@ -22,14 +22,14 @@ use Rattle.emitter.proofs.Written.{written-append}
 abbrev pub first-two : List Equation
 first-two = equation START 0 0 0 ∷ equation NOT 0 0 0 ∷ []
 
-pub first-two-is : (t : List ℕ) {t₁ t₂ : List ℕ} → t₁ ≡ written t 0 (equation START 0 0 0 ∷ [])
-    → t₂ ≡ written t₁ 1 (equation NOT 0 0 0 ∷ []) → t₂ ≡ written t 0 first-two
+pub first-two-is : (t : List ℕ) {t₁ t₂ : List ℕ} → t₁ ≡ withEquations t 0 (equation START 0 0 0 ∷ [])
+    → t₂ ≡ withEquations t₁ 1 (equation NOT 0 0 0 ∷ []) → t₂ ≡ withEquations t 0 first-two
 first-two-is t e₁ e₂ = rw (e₂, e₁, written-append (equation START 0 0 0 ∷ []) (equation NOT 0 0 0 ∷ []) t 0)
 
 -- ---- one signal
 
 pub settled-named : (t named : List ℕ) (j o flag : ℕ) {t′ named′ : List ℕ} → flag ≡ getD named j 0 → (flag ≡ 0 → ⊥)
-    → named′ ≡ set named j o → t′ ≡ written t o (equation SIGNAL j 0 0 ∷ [])
+    → named′ ≡ set named j o → t′ ≡ withEquations t o (equation SIGNAL j 0 0 ∷ [])
     → headerOf t′ named′ (o + 1) ≡ settled j (headerOf t named o)
 unfolding settled
 settled-named t named j o zero e h e-named e-t = absurd (h refl)
@@ -80,7 +80,7 @@ settling-one {m} {t₀} {named₀} {o₀} {t} {named} {o} {j} {t′} {named′} 
       left = ap (settle (m - (j + 1)) (j + 1)) d ∙ rw (add-one j) (rw (one, add-one j) at (e .left));
     }
 
-pub settling-all : {t named t₀ t′ named′ : List ℕ} {o j : ℕ} → t₀ ≡ written t 0 first-two
+pub settling-all : {t named t₀ t′ named′ : List ℕ} {o j : ℕ} → t₀ ≡ withEquations t 0 first-two
     → Settling signalCount t₀ named 2 t′ named′ o j → signalCount ≤ j → Headed t named t′ named′ o
 unfolding settle
 settling-all {named = named} {j = j} e-t e h =
@@ -95,7 +95,7 @@ settling-all {named = named} {j = j} e-t e h =
 -- Signal j, whose mark is x.
 settled-at : (done : List ℕ) (x : ℕ) (rest t : List ℕ) (o j : ℕ) → length done ≡ j →
     settled j (headerOf t (done ++ (x ∷ rest)) o)
-    ≡ headerOf (cond (nonzero x) (written t o (equation SIGNAL j 0 0 ∷ [])) t) ((done ++ (o ∷ [])) ++ rest)
+    ≡ headerOf (cond (nonzero x) (withEquations t o (equation SIGNAL j 0 0 ∷ [])) t) ((done ++ (o ∷ [])) ++ rest)
     (cond (nonzero x) (suc o) o)
 unfolding settled
 settled-at done x rest t o j e =
@@ -103,9 +103,11 @@ settled-at done x rest t o j e =
 
 -- Its equation before those of the m signals after it.
 signals-one : (ν : ℕ → Bool) (done t : List ℕ) (o j m : ℕ) (b : Bool) → ν j ≡ b →
-    headerOf (written (cond b (written t o (equation SIGNAL j 0 0 ∷ [])) t) (cond b (suc o) o) (signals ν (suc j) m))
-    ((done ++ (o ∷ [])) ++ places ν (suc j) (cond b (suc o) o) m) (after (cond b (suc o) o) (signals ν (suc j) m))
-    ≡ headerOf (written t o (signals ν j (suc m))) (done ++ places ν j o (suc m)) (after o (signals ν j (suc m)))
+    headerOf (withEquations (cond b (withEquations t o (equation SIGNAL j 0 0 ∷ [])) t) (cond b (suc o) o)
+    (signals ν (suc j) m))
+    ((done ++ (o ∷ [])) ++ places ν (suc j) (cond b (suc o) o) m) (placeAfter (cond b (suc o) o) (signals ν (suc j) m))
+    ≡ headerOf (withEquations t o (signals ν j (suc m))) (done ++ places ν j o (suc m))
+    (placeAfter o (signals ν j (suc m)))
 signals-one ν done t o j m true e =
     rw (
       e,
@@ -117,9 +119,9 @@ signals-one ν done t o j m false e = rw (e, append-assoc done (o ∷ []) (place
 pub settle-is : (ν : ℕ → Bool) (rest done t : List ℕ) (o j : ℕ) → length done ≡ j
     → ((i : ℕ) → i < length rest → ν (j + i) ≡ nonzero (getD rest i 0)) →
     settle (length rest) j (headerOf t (done ++ rest) o)
-    ≡ headerOf (written t o (signals ν j (length rest))) (done ++ places ν j o (length rest))
-    (after o (signals ν j (length rest)))
-unfolding settle written
+    ≡ headerOf (withEquations t o (signals ν j (length rest))) (done ++ places ν j o (length rest))
+    (placeAfter o (signals ν j (length rest)))
+unfolding settle withEquations
 settle-is ν [] done t o j e h = refl
 settle-is ν (x ∷ rest) done t o j e h =
     let m : ℕ = length rest in
@@ -127,7 +129,7 @@ settle-is ν (x ∷ rest) done t o j e h =
     let those : (i : ℕ) → i < m → ν (suc j + i) ≡ nonzero (getD rest i 0) =
     λ i k. ap ν (suc-add j i ∙ sym (add-suc j i)) ∙ h (suc i) (omega arith) in
     let long : length (done ++ (o ∷ [])) ≡ suc j = length-append done (o ∷ []) ∙ rw e (omega arith) in
-    let t′ : List ℕ = cond (nonzero x) (written t o (equation SIGNAL j 0 0 ∷ [])) t in
+    let t′ : List ℕ = cond (nonzero x) (withEquations t o (equation SIGNAL j 0 0 ∷ [])) t in
     let o′ : ℕ = cond (nonzero x) (suc o) o in
     ap (settle m (suc j)) (settled-at done x rest t o j e)
     ∙ settle-is ν rest (done ++ (o ∷ [])) t′ o′ (suc j) long those

@@ -18,7 +18,7 @@ use Rattle.tables.specs.Table.{Equation}
 use Rattle.scheme.specs.Scheme.{_⊕_, Node, nodeOf, beginNode, pointNode, heldNode, keptNode, sumNode, ageNode}
 use Rattle.scheme.specs.Emit.{
   Block,
-  after,
+  placeAfter,
   ownFlow,
   emitP,
   emit,
@@ -30,7 +30,7 @@ use Rattle.scheme.specs.Emit.{
   or-es,
 }
 use Rattle.scheme.specs.Emit.{begin-es, point-es, held-es, kept-es, sum-es, age-es, lead-end-es, then-es}
-use Rattle.emitter.specs.Machine.{written, State, state, before, recordOf}
+use Rattle.emitter.specs.Machine.{withEquations, State, state, before, recordOf}
 use Rattle.emitter.specs.Machine.{valuesAt, applied, step, run}
 use Rattle.scheme.proofs.Places.{after-append}
 use Rattle.emitter.proofs.Written.{written-none, written-append}
@@ -39,7 +39,7 @@ use Rattle.emitter.proofs.Written.{written-none, written-append}
 
 -- Equations written at the next place, with another start and another stack.
 abbrev all : State → List Equation → ℕ → List ℕ → State
-all s es n st = state (written (s .table) (s .next) es) (after (s .next) es) n st
+all s es n st = state (withEquations (s .table) (s .next) es) (placeAfter (s .next) es) n st
 
 -- A block's equations written at the next place, its result on the stack.
 abbrev pub done : Block → State → State
@@ -75,30 +75,31 @@ module _ (places : List ℕ) where
   -- The equations of `not` after its operand's, of `and` and `or` after theirs, an atom's after its proposition's.
   not-done : (x : Block) (r : List ℕ) (s : State) →
       run places r
-      (all (done x s) (not-es (after (s .next) (x .es)) (x .out)) (s .idle) (after (s .next) (x .es) ∷ s .stack))
+      (all (done x s) (not-es (placeAfter (s .next) (x .es)) (x .out)) (s .idle)
+      (placeAfter (s .next) (x .es) ∷ s .stack))
       ≡ run places r (done (not-block (s .next) x) s)
   not-done x r s =
-      let o : ℕ = after (s .next) (x .es) in
+      let o : ℕ = placeAfter (s .next) (x .es) in
       ap (run places r)
       (joined s (x .es) (not-es o (x .out)) (s .idle) (s .idle) (x .out ∷ s .stack) (o ∷ s .stack))
 
   join-done : (join : ℕ → ℕ → ℕ → List Equation) (x y : Block) (r : List ℕ) (s : State) →
-      (let o : ℕ = after (after (s .next) (x .es)) (y .es) in
+      (let o : ℕ = placeAfter (placeAfter (s .next) (x .es)) (y .es) in
       run places r (all (done y (done x s)) (join o (x .out) (y .out)) (s .idle) (o ∷ s .stack))
       ≡ run places r (done (join-block join (s .next) x y) s))
   join-done join x y r s =
-      let o : ℕ = after (after (s .next) (x .es)) (y .es) in
+      let o : ℕ = placeAfter (placeAfter (s .next) (x .es)) (y .es) in
       let st : List ℕ = x .out ∷ s .stack in
       ap (run places r)
       (joined (done x s) (y .es) (join o (x .out) (y .out)) (s .idle) (s .idle) (y .out ∷ st) (o ∷ s .stack)
       ∙ joined s (x .es) (y .es ++ join o (x .out) (y .out)) (s .idle) (s .idle) st (o ∷ s .stack))
 
   atom-done : (rest : ℕ → ℕ → List Equation) (d : Node) (x : Block) (r : List ℕ) (s : State) →
-      (let o : ℕ = after (s .next) (x .es) in
+      (let o : ℕ = placeAfter (s .next) (x .es) in
       run places r (all (done x s) (rest o (x .out)) (s .idle) (ownFlow o (d .result) ∷ s .stack))
       ≡ run places r (done (atom-block rest d (s .next) x) s))
   atom-done rest d x r s =
-      let o : ℕ = after (s .next) (x .es) in
+      let o : ℕ = placeAfter (s .next) (x .es) in
       ap (run places r)
       (joined s (x .es) (rest o (x .out)) (s .idle) (s .idle) (x .out ∷ s .stack) (ownFlow o (d .result) ∷ s .stack))
 
@@ -166,11 +167,11 @@ module _ (places : List ℕ) where
   -- s₁ is the state after the end of the lead: the second part's start, with the present one on the stack.
   run-formula (then f g) r s =
       let x : Block = block f s in
-      let o₁ : ℕ = after (s .next) (x .es) in
+      let o₁ : ℕ = placeAfter (s .next) (x .es) in
       let end-es : List Equation = lead-end-es (s .idle) o₁ (x .out) in
       let s₁ : State = all (done x s) end-es (o₁ ⊕ 4) (s .idle ∷ s .stack) in
       let y : Block = block g s₁ in
-      let o₂ : ℕ = after (o₁ ⊕ 5) (y .es) in
+      let o₂ : ℕ = placeAfter (o₁ ⊕ 5) (y .es) in
       let rest-es : List Equation = then-es (s .idle) o₂ (o₁ ⊕ 3) (y .out) in
       let st : List ℕ = (o₂ ⊕ 3) ∷ s .stack in
       let rest : List ℕ = row LEAD-END 0 0 0 ++ (flat (raw g) ++ row THEN 0 0 0) in

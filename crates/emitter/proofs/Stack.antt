@@ -13,7 +13,7 @@ use Rattle.scheme.specs.declared.Row.{Row}
 use Rattle.scheme.specs.declared.Values.{Values}
 use Rattle.scheme.proofs.Offsets.{⊕-add}
 use Rattle.scheme.proofs.ByKind.{rows-few, own-rows}
-use Rattle.emitter.specs.Machine.{written, before, stacked, valuesAt, applied, step}
+use Rattle.emitter.specs.Machine.{withEquations, before, stacked, valuesAt, applied, step}
 use Rattle.emitter.specs.Contract.{Pushed, Added, Entered}
 use Rattle.emitter.specs.declared.Place.{Place}
 use Rattle.emitter.specs.declared.Record.{Record}
@@ -74,7 +74,7 @@ pushed {stack} {h} {t} {v} {stack′} {low} e l s =
 -- ---- one node: what the calls of `add_node` gave
 
 pub added : (k : ℕ) {v : Values} {t stack : List ℕ} {m : Place} {d : CodeNode} {t′ stack′ : List ℕ} {out n h : ℕ}
-    → v .place ≡ m .next → d ≡ asNode (nodeOf k) → t′ ≡ written t (v .place) (filled v (rowsIn d))
+    → v .place ≡ m .next → d ≡ asNode (nodeOf k) → t′ ≡ withEquations t (v .place) (filled v (rowsIn d))
     → out ≡ valueOf v (d .result) → n ≡ valueOf v (d .idle) → Pushed stack (m .height) (d .takes) out stack′ h
     → Added (nodeOf k) v t stack m t′ stack′ (record { next = m .next + d .count; idle = n; height = h })
 unfolding applied
@@ -82,8 +82,8 @@ added k {v} {t} {stack} {m} {d} {t′} placed e-d e-t e-out e-n e-h =
     let few = rows-few k in
     let count : d .count ≡ length (nodeOf k .rows) = ap (λ (x : CodeNode). x .count) e-d in
     let rows : rowsIn d ≡ nodeOf k .rows = ap rowsIn e-d ∙ own-rows k in
-    let table : t′ ≡ written t (m .next) (filled v (nodeOf k .rows)) =
-    e-t ∙ ap₂ (λ (o : ℕ) (rs : List Row). written t o (filled v rs)) placed rows in
+    let table : t′ ≡ withEquations t (m .next) (filled v (nodeOf k .rows)) =
+    e-t ∙ ap₂ (λ (o : ℕ) (rs : List Row). withEquations t o (filled v rs)) placed rows in
     let result : d .result ≡ nodeOf k .result = ap (λ (x : CodeNode). x .result) e-d in
     let idle : d .idle ≡ nodeOf k .idle = ap (λ (x : CodeNode). x .idle) e-d in
     let takes : d .takes ≡ nodeOf k .takes = ap (λ (x : CodeNode). x .takes) e-d in

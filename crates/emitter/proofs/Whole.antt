@@ -12,8 +12,8 @@ use Rattle.formulas.proofs.Formulas.{raw}
 use Rattle.tables.specs.Table.{Equation}
 use Rattle.limits.specs.Limits.{arenaLimit, signalCount}
 use Rattle.scheme.specs.Scheme.{_⊕_, nodeOf}
-use Rattle.scheme.specs.Emit.{Block, after, emit, names, signals, places, whole-es}
-use Rattle.emitter.specs.Machine.{written, State, state, recordOf, valuesAt}
+use Rattle.scheme.specs.Emit.{Block, placeAfter, emit, names, signals, places, whole-es}
+use Rattle.emitter.specs.Machine.{withEquations, State, state, recordOf, valuesAt}
 use Rattle.emitter.specs.Machine.{applied, step, run, ran, marks, Header, headerOf, settle, headed}
 use Rattle.emitter.specs.Contract.{Emitted, Ran, Headed}
 use Rattle.scheme.proofs.Places.{after-length, after-append}
@@ -25,18 +25,18 @@ use Rattle.emitter.proofs.Pass.{done, run-formula}
 -- ---- the header, of m signals
 
 header-is : (f : Formula) (m : ℕ) (t : List ℕ) →
-    settle m 0 (headerOf (written t 0 first-two) (marks (flat (raw f)) (replicate m 0)) 2)
-    ≡ headerOf (written t 0 (first-two ++ signals (names f) 0 m)) (places (names f) 0 2 m)
-    (after 2 (signals (names f) 0 m))
+    settle m 0 (headerOf (withEquations t 0 first-two) (marks (flat (raw f)) (replicate m 0)) 2)
+    ≡ headerOf (withEquations t 0 (first-two ++ signals (names f) 0 m)) (places (names f) 0 2 m)
+    (placeAfter 2 (signals (names f) 0 m))
 header-is f m t =
     let named : List ℕ = marks (flat (raw f)) (replicate m 0) in
     let long : length named ≡ m = named-long f m in
     let agree : (i : ℕ) → i < length named → names f (0 + i) ≡ nonzero (getD named i 0) =
     λ i h. ap (names f) (zero-add i) ∙ named-at f m i (rw long at h) in
-    let all : settle (length named) 0 (headerOf (written t 0 first-two) named 2)
-    ≡ headerOf (written (written t 0 first-two) 2 (signals (names f) 0 (length named)))
-    (places (names f) 0 2 (length named)) (after 2 (signals (names f) 0 (length named))) =
-    settle-is (names f) named [] (written t 0 first-two) 2 0 refl agree in
+    let all : settle (length named) 0 (headerOf (withEquations t 0 first-two) named 2)
+    ≡ headerOf (withEquations (withEquations t 0 first-two) 2 (signals (names f) 0 (length named)))
+    (places (names f) 0 2 (length named)) (placeAfter 2 (signals (names f) 0 (length named))) =
+    settle-is (names f) named [] (withEquations t 0 first-two) 2 0 refl agree in
     rw (written-append first-two (signals (names f) 0 m) t 0) (rw long at all)
 
 -- ---- the records, and the whole rule's node
@@ -50,9 +50,10 @@ ran-is f ps t o =
     ∙ ap (step ps (recordOf WHOLE 0 0 0)) (run-formula ps f [] (state t o 1 []))
 
 whole-is : (x : Block) (ps t : List ℕ) (o : ℕ) →
-    (let o′ : ℕ = after o (x .es) in
+    (let o′ : ℕ = placeAfter o (x .es) in
     step ps (recordOf WHOLE 0 0 0) (done x (state t o 1 []))
-    ≡ state (written (written t o (x .es)) o′ (whole-es 0 o′ (x .out))) (after o′ (whole-es 0 o′ (x .out))) 1
+    ≡ state (withEquations (withEquations t o (x .es)) o′ (whole-es 0 o′ (x .out)))
+    (placeAfter o′ (whole-es 0 o′ (x .out))) 1
     ((o′ ⊕ 3) ∷ []))
 unfolding nodeOf valuesAt applied step
 whole-is x ps t o = refl
@@ -68,31 +69,31 @@ module _ (f : Formula) (m : ℕ) (t : List ℕ) where
   flows = places (names f) 0 2 m
 
   abbrev pub middle : Block
-  middle = emit (λ j. getD flows j 0) f 0 1 (after 0 head)
+  middle = emit (λ j. getD flows j 0) f 0 1 (placeAfter 0 head)
 
   abbrev pub last : List Equation
-  last = whole-es 0 (after (after 0 head) (middle .es)) (middle .out)
+  last = whole-es 0 (placeAfter (placeAfter 0 head) (middle .es)) (middle .out)
 
   abbrev pub whole : List Equation
   whole = head ++ (middle .es ++ last)
 
   unfoldable pub ends : State
-  ends = ran (flat (raw f)) flows (written t 0 head) (after 0 head)
+  ends = ran (flat (raw f)) flows (withEquations t 0 head) (placeAfter 0 head)
 
-  ends-table : ends .table ≡ written t 0 whole
+  ends-table : ends .table ≡ withEquations t 0 whole
   unfolding ends
   ends-table =
-      ap (λ (s : State). s .table) (ran-is f flows (written t 0 head) (after 0 head))
-      ∙ ap (λ (s : State). s .table) (whole-is middle flows (written t 0 head) (after 0 head))
-      ∙ sym (written-append (middle .es) last (written t 0 head) (after 0 head))
+      ap (λ (s : State). s .table) (ran-is f flows (withEquations t 0 head) (placeAfter 0 head))
+      ∙ ap (λ (s : State). s .table) (whole-is middle flows (withEquations t 0 head) (placeAfter 0 head))
+      ∙ sym (written-append (middle .es) last (withEquations t 0 head) (placeAfter 0 head))
       ∙ sym (written-append head (middle .es ++ last) t 0)
 
   pub ends-next : ends .next ≡ length whole
   unfolding ends
   ends-next =
-      ap (λ (s : State). s .next) (ran-is f flows (written t 0 head) (after 0 head))
-      ∙ ap (λ (s : State). s .next) (whole-is middle flows (written t 0 head) (after 0 head))
-      ∙ sym (after-append (middle .es) last (after 0 head))
+      ap (λ (s : State). s .next) (ran-is f flows (withEquations t 0 head) (placeAfter 0 head))
+      ∙ ap (λ (s : State). s .next) (whole-is middle flows (withEquations t 0 head) (placeAfter 0 head))
+      ∙ sym (after-append (middle .es) last (placeAfter 0 head))
       ∙ sym (after-append head (middle .es ++ last) 0)
       ∙ after-length whole 0
       ∙ zero-add (length whole)
@@ -100,23 +101,24 @@ module _ (f : Formula) (m : ℕ) (t : List ℕ) where
 pub emitted : {arena t named t₁ ps : List ℕ} {o : ℕ} {t₂ : List ℕ} {r : ℕ} → length arena ≤ arenaLimit
     → named ≡ marks arena (replicate signalCount 0) → Headed t named t₁ ps o → Ran arena ps t₁ o t₂ r
     → Emitted arena t t₂ r
-unfolding written ends
+unfolding withEquations ends
 emitted {arena} {t} {named} {t₁} {ps} {o} {t₂} {r} short e-named h g =
     record {
       many = λ f e. g .many ∙ ap (λ (s : State). s .next) (same f e) ∙ ends-next f signalCount t;
-      written = λ f e. g .written ∙ ap (λ (s : State). s .table) (same f e) ∙ ends-table f signalCount t;
+      withEquations = λ f e. g .written ∙ ap (λ (s : State). s .table) (same f e) ∙ ends-table f signalCount t;
       few = omega arith;
     }
   where
     same : (f : Formula) → arena ≡ flat (raw f) → ran arena ps t₁ o ≡ ends f signalCount t
     same f e =
         let front : headerOf t₁ ps o
-        ≡ headerOf (written t 0 (head f signalCount t)) (flows f signalCount t) (after 0 (head f signalCount t)) =
+        ≡ headerOf (withEquations t 0 (head f signalCount t)) (flows f signalCount t)
+        (placeAfter 0 (head f signalCount t)) =
         h .stands
         ∙ ap (headed t) (e-named ∙ ap (λ (l : List ℕ). marks l (replicate signalCount 0)) e)
         ∙ header-is f signalCount t in
         ap (λ (y : Header). ran arena (y .places) (y .table) (y .next)) front
         ∙ ap
         (λ (l : List ℕ).
-        ran l (flows f signalCount t) (written t 0 (head f signalCount t)) (after 0 (head f signalCount t)))
+        ran l (flows f signalCount t) (withEquations t 0 (head f signalCount t)) (placeAfter 0 (head f signalCount t)))
         e

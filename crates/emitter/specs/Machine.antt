@@ -25,8 +25,8 @@ stackSize = suc recordLimit
 -- ---- equations in a table
 
 -- Equations written from place o on; a number past the table's end is dropped.
-unfoldable pub written : List ℕ → ℕ → List Equation → List ℕ
-written t o es = sets t (4 * o) (numbersOf es)
+unfoldable pub withEquations : List ℕ → ℕ → List Equation → List ℕ
+withEquations t o es = sets t (4 * o) (numbersOf es)
 
 -- ---- one record
 
@@ -70,7 +70,7 @@ valuesAt places o n st r =
 -- What a node leaves, with its values.
 unfoldable pub applied : Node → Values → State → State
 applied d v s =
-    state (written (s .table) (s .next) (filled v (d .rows))) (s .next ⊕ length (d .rows)) (valueOf v (d .idle))
+    state (withEquations (s .table) (s .next) (filled v (d .rows))) (s .next ⊕ length (d .rows)) (valueOf v (d .idle))
     (valueOf v (d .result) ∷ drop (d .takes) (s .stack))
 
 unfoldable pub step : List ℕ → Record → State → State
@@ -121,7 +121,7 @@ headerOf t l o = record { table = t; places = l; next = o }
 -- Signal j: a marked one gets its equation, and in any case its mark gives way to its place.
 unfoldable pub settled : ℕ → Header → Header
 settled j h =
-    headerOf (cond (nonzero (getD (h .places) j 0)) (written (h .table) (h .next) (equation SIGNAL j 0 0 ∷ []))
+    headerOf (cond (nonzero (getD (h .places) j 0)) (withEquations (h .table) (h .next) (equation SIGNAL j 0 0 ∷ []))
     (h .table))
     (set (h .places) j (h .next)) (cond (nonzero (getD (h .places) j 0)) (suc (h .next)) (h .next))
 
@@ -133,4 +133,4 @@ settle (suc m) j h = settle m (suc j) (settled j h)
 -- The start flow, its negation, and the signals.
 abbrev pub headed : List ℕ → List ℕ → Header
 headed t named =
-    settle signalCount 0 (headerOf (written t 0 (equation START 0 0 0 ∷ equation NOT 0 0 0 ∷ [])) named 2)
+    settle signalCount 0 (headerOf (withEquations t 0 (equation START 0 0 0 ∷ equation NOT 0 0 0 ∷ [])) named 2)

@@ -11,7 +11,8 @@ ghost use Prim.Native.Nat.{_≤_, _<_, _+_, _-_};
 ghost use lib.ListN.{getD, set, length};
 ghost use Rattle.limits.specs.Limits.{arenaLimit, equationLimit, signalCount};
 ghost use Rattle.scheme.specs.Scheme.{equation, resolved, filled, nodeOf, rowsIn};
-ghost use Rattle.emitter.specs.Machine.{written, before, recordAt, valuesAt, stacked, marked, marks, headerOf};
+ghost use Rattle.emitter.specs.Machine.{withEquations, before, recordAt, valuesAt};
+ghost use Rattle.emitter.specs.Machine.{stacked, marked, marks, headerOf};
 ghost use Rattle.emitter.specs.Machine.{settled};
 ghost use Rattle.emitter.specs.Contract.{Emitted, Room, Pushed, Added, Entered, Ran, Headed};
 
@@ -34,7 +35,7 @@ fn store(t: &mut [u32], i: usize, v: u32)
 
 // One equation at place o; the numbers that have no room are dropped.
 fn put(t: &mut [u32], o: u32, kind: u32, a: u32, b: u32, c: u32)
-    ensures { λ _. ⌜ now (t .exit) ≡ written (now (t .entry)) o (equation kind a b c ∷ []) ⌝ }
+    ensures { λ _. ⌜ now (t .exit) ≡ withEquations (now (t .entry)) o (equation kind a b c ∷ []) ⌝ }
 {
     let i = 4 * (o as usize);
     if i + 4 <= t.len() {
@@ -62,7 +63,7 @@ fn before(n: u32) -> u32
 // A row's equation, put at place o.
 fn put_row(t: &mut [u32], o: u32, v: Values, r: Row)
     requires { ⌜ v .place ≤ equationLimit ⌝ }
-    ensures { λ _. ⌜ now (t .exit) ≡ written (now (t .entry)) o (resolved v r ∷ []) ⌝ }
+    ensures { λ _. ⌜ now (t .exit) ≡ withEquations (now (t .entry)) o (resolved v r ∷ []) ⌝ }
 {
     let k = r.0;
     let x = r.1;
@@ -78,7 +79,7 @@ fn put_row(t: &mut [u32], o: u32, v: Values, r: Row)
 // A node's rows, put at its place. Without a loop, so that a caller's constants decide all tests.
 fn fill(t: &mut [u32], v: Values, d: Node)
     requires { ⌜ v .place ≤ equationLimit ⌝ }
-    ensures { λ _. ⌜ now (t .exit) ≡ written (now (t .entry)) (v .place) (filled v (rowsIn d)) ⌝ }
+    ensures { λ _. ⌜ now (t .exit) ≡ withEquations (now (t .entry)) (v .place) (filled v (rowsIn d)) ⌝ }
 {
     let o = v.place;
     let count = d.count;

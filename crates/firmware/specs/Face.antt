@@ -4,7 +4,7 @@ use mathlib.Core.Path.{_≡_}
 use Prim.Native.Nat.{ℕ, _≤_}
 use Rattle.traces.specs.declared.Tick.{Tick}
 use Rattle.tables.specs.Reply.{Reply}
-use Rattle.flows.specs.Step.{After, AfterFresh, freshened, stepped, freshReply, stepReply}
+use Rattle.flows.specs.Step.{AfterStep, AfterFresh, freshened, stepped, freshReply, stepReply}
 use Rattle.rules.specs.declared.Read as rules
 use Rattle.rules.specs.declared.Same.{Same}
 use Rattle.rules.specs.Contract as read
@@ -50,7 +50,7 @@ pub record LeftValues : Type 0 where
 abbrev pub leftValues : Answer → List ℕ → List ℕ → LeftValues
 leftValues r state values = record { answer = r; state = state; values = values }
 
-abbrev pub tick : After → LeftValues
+abbrev pub tick : AfterStep → LeftValues
 tick x = leftValues (answer (stepReply (x .answer))) (x .state) (x .values)
 
 -- The answers of reading, compiling and comparing rules, by the definitions that give document 01's numbers.

@@ -12,7 +12,7 @@ use lib.Seq.{drop-cons, set-at, getD-at, getD-set-same, getD-set-other}
 use Rattle.traces.specs.declared.Tick.{Tick}
 use Rattle.lists.specs.Number.{numberAt}
 use Rattle.tables.specs.Table.{kindAt}
-use Rattle.flows.specs.Flow.{valueAt, flows, written}
+use Rattle.flows.specs.Flow.{valueAt, flows, memoriesSet}
 use Rattle.tables.specs.Table.{isMemory}
 
 -- The flows of a tick.
@@ -70,26 +70,26 @@ module _ (t : List ℕ) (f : ℕ → ℕ) where
   store-length true i state = length-set state i (f i)
   store-length false i state = refl
 
-  pub length-written : (n : ℕ) (state : List ℕ) → length (written t f n state) ≡ length state
-  unfolding written
+  pub length-written : (n : ℕ) (state : List ℕ) → length (memoriesSet t f n state) ≡ length state
+  unfolding memoriesSet
   length-written zero state = refl
   length-written (suc i) state =
-      store-length (isMemory (kindAt t i)) i (written t f i state) ∙ length-written i state
+      store-length (isMemory (kindAt t i)) i (memoriesSet t f i state) ∙ length-written i state
 
-  pub written-none : (state : List ℕ) → written t f 0 state ≡ state
-  unfolding written
+  pub written-none : (state : List ℕ) → memoriesSet t f 0 state ≡ state
+  unfolding memoriesSet
   written-none state = refl
 
   -- The loop that writes: the cell of a memory is set,
-  pub written-memory : (i x : ℕ) (state cells : List ℕ) → cells ≡ written t f i state
-      → isMemory (kindAt t i) ≡ true → x ≡ f i → set cells i x ≡ written t f (i + 1) state
-  unfolding written
+  pub written-memory : (i x : ℕ) (state cells : List ℕ) → cells ≡ memoriesSet t f i state
+      → isMemory (kindAt t i) ≡ true → x ≡ f i → set cells i x ≡ memoriesSet t f (i + 1) state
+  unfolding memoriesSet
   written-memory i x state cells now m e = rw (add-one i, m, now, e)
 
   -- and any other is kept.
-  pub written-other : (i : ℕ) (state cells : List ℕ) → cells ≡ written t f i state → isMemory (kindAt t i) ≡ false
-      → cells ≡ written t f (i + 1) state
-  unfolding written
+  pub written-other : (i : ℕ) (state cells : List ℕ) → cells ≡ memoriesSet t f i state → isMemory (kindAt t i) ≡ false
+      → cells ≡ memoriesSet t f (i + 1) state
+  unfolding memoriesSet
   written-other i state cells now m = rw (add-one i, m) now
 
   store-other : (b : Bool) (i j : ℕ) (state : List ℕ) → j ≢ i
@@ -99,13 +99,13 @@ module _ (t : List ℕ) (f : ℕ → ℕ) where
 
   -- The cell of a memory below n has what is written to it.
   pub written-at : (n i : ℕ) (state : List ℕ) → i < n → n ≤ length state → isMemory (kindAt t i) ≡ true
-      → numberAt (written t f n state) i ≡ f i
-  unfolding written
+      → numberAt (memoriesSet t f n state) i ≡ f i
+  unfolding memoriesSet
   written-at zero i state h room m = absurd (omega arith)
   written-at (suc n) i state h room m =
       elim (ℕ-discrete i n) [
         | yes q ↦ rw (q, rw q at m)
-            (getD-set-same (written t f n state) n (f n) 0 (rw (length-written n state) room))
-        | no q ↦ store-other (isMemory (kindAt t n)) n i (written t f n state) q
+            (getD-set-same (memoriesSet t f n state) n (f n) 0 (rw (length-written n state) room))
+        | no q ↦ store-other (isMemory (kindAt t n)) n i (memoriesSet t f n state) q
             ∙ written-at n i state (omega arith) (omega arith) m
       ]

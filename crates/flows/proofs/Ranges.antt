@@ -18,7 +18,7 @@ use Rattle.tables.specs.Table.{sameSort, isFlow, operandFits, shapeFits, equati
 use Rattle.limits.specs.Limits.{truthCount}
 use Rattle.tables.specs.Table.Kind.{signal, start, constant, negation, conjunction, disjunction, booleanPre}
 use Rattle.tables.specs.Table.Kind.{countPre, capped, ifElse, compareLiteral, compareParameter, unknown}
-use Rattle.flows.specs.Flow.{increased, valueOf, flows, written, initial, initialAt, freshState}
+use Rattle.flows.specs.Flow.{increased, valueOf, flows, memoriesSet, initial, initialAt, freshState}
 use Rattle.tables.specs.Table.{isMemory}
 use Rattle.flows.specs.Flow.{operandAt, nextState, inRange}
 use Rattle.flows.specs.Step.{cellFits, cellFitsAt, cellsFit}
@@ -171,10 +171,10 @@ module _ (cap : ℕ) where
     -- Cells are in range once what is written to the memories is.
     written-fits : (f : ℕ → ℕ) (state : List ℕ) → n ≤ length state
         → ((i : ℕ) → i < n → isMemory (kindAt t i) ≡ true → inRange cap (sortOf (kindAt t i)) (f i) ≡ true)
-        → cellsFit cap t n (written t f n state) ≡ true
+        → cellsFit cap t n (memoriesSet t f n state) ≡ true
     unfolding cellFits
     written-fits f state room h =
-        all-of (cellFitsAt cap t (written t f n state)) n
+        all-of (cellFitsAt cap t (memoriesSet t f n state)) n
         (λ i l. cell-fits (isMemory (kindAt t i)) _ (λ m. rw (written-at t f n i state l room m) (h i l m)))
 
     -- A fresh state is in range,

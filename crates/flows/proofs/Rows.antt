@@ -10,10 +10,10 @@ use Rattle.tables.specs.Table.{all, kindOf, shapeOf, sameSort, isFlow, operandF
 use Rattle.tables.specs.Table.{equationsFit, checked}
 use Rattle.limits.specs.Limits.{standardCap}
 use Rattle.tables.specs.Reply.{Reply, gives, refused, checkedReply}
-use Rattle.flows.specs.Flow.{increased, valueOf, flows, written, initial, inRange}
+use Rattle.flows.specs.Flow.{increased, valueOf, flows, memoriesSet, initial, inRange}
 use Rattle.tables.specs.Table.{isMemory}
 use Rattle.flows.specs.Step.{freshReply, stepReply, parameterFits}
-use Rattle.flows.specs.Step.{cellFits, freshChecked, stepChecked, freshened, after, afterTick}
+use Rattle.flows.specs.Step.{cellFits, freshChecked, stepChecked, freshened, afterStep, afterTick}
 use Rattle.flows.specs.Step.{stepped}
 use Rattle.flows.specs.Run.{Call, answers}
 use Rattle.flows.specs.declared.Stepped.the-variants.{Verdict}
@@ -52,7 +52,7 @@ check-rows = refl
 
 fresh-row : freshened table 12 old .state ≡ fresh
 unfolding freshened freshChecked lengthFits equationsFit all shapeFits shapeOf kindOf operandFits isFlow sameSort
-    written isMemory initial
+    memoriesSet isMemory initial
 fresh-row = refl
 
 fresh-short : freshReply (freshened table 12 (replicate 11 9) .answer) ≡ refused 12
@@ -64,15 +64,15 @@ step-rows : answered
     (call 1 32 1 12 ∷ call 1 32 1 11 ∷ call 0 32 1 13 ∷ call 0 0 1000000 12 ∷ call 0 0 1 12 ∷ [])
     ≡ gives 1 ∷ refused 12 ∷ gives 0 ∷ refused 13 ∷ gives 0 ∷ []
 unfolding answers stepped stepChecked lengthFits equationsFit all shapeFits shapeOf kindOf operandFits isFlow sameSort
-    written isMemory afterTick flows valueOf increased parameterFits cellFits inRange
+    memoriesSet isMemory afterTick flows valueOf increased parameterFits cellFits inRange
 step-rows = refl
 
 -- The second of these ticks whole.
 step-row : stepped standardCap table 12 (replicate 6 9 ++ (1 ∷ 1 ∷ replicate 6 9)) (replicate 13 7) (tick 0 32 1)
-    ≡ after (Verdict 0) (replicate 6 9 ++ (1 ∷ 2 ∷ replicate 6 9))
+    ≡ afterStep (Verdict 0) (replicate 6 9 ++ (1 ∷ 2 ∷ replicate 6 9))
     (1 ∷ 0 ∷ 1 ∷ 0 ∷ 0 ∷ 1 ∷ 1 ∷ 1 ∷ 2 ∷ 2 ∷ 1 ∷ 0 ∷ 7 ∷ [])
 unfolding stepped stepChecked lengthFits equationsFit all shapeFits shapeOf kindOf operandFits isFlow sameSort
-    written isMemory afterTick flows valueOf increased parameterFits cellFits inRange
+    memoriesSet isMemory afterTick flows valueOf increased parameterFits cellFits inRange
 step-row = refl
 
 -- A count at the cap stays there, and a cell above it is refused.

@@ -19,7 +19,7 @@ use Rattle.tables.specs.Table.Kind.{signal, start, constant, negation, conjunct
 use Rattle.tables.specs.Table.Kind.{countPre, capped, ifElse, compareLiteral, compareParameter, unknown}
 use Rattle.flows.specs.Flow.{valueOf, flows, initialAt, operandAt, freshState, nextState}
 use Rattle.tables.specs.Table.{isMemory}
-use Rattle.flows.specs.Step.{cellsFit, parameterFits, stepChecked, After, afterTick, steppedIf, stepped}
+use Rattle.flows.specs.Step.{cellsFit, parameterFits, stepChecked, AfterStep, afterTick, steppedIf, stepped}
 use Rattle.flows.specs.Run.{stateAt, flowAt, verdictAt, Call, called, answers, callChecked}
 use Rattle.flows.specs.Run.{admits, tickIf, ticks, nextIf, verdictIf, expected}
 use Rattle.flows.specs.Lustre.{remembered, Satisfied, Lustre}
@@ -159,7 +159,7 @@ module _ (cap : ℕ) (t : List ℕ) (n : ℕ) (passed : checked t n ≡ Passed) 
 
     -- A list of calls: a call that is not refused answers the verdict of the next tick of the run.
     module _ (trace : Trace) where
-      one-call : (k : ℕ) (x : Call) (xs : List Call) (c : Checked) (y : After)
+      one-call : (k : ℕ) (x : Call) (xs : List Call) (c : Checked) (y : AfterStep)
           → y ≡ steppedIf c cap t n (stateAt cap t n old trace k) (x .values) (x .tick)
           → Follows trace k (tickIf c (x .tick) (ticks cap n xs))
           → ((j : ℕ) → Follows trace j (ticks cap n xs) → answers cap t n (stateAt cap t n old trace j) xs

@@ -56,9 +56,9 @@ store t f i state = cond (isMemory (kindAt t i)) (set state i (f i)) state
 
 -- "Cells of kinds 6 and 7 hold the value to be given next; the other cells are never written. Cells [..] after
 -- equation n−1 are kept": f i in the cell of each memory i below n, and every other cell as it was.
-unfoldable pub written : List ℕ → (ℕ → ℕ) → ℕ → List ℕ → List ℕ
-written t f zero state = state
-written t f (suc i) state = store t f i (written t f i state)
+unfoldable pub memoriesSet : List ℕ → (ℕ → ℕ) → ℕ → List ℕ → List ℕ
+memoriesSet t f zero state = state
+memoriesSet t f (suc i) state = store t f i (memoriesSet t f i state)
 
 -- "C (kind 6) or 0 (kind 7)"
 unfoldable pub initial : Sort → ℕ → ℕ
@@ -70,7 +70,7 @@ initialAt t i = initial (sortOf (kindAt t i)) (equationAt t i .c)
 
 -- "A fresh state sets memory cells to C (kind 6) or 0 (kind 7)."
 abbrev pub freshState : List ℕ → ℕ → List ℕ → List ℕ
-freshState t n state = written t (initialAt t) n state
+freshState t n state = memoriesSet t (initialAt t) n state
 
 -- The flow of the operand of memory i.
 abbrev pub operandAt : List ℕ → List ℕ → ℕ → ℕ
@@ -78,7 +78,7 @@ operandAt t fs i = numberAt fs (equationAt t i .a)
 
 -- The state for the next tick, after a tick with the flows fs.
 abbrev pub nextState : List ℕ → List ℕ → ℕ → List ℕ → List ℕ
-nextState t fs n state = written t (operandAt t fs) n state
+nextState t fs n state = memoriesSet t (operandAt t fs) n state
 
 -- "A flow is a boolean (0, 1) or a count (0 to 1,000,000)."
 unfoldable pub inRange : ℕ → Sort → ℕ → Bool

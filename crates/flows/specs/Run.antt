@@ -8,7 +8,7 @@ use Rattle.traces.specs.Trace.{Trace}
 use Rattle.lists.specs.Number.{numberAt}
 use Rattle.tables.specs.Table.{test, firstFailed}
 use Rattle.flows.specs.Flow.{flows, freshState, nextState}
-use Rattle.flows.specs.Step.{After, parameterTest, stepped}
+use Rattle.flows.specs.Step.{AfterStep, parameterTest, stepped}
 use Rattle.tables.specs.declared.Checked.{Checked}
 use Rattle.tables.specs.declared.Checked.the-variants.{Passed, Refused as Failed}
 use Rattle.flows.specs.declared.Stepped.{Stepped}
@@ -39,7 +39,7 @@ pub record Call : Type 0 where
   pub values : List ℕ
 
 -- What a call does to a state.
-abbrev pub called : ℕ → List ℕ → ℕ → List ℕ → Call → After
+abbrev pub called : ℕ → List ℕ → ℕ → List ℕ → Call → AfterStep
 called cap t n state x = stepped cap t n state (x .values) (x .tick)
 
 -- The answers of a list of calls. "Each step is given that table, that n and the state as the call before left it."

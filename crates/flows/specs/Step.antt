@@ -92,27 +92,28 @@ unfoldable pub freshened : List ℕ → ℕ → List ℕ → AfterFresh
 freshened t n state = freshenedIf (freshChecked t n state) t n state
 
 -- What a step answers, and the state and the values that it leaves.
-pub record After : Type 0 where
+pub record AfterStep : Type 0 where
   pub answer : Stepped
   pub state : List ℕ
   pub values : List ℕ
 
-abbrev pub after : Stepped → List ℕ → List ℕ → After
-after r state values = record { answer = r; state = state; values = values }
+abbrev pub afterStep : Stepped → List ℕ → List ℕ → AfterStep
+afterStep r state values = record { answer = r; state = state; values = values }
 
 -- After a tick with the flows fs: the last one is the verdict, and "Cells and values after equation n−1 are kept".
-abbrev pub afterFlows : List ℕ → ℕ → List ℕ → List ℕ → List ℕ → After
-afterFlows t n state values fs = after (Verdict (numberAt fs (n - 1))) (nextState t fs n state) (fs ++ drop n values)
+abbrev pub afterFlows : List ℕ → ℕ → List ℕ → List ℕ → List ℕ → AfterStep
+afterFlows t n state values fs =
+    afterStep (Verdict (numberAt fs (n - 1))) (nextState t fs n state) (fs ++ drop n values)
 
 -- After a step that is not refused.
-unfoldable pub afterTick : ℕ → List ℕ → ℕ → List ℕ → List ℕ → Tick → After
+unfoldable pub afterTick : ℕ → List ℕ → ℕ → List ℕ → List ℕ → Tick → AfterStep
 afterTick cap t n state values k = afterFlows t n state values (flows cap t k state n)
 
 -- A refusal "changes no lent memory".
-abbrev pub steppedIf : Checked → ℕ → List ℕ → ℕ → List ℕ → List ℕ → Tick → After
+abbrev pub steppedIf : Checked → ℕ → List ℕ → ℕ → List ℕ → List ℕ → Tick → AfterStep
 steppedIf Passed cap t n state values k = afterTick cap t n state values k
-steppedIf (Failed r) cap t n state values k = after (Refused r) state values
+steppedIf (Failed r) cap t n state values k = afterStep (Refused r) state values
 
 -- The whole effect of a step.
-unfoldable pub stepped : ℕ → List ℕ → ℕ → List ℕ → List ℕ → Tick → After
+unfoldable pub stepped : ℕ → List ℕ → ℕ → List ℕ → List ℕ → Tick → AfterStep
 stepped cap t n state values k = steppedIf (stepChecked cap t n state values k) cap t n state values k

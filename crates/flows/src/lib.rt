@@ -14,7 +14,7 @@ ghost use Rattle.lists.specs.Number.{numberAt};
 ghost use Rattle.tables.specs.Table.{all, kindOf, sortOf, equationAt, kindAt};
 ghost use Rattle.flows.specs.Flow.{increased, valueOf, flows, initial, freshState, nextState};
 ghost use Rattle.flows.specs.Step.{parameterFits, cellFits, cellsFit, freshChecked, stepChecked};
-ghost use Rattle.flows.specs.Step.{afterFresh, freshened, after, afterTick, stepped};
+ghost use Rattle.flows.specs.Step.{afterFresh, freshened, afterStep, afterTick, stepped};
 
 // What making a fresh state answers.
 pub enum Fresh {
@@ -291,7 +291,7 @@ fn check_step(
 // A step that is not refused: its verdict.
 fn run(cap: u32, table: &[u32], n: usize, state: &mut [u32], values: &mut [u32], tick: Tick) -> u32
     requires { ⌜ (0 < n) × (4 * n ≤ length (now table)) × (n ≤ length (now state)) × (n ≤ length (now values)) ⌝ }
-    ensures { λ r. ⌜ after (Stepped.Verdict r) (now (state .exit)) (now (values .exit))
+    ensures { λ r. ⌜ afterStep (Stepped.Verdict r) (now (state .exit)) (now (values .exit))
         ≡ afterTick cap (now (table .entry)) n (now (state .entry)) (now (values .entry)) tick ⌝ }
 {
     fill(cap, table, n, state, values, tick);
@@ -313,7 +313,7 @@ pub fn fresh_state(table: &[u32], n: usize, state: &mut [u32]) -> Fresh
 
 // One step: a tick of the table.
 pub fn step(table: &[u32], n: usize, state: &mut [u32], values: &mut [u32], tick: Tick) -> Stepped
-    ensures { λ r. ⌜ after r (now (state .exit)) (now (values .exit))
+    ensures { λ r. ⌜ afterStep r (now (state .exit)) (now (values .exit))
         ≡ stepped standardCap (now (table .entry)) n (now (state .entry)) (now (values .entry)) tick ⌝ }
 {
     let Checked::Refused(number) = check_step(limits::CAP, table, n, state, values, tick) else {
@@ -340,7 +340,7 @@ pub fn step_passed(
     tick: Tick,
 ) -> u32
     requires { ⌜ stepChecked standardCap (now table) n (now state) (now values) tick ≡ Checked.Passed ⌝ }
-    ensures { λ r. ⌜ after (Stepped.Verdict r) (now (state .exit)) (now (values .exit))
+    ensures { λ r. ⌜ afterStep (Stepped.Verdict r) (now (state .exit)) (now (values .exit))
         ≡ stepped standardCap (now (table .entry)) n (now (state .entry)) (now (values .entry)) tick ⌝ }
 {
     run(limits::CAP, table, n, state, values, tick)

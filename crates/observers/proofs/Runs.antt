@@ -14,7 +14,7 @@ use Rattle.formulas.specs.Trials.{Trial, trials, ticksIn}
 use Rattle.formulas.proofs.Trials.{through}
 use Rattle.tables.specs.Table.{Equation, kindOf, shapeOf, sameSort, isFlow, operandFits, shapeFits, lengthFits}
 use Rattle.tables.specs.Table.{equationsFit, all, checked, isMemory}
-use Rattle.flows.specs.Flow.{increased, valueOf, flows, written, initial, inRange}
+use Rattle.flows.specs.Flow.{increased, valueOf, flows, memoriesSet, initial, inRange}
 use Rattle.flows.specs.Step.{freshened, freshChecked, stepped, stepChecked, afterTick, parameterFits, cellFits}
 use Rattle.flows.specs.Run.{Call, answers}
 use Rattle.flows.specs.declared.Stepped.{Stepped}
@@ -45,7 +45,8 @@ answersOf es r =
 tables-ran : map (λ (r : Trial). answersOf (observerOf (formulaOf (raw (r .formula)))) r) trials
     ≡ map (λ (r : Trial). map Verdict (r .verdicts)) trials
 unfolding answers freshened freshChecked stepped stepChecked afterTick parameterFits cellFits increased valueOf flows
-    isMemory written initial inRange kindOf shapeOf sameSort isFlow operandFits shapeFits lengthFits equationsFit all
+    isMemory memoriesSet initial inRange kindOf shapeOf sameSort isFlow operandFits shapeFits lengthFits
+    equationsFit all
     checked
 tables-ran = refl
 

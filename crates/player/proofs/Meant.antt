@@ -19,7 +19,15 @@ use Rattle.formulas.specs.Meaning.{verdict}
 use Rattle.formulas.specs.Tree.{Tree, nodes, formulaOf}
 use Rattle.tables.specs.Table.{Equation, all}
 use Rattle.limits.specs.Limits.{parameterCount, standardCap, textLimit, lineLimit, equationLimit, tableRoom}
-use Rattle.flows.specs.Step.{After, freshened, stepped, stepChecked, steppedIf, afterTick as tickAfter, parameterFits}
+use Rattle.flows.specs.Step.{
+  AfterStep,
+  freshened,
+  stepped,
+  stepChecked,
+  steppedIf,
+  afterTick as tickAfter,
+  parameterFits,
+}
 use Rattle.flows.specs.Run.{Call, answers, callChecked, ticks, expected}
 use Rattle.tables.specs.declared.Checked.{Checked}
 use Rattle.tables.specs.declared.Checked.the-variants.{Passed, Refused as Failed}
@@ -136,7 +144,7 @@ module _ (ps t : List ℕ) (n : ℕ) where
   -- What the first call of a list answers, and the others.
   module _ (c v : List ℕ) (k : Tick) (ks : List Tick) (vd : ℕ → ℕ) (i : ℕ)
       (e : answers standardCap t n c (callsOf standardCap t n c v (k ∷ ks)) ≡ verdictsFrom vd i (k ∷ ks)) where
-    abbrev one : After
+    abbrev one : AfterStep
     one = stepped standardCap t n c v k
 
     first-answer : one .answer ≡ S.Verdict (vd i)

@@ -6,7 +6,7 @@ use native.Mathlib.Omega.{arith}
 use lib.ListN.{length, take, drop, length-drop}
 use borrow.Author.Tests.{ne-eqb, lt-leb}
 use Rattle.limits.specs.Limits.{standardCap, lineLimit}
-use Rattle.flows.specs.Step.{After, after, parameterFits, stepChecked, stepped}
+use Rattle.flows.specs.Step.{AfterStep, afterStep, parameterFits, stepChecked, stepped}
 use Rattle.tables.specs.declared.Checked.the-variants.{Passed}
 use Rattle.flows.specs.declared.Stepped.the-variants as S
 use Rattle.flows.proofs.Runs.{step-on}
@@ -33,7 +33,7 @@ module _ (ps t : List ℕ) where
   oneLess w = watchOf (stageAt (w .stage .phase) (w .stage .left - 1)) (w .n)
 
   -- A tick line whose step gives a verdict.
-  pub tick-lined : (w : Watch) (l : List ℕ) (i j x : ℕ) (c v : List ℕ) (a : After) → w .stage .phase ≡ P.Ticks
+  pub tick-lined : (w : Watch) (l : List ℕ) (i j x : ℕ) (c v : List ℕ) (a : AfterStep) → w .stage .phase ≡ P.Ticks
       → 0 < w .stage .left → tickLine l ≡ T.Is i j → stepped standardCap t (w .n) c v (tickOf i j ps) ≡ a
       → a .answer ≡ S.Verdict x → lined (worldOf w ps t c v) l ≡ saying (oneLess w) x (a .state) (a .values)
   unfolding lined played lineSays
@@ -50,7 +50,7 @@ module _ (ps t : List ℕ) where
   -- The step of a line at the ticks, where no step has a refusal.
   module _
       {w : Watch} {c v c′ v′ : List ℕ} {x : ℕ} (k : Admitted (worldOf w ps t c v)) (i j : ℕ)
-      (a : after (S.Verdict x) c′ v′ ≡ stepped standardCap t (w .n) c v (tickOf i j ps)) where
+      (a : afterStep (S.Verdict x) c′ v′ ≡ stepped standardCap t (w .n) c v (tickOf i j ps)) where
     -- It leaves it so.
     pub admitted-on : Admitted (worldOf (oneLess w) ps t c′ v′)
     admitted-on =
@@ -58,7 +58,7 @@ module _ (ps t : List ℕ) where
           phase = k .phase;
           passes = λ start signals.
               subst
-              (λ (y : After).
+              (λ (y : AfterStep).
               stepChecked standardCap t (w .n) (y .state) (y .values) (tickOf start signals ps) ≡ Passed)
               (sym a)
               (step-on standardCap t (w .n) c v (tickOf i j ps) (k .passes i j) (tickOf start signals ps) refl);
@@ -81,7 +81,7 @@ module _ (ps t : List ℕ) where
       does =
           let l = take 20 (drop u b) in
           rw (first .ends)
-          (sym (tick-lined w l i j x c v (after (S.Verdict x) c′ v′) (k .phase) more (first .tick) (sym a) refl))
+          (sym (tick-lined w l i j x c v (afterStep (S.Verdict x) c′ v′) (k .phase) more (first .tick) (sym a) refl))
 
       pub verdict-room : at + length (outputBytes (O.Verdict x)) ≤ length out
       verdict-room = said-room s 20 twenty line-inside does

@@ -14,7 +14,7 @@ use Rattle.traces.specs.declared.Tick.{Tick}
 use Rattle.observers.specs.Compile.{AfterCompile, compiled}
 use Rattle.observers.specs.declared.Compiled.{Compiled}
 use Rattle.observers.specs.declared.Compiled.the-variants as C
-use Rattle.flows.specs.Step.{AfterFresh, freshened, After, stepped}
+use Rattle.flows.specs.Step.{AfterFresh, freshened, AfterStep, stepped}
 use Rattle.flows.specs.declared.Fresh.{Fresh}
 use Rattle.flows.specs.declared.Fresh.the-variants as F
 use Rattle.flows.specs.declared.Stepped.{Stepped}
@@ -133,13 +133,13 @@ abbrev pub withStep : Stage → Stepped → World → Effect
 withStep k (S.Verdict v) w = goOn (watchOf k (w .watch .n)) (O.Verdict v) w
 withStep k (S.Refused r) w = stop (O.Refused r) w
 
-abbrev pub steppedWorld : After → World → World
+abbrev pub steppedWorld : AfterStep → World → World
 steppedWorld a w = worldOf (w .watch) (w .parameters) (w .table) (a .state) (a .values)
 
-abbrev pub stepEffect : Stage → After → World → Effect
+abbrev pub stepEffect : Stage → AfterStep → World → Effect
 stepEffect k a w = withStep k (a .answer) (steppedWorld a w)
 
-abbrev pub stepOf : ℕ → ℕ → World → After
+abbrev pub stepOf : ℕ → ℕ → World → AfterStep
 stepOf start signals w =
     stepped standardCap (w .table) (w .watch .n) (w .state) (w .values) (tickOf start signals (w .parameters))
 

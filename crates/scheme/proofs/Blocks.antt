@@ -16,7 +16,7 @@ use Rattle.tables.specs.Table.{Equation}
 use Rattle.limits.specs.Limits.{literalCount}
 use Rattle.tables.specs.declared.Sort.the-variants.{Boolean}
 use Rattle.scheme.specs.Scheme.{_⊕_}
-use Rattle.scheme.specs.Emit.{Block, after, emitP, emit, namesP, names, join-block, not-es, and-es, or-es}
+use Rattle.scheme.specs.Emit.{Block, placeAfter, emitP, emit, namesP, names, join-block, not-es, and-es, or-es}
 use Rattle.scheme.specs.Emit.{begin-es, point-es, kept-es, held-es, sum-es, age-es, lead-end-es, then-es}
 use Rattle.scheme.proofs.Places.{after-append, after-later, Each, each-left, each-right, each-join}
 use Rattle.scheme.proofs.Roles.{Before, later, Fits, KindAt}
@@ -32,33 +32,33 @@ module _ (t : List ℕ) (N : ℕ) where
 
   -- The equations fit, and the flow v is a boolean of theirs or before them.
   abbrev pub AllFine : ℕ → List Equation → ℕ → Type 0
-  AllFine o es v = Fine t N o es (after o es) v
+  AllFine o es v = Fine t N o es (placeAfter o es) v
 
   -- ---- equations one after the other
 
   left : (xs ys : List Equation) (o : ℕ) → Kinded o (xs ++ ys) → Kinded o xs
   left = each-left (KindAt t)
 
-  right : (xs ys : List Equation) (o : ℕ) → Kinded o (xs ++ ys) → Kinded (after o xs) ys
+  right : (xs ys : List Equation) (o : ℕ) → Kinded o (xs ++ ys) → Kinded (placeAfter o xs) ys
   right = each-right (KindAt t)
 
-  pub follow : (xs ys : List Equation) (o v : ℕ) → Each (Fits t N) o xs → AllFine (after o xs) ys v
+  pub follow : (xs ys : List Equation) (o v : ℕ) → Each (Fits t N) o xs → AllFine (placeAfter o xs) ys v
       → AllFine o (xs ++ ys) v
   follow xs ys o v h g = (each-join (Fits t N) xs ys o h (g .0), rw (after-append xs ys o) (g .1))
 
   -- If there is room for all of them, there is for the first ones and for the others.
-  room-left : (xs ys : List Equation) (o : ℕ) → after o (xs ++ ys) ≤ N → after o xs ≤ N
-  room-left xs ys o h = omega (arith, rw (after-append xs ys o) at h, after-later ys (after o xs))
+  room-left : (xs ys : List Equation) (o : ℕ) → placeAfter o (xs ++ ys) ≤ N → placeAfter o xs ≤ N
+  room-left xs ys o h = omega (arith, rw (after-append xs ys o) at h, after-later ys (placeAfter o xs))
 
-  room-right : (xs ys : List Equation) (o : ℕ) → after o (xs ++ ys) ≤ N → after (after o xs) ys ≤ N
+  room-right : (xs ys : List Equation) (o : ℕ) → placeAfter o (xs ++ ys) ≤ N → placeAfter (placeAfter o xs) ys ≤ N
   room-right xs ys o h = rw (after-append xs ys o) at h
 
   -- A block that fits, negated,
-  negated-fine : (o : ℕ) (x : Block) → let row : List Equation = not-es (after o (x .es)) (x .out) in
-      after o (x .es ++ row) ≤ N → Kinded o (x .es ++ row) → AllFine o (x .es) (x .out)
-      → AllFine o (x .es ++ row) (after o (x .es))
+  negated-fine : (o : ℕ) (x : Block) → let row : List Equation = not-es (placeAfter o (x .es)) (x .out) in
+      placeAfter o (x .es ++ row) ≤ N → Kinded o (x .es ++ row) → AllFine o (x .es) (x .out)
+      → AllFine o (x .es ++ row) (placeAfter o (x .es))
   negated-fine o x room kinds fine =
-      let o′ : ℕ = after o (x .es) in
+      let o′ : ℕ = placeAfter o (x .es) in
       let row : List Equation = not-es o′ (x .out) in
       follow (x .es) row o o′ (fine .0)
       (not-fine t N o′ (fine .1) (room-right (x .es) row o room) (right (x .es) row o kinds))
@@ -66,17 +66,17 @@ module _ (t : List ℕ) (N : ℕ) where
   -- and two blocks that fit, joined by a row that fits.
   abbrev Joins : (ℕ → ℕ → ℕ → List Equation) → Type 0
   Joins join =
-      (o : ℕ) (x y : Block) → after o (join-block join o x y .es) ≤ N → Kinded o (join-block join o x y .es)
-      → AllFine o (x .es) (x .out) → AllFine (after o (x .es)) (y .es) (y .out)
+      (o : ℕ) (x y : Block) → placeAfter o (join-block join o x y .es) ≤ N → Kinded o (join-block join o x y .es)
+      → AllFine o (x .es) (x .out) → AllFine (placeAfter o (x .es)) (y .es) (y .out)
       → AllFine o (join-block join o x y .es) (join-block join o x y .out)
 
   module _ (join : ℕ → ℕ → ℕ → List Equation)
-      (row-fine : (o a b : ℕ) → Before t o Boolean a → Before t o Boolean b → after o (join o a b) ≤ N
+      (row-fine : (o a b : ℕ) → Before t o Boolean a → Before t o Boolean b → placeAfter o (join o a b) ≤ N
       → Kinded o (join o a b) → AllFine o (join o a b) o) where
     joined-fine : Joins join
     joined-fine o x y room kinds h g =
-        let o′ : ℕ = after o (x .es) in
-        let o″ : ℕ = after o′ (y .es) in
+        let o′ : ℕ = placeAfter o (x .es) in
+        let o″ : ℕ = placeAfter o′ (y .es) in
         let row : List Equation = join o″ (x .out) (y .out) in
         let row-room = room-right (y .es) row o′ (room-right (x .es) (y .es ++ row) o room) in
         let row-kinds = right (y .es) row o′ (right (x .es) (y .es ++ row) o kinds) in
@@ -104,7 +104,7 @@ module _ (t : List ℕ) (N : ℕ) where
     named-right : {o o′ : ℕ} (x y : ℕ → Bool) → Named (λ j. x j || y j) o → o ≤ o′ → Named y o′
     named-right x y h r j e = later (h j (rw e (or-true (x j)))) r
 
-    prop-fine : (p : Prop) (o : ℕ) → Named (namesP p) o → after o (emitP flowOf p o .es) ≤ N
+    prop-fine : (p : Prop) (o : ℕ) → Named (namesP p) o → placeAfter o (emitP flowOf p o .es) ≤ N
         → Kinded o (emitP flowOf p o .es) → AllFine o (emitP flowOf p o .es) (emitP flowOf p o .out)
     prop-fine (constant c) o named room kinds = constant-fine t N o c room kinds
     prop-fine (signal j) o named room kinds = (tt, named j (eq-eqb j j refl))
@@ -113,7 +113,7 @@ module _ (t : List ℕ) (N : ℕ) where
         negated-fine o x room kinds (prop-fine p o named (room-left (x .es) _ o room) (left (x .es) _ o kinds))
     prop-fine (andP p q) o named room kinds =
         let x : Block = emitP flowOf p o in
-        let o′ : ℕ = after o (x .es) in
+        let o′ : ℕ = placeAfter o (x .es) in
         let y : Block = emitP flowOf q o′ in
         let named-p = named-left (namesP p) (namesP q) named in
         let named-q = named-right (namesP p) (namesP q) named (after-later (x .es) o) in
@@ -123,7 +123,7 @@ module _ (t : List ℕ) (N : ℕ) where
         (left (y .es) _ o′ (right (x .es) _ o kinds)))
     prop-fine (orP p q) o named room kinds =
         let x : Block = emitP flowOf p o in
-        let o′ : ℕ = after o (x .es) in
+        let o′ : ℕ = placeAfter o (x .es) in
         let y : Block = emitP flowOf q o′ in
         let named-p = named-left (namesP p) (namesP q) named in
         let named-q = named-right (namesP p) (namesP q) named (after-later (x .es) o) in
@@ -142,7 +142,7 @@ module _ (t : List ℕ) (N : ℕ) where
       pub start : Before t o Boolean s
       pub negation : Before t o Boolean n
       pub kinds : Kinded o es
-      pub room : after o es ≤ N
+      pub room : placeAfter o es ≤ N
 
     abbrev pub GivenOf : ℕ → Formula → ℕ → ℕ → ℕ → Type 0
     GivenOf cap f s n o = Given (bounded cap (raw f)) (names f) s n o (emit flowOf f s n o .es)
@@ -150,13 +150,13 @@ module _ (t : List ℕ) (N : ℕ) where
     -- An atom, from the rows that follow its proposition's equations.
     with-prop : {bounds : Bool} {s n o : ℕ} (rows : ℕ → ℕ → List Equation) (j : ℕ) (p : Prop) →
         let x : Block = emitP flowOf p o in
-        let o′ : ℕ = after o (x .es) in
+        let o′ : ℕ = placeAfter o (x .es) in
         (Before t o′ Boolean s → Before t o′ Boolean n → Before t o′ Boolean (x .out)
-        → after o′ (rows o′ (x .out)) ≤ N → Kinded o′ (rows o′ (x .out)) → AllFine o′ (rows o′ (x .out)) (o′ ⊕ j))
+        → placeAfter o′ (rows o′ (x .out)) ≤ N → Kinded o′ (rows o′ (x .out)) → AllFine o′ (rows o′ (x .out)) (o′ ⊕ j))
         → Given bounds (namesP p) s n o (x .es ++ rows o′ (x .out)) → AllFine o (x .es ++ rows o′ (x .out)) (o′ ⊕ j)
     with-prop {o = o} rows j p rows-fine given =
         let x : Block = emitP flowOf p o in
-        let o′ : ℕ = after o (x .es) in
+        let o′ : ℕ = placeAfter o (x .es) in
         let ys : List Equation = rows o′ (x .out) in
         let far : o ≤ o′ = after-later (x .es) o in
         let room = room-left (x .es) ys o (given .room) in
@@ -182,13 +182,13 @@ module _ (t : List ℕ) (N : ℕ) where
       -- Two formulas that are joined by `&` or `|`.
       both : (f g : Formula) {s n o : ℕ} (row : List Equation) →
           let x : Block = emit flowOf f s n o in
-          let o′ : ℕ = after o (x .es) in
+          let o′ : ℕ = placeAfter o (x .es) in
           Given (bounded cap (raw f) && bounded cap (raw g)) (λ j. names f j || names g j) s n o
           (x .es ++ (emit flowOf g s n o′ .es ++ row))
           → GivenOf cap f s n o × GivenOf cap g s n o′
       both f g {s} {n} {o} row given =
           let x : Block = emit flowOf f s n o in
-          let o′ : ℕ = after o (x .es) in
+          let o′ : ℕ = placeAfter o (x .es) in
           let y : Block = emit flowOf g s n o′ in
           let bound = and-eq-true-iff (bounded cap (raw f)) (bounded cap (raw g)) .0 (given .bound) in
           let far : o ≤ o′ = after-later (x .es) o in (
@@ -213,7 +213,7 @@ module _ (t : List ℕ) (N : ℕ) where
       -- A `then`, from its lead and from its second part, which is given once the end of the lead fits.
       then-fine : (l f : Formula) {s n o : ℕ} →
           let x : Block = emit flowOf l s n o in
-          let o′ : ℕ = after o (x .es) in
+          let o′ : ℕ = placeAfter o (x .es) in
           let y : Block = emit flowOf f (o′ ⊕ 3) (o′ ⊕ 4) (o′ ⊕ 5) in
           (GivenOf cap l s n o → AllFine o (x .es) (x .out))
           → (GivenOf cap f (o′ ⊕ 3) (o′ ⊕ 4) (o′ ⊕ 5) → AllFine (o′ ⊕ 5) (y .es) (y .out))
@@ -221,9 +221,9 @@ module _ (t : List ℕ) (N : ℕ) where
           → AllFine o (emit flowOf (then l f) s n o .es) (emit flowOf (then l f) s n o .out)
       then-fine l f {s} {n} {o} lead-fine second-fine given =
           let x : Block = emit flowOf l s n o in
-          let o′ : ℕ = after o (x .es) in
+          let o′ : ℕ = placeAfter o (x .es) in
           let y : Block = emit flowOf f (o′ ⊕ 3) (o′ ⊕ 4) (o′ ⊕ 5) in
-          let o″ : ℕ = after (o′ ⊕ 5) (y .es) in
+          let o″ : ℕ = placeAfter (o′ ⊕ 5) (y .es) in
           let ending : List Equation = lead-end-es n o′ (x .out) in
           let rest : List Equation = then-es n o″ (o′ ⊕ 3) (y .out) in
           let bound = and-eq-true-iff (bounded cap (raw l)) (bounded cap (raw f)) .0 (given .bound) in
@@ -282,13 +282,13 @@ module _ (t : List ℕ) (N : ℕ) where
             negated-fine o x (given .room) (given .kinds) (fine f s n o (under-not (x .es) _ given))
         fine (and f g) s n o given =
             let x : Block = emit flowOf f s n o in
-            let o′ : ℕ = after o (x .es) in
+            let o′ : ℕ = placeAfter o (x .es) in
             let (first, second) = both f g _ given in
             join-and o x (emit flowOf g s n o′) (given .room) (given .kinds)
             (fine f s n o first) (fine g s n o′ second)
         fine (or f g) s n o given =
             let x : Block = emit flowOf f s n o in
-            let o′ : ℕ = after o (x .es) in
+            let o′ : ℕ = placeAfter o (x .es) in
             let (first, second) = both f g _ given in
             join-or o x (emit flowOf g s n o′) (given .room) (given .kinds)
             (fine f s n o first) (fine g s n o′ second)

@@ -11,7 +11,7 @@ use lib.ListN.{length, List·getD-eq-default}
 use borrow.Author.Tests.{leb-true}
 use Rattle.tables.specs.Table.{all}
 use Rattle.tables.proofs.Tests.{all-at}
-use Rattle.scheme.specs.Scheme.{widest, Node, node, nodes, nodeCount, noNode, nodeOf, asNode, rowsIn}
+use Rattle.scheme.specs.Scheme.{widest, Node, node, nodeList, nodeCount, noNode, nodeOf, asNode, rowsIn}
 use Rattle.scheme.specs.declared.Row.{Row}
 use Rattle.scheme.specs.declared.Name.{Name}
 
@@ -25,7 +25,7 @@ rows-few k = elim (decLt k nodeCount) [
   | yes h ↦ leb-true _ _ (all-at (λ j. leb (length (nodeOf j .rows)) widest) nodeCount few-test k h)
   | no h ↦
       let past : nodeCount ≤ k = omega arith in
-      rw (List·getD-eq-default nodes noNode past) (omega arith)
+      rw (List·getD-eq-default nodeList noNode past) (omega arith)
 ]
 
 -- A node of few rows has them in the code, too.

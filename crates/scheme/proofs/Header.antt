@@ -16,7 +16,7 @@ use Rattle.tables.specs.Kind.{SIGNAL}
 use Rattle.tables.specs.Table.{Equation, kindOf, shapeOf, shapeFits, operandFits}
 use Rattle.limits.specs.Limits.{signalCount}
 use Rattle.scheme.specs.Scheme.{_⊕_, equation}
-use Rattle.scheme.specs.Emit.{after, namesP, names, signals, places}
+use Rattle.scheme.specs.Emit.{placeAfter, namesP, names, signals, places}
 use Rattle.scheme.proofs.Offsets.{suc-⊕}
 use Rattle.scheme.proofs.Places.{after-later, Each}
 use Rattle.scheme.proofs.Roles.{Fits}
@@ -44,18 +44,18 @@ module _ (named : ℕ → Bool) where
 
   -- That flow stands before the place after the signals.
   pub signal-before : (m j o i : ℕ) → i < m → named (j ⊕ i) ≡ true
-      → getD (places named j o m) i 0 < after o (signals named j m)
+      → getD (places named j o m) i 0 < placeAfter o (signals named j m)
   signal-before zero j o i l e = absurd (omega arith)
   signal-before (suc m) j o zero l e =
-      subst (λ (x : Bool). o < after o
+      subst (λ (x : Bool). o < placeAfter o
       (cond x (equation SIGNAL j 0 0 ∷ signals named (suc j) m) (signals named (suc j) m)))
       (sym e) (after-later (signals named (suc j) m) (suc o))
   signal-before (suc m) j o (suc i) l e =
       others (named j) (λ o. signal-before m (suc j) o i (omega arith) (rw suc-⊕ e))
     where
-      others : (x : Bool) → ((o : ℕ) → getD (places named (suc j) o m) i 0 < after o (signals named (suc j) m))
+      others : (x : Bool) → ((o : ℕ) → getD (places named (suc j) o m) i 0 < placeAfter o (signals named (suc j) m))
           → getD (places named (suc j) (cond x (suc o) o) m) i 0
-          < after o (cond x (equation SIGNAL j 0 0 ∷ signals named (suc j) m) (signals named (suc j) m))
+          < placeAfter o (cond x (equation SIGNAL j 0 0 ∷ signals named (suc j) m) (signals named (suc j) m))
       others true h = h (suc o)
       others false h = h o
 

@@ -19,7 +19,7 @@ use Rattle.limits.specs.Limits.{signalCount}
 use Rattle.tables.specs.Kind.{SIGNAL, START, NOT}
 use Rattle.tables.specs.Table.{Equation, kindOf, kindAt, isMemory}
 use Rattle.scheme.specs.Scheme.{_⊕_, equation, comparisonOf}
-use Rattle.scheme.specs.Emit.{after, emitP, emit, names, flowIn, signals, header, whole-es, body, observer}
+use Rattle.scheme.specs.Emit.{placeAfter, emitP, emit, names, flowIn, signals, header, whole-es, body, observer}
 use Rattle.scheme.specs.Emit.{numbersOf}
 use Rattle.scheme.specs.Memories.{memories}
 use Rattle.scheme.proofs.Places.{four-more}
@@ -78,8 +78,10 @@ module _ (flowOf : ℕ → ℕ) where
   counted-prop (constant c) o = refl
   counted-prop (signal j) o = refl
   counted-prop (negP p) o = simp (counted-append, counted-prop p o)
-  counted-prop (andP p q) o = simp (counted-append, counted-prop p o, counted-prop q (after o (emitP flowOf p o .es)))
-  counted-prop (orP p q) o = simp (counted-append, counted-prop p o, counted-prop q (after o (emitP flowOf p o .es)))
+  counted-prop (andP p q) o = simp
+      (counted-append, counted-prop p o, counted-prop q (placeAfter o (emitP flowOf p o .es)))
+  counted-prop (orP p q) o = simp
+      (counted-append, counted-prop p o, counted-prop q (placeAfter o (emitP flowOf p o .es)))
 
   counted-formula : (f : Formula) (s n o : ℕ) → counted (emit flowOf f s n o .es) ≡ memoriesOf f
   unfolding kindOf isMemory
@@ -93,13 +95,13 @@ module _ (flowOf : ℕ → ℕ) where
   counted-formula (count age p op x) s n o = simp (counted-append, counted-prop p o, compare-none x)
   counted-formula (neg f) s n o = simp (counted-append, counted-formula f s n o) (omega arith)
   counted-formula (and f g) s n o =
-      let o′ : ℕ = after o (emit flowOf f s n o .es) in
+      let o′ : ℕ = placeAfter o (emit flowOf f s n o .es) in
       simp (counted-append, counted-formula f s n o, counted-formula g s n o′) (omega arith)
   counted-formula (or f g) s n o =
-      let o′ : ℕ = after o (emit flowOf f s n o .es) in
+      let o′ : ℕ = placeAfter o (emit flowOf f s n o .es) in
       simp (counted-append, counted-formula f s n o, counted-formula g s n o′) (omega arith)
   counted-formula (then l f) s n o =
-      let o′ : ℕ = after o (emit flowOf l s n o .es) in
+      let o′ : ℕ = placeAfter o (emit flowOf l s n o .es) in
       simp (counted-append, counted-formula l s n o, counted-formula f (o′ ⊕ 3) (o′ ⊕ 4) (o′ ⊕ 5)) (omega arith)
 
 -- ---- counted over an observer
@@ -116,8 +118,8 @@ counted-three xs ys zs k p q r = simp counted-append (omega arith)
 counted-observer : (f : Formula) → counted (observer f) ≡ memoriesOf f + 1
 unfolding kindOf isMemory
 counted-observer f =
-    let o : ℕ = after 0 (header (names f)) in
-    counted-three (header (names f)) (body f .es) (whole-es 0 (after o (body f .es)) (body f .out)) (memoriesOf f)
+    let o : ℕ = placeAfter 0 (header (names f)) in
+    counted-three (header (names f)) (body f .es) (whole-es 0 (placeAfter o (body f .es)) (body f .out)) (memoriesOf f)
     (counted-header (names f) signalCount) (counted-formula (flowIn (names f)) f 0 1 o) refl
 
 -- ---- counted over the table

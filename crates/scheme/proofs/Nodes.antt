@@ -21,7 +21,7 @@ use Rattle.formulas.proofs.Meaning.{lead-falls}
 use Rattle.tables.specs.Table.{Equation, kindOf}
 use Rattle.limits.specs.Limits.{parameterCount}
 use Rattle.scheme.specs.Scheme.{_⊕_}
-use Rattle.scheme.specs.Emit.{Block, after, emitP, emit, namesP, names, lead-end-es, then-es}
+use Rattle.scheme.specs.Emit.{Block, placeAfter, emitP, emit, namesP, names, lead-end-es, then-es}
 use Rattle.scheme.specs.Emit.{begin-es, point-es, kept-es, held-es, sum-es, age-es}
 use Rattle.scheme.proofs.Offsets.{⊕-add, span, lt-longer, eq-longer}
 use Rattle.scheme.proofs.Places.{each-left, each-right}
@@ -39,14 +39,14 @@ module _ (cap : ℕ) (trace : Trace) (flow : ℕ → ℕ → ℕ) where
   left : (xs ys : List Equation) (o : ℕ) → Stands o (xs ++ ys) → Stands o xs
   left = each-left (LocalAt cap trace flow)
 
-  right : (xs ys : List Equation) (o : ℕ) → Stands o (xs ++ ys) → Stands (after o xs) ys
+  right : (xs ys : List Equation) (o : ℕ) → Stands o (xs ++ ys) → Stands (placeAfter o xs) ys
   right = each-right (LocalAt cap trace flow)
 
   three : (xs ys zs : List Equation) (o : ℕ) → Stands o (xs ++ (ys ++ zs))
-      → Stands o xs × Stands (after o xs) ys × Stands (after (after o xs) ys) zs
+      → Stands o xs × Stands (placeAfter o xs) ys × Stands (placeAfter (placeAfter o xs) ys) zs
   three xs ys zs o h =
       let rest = right xs (ys ++ zs) o h in
-      (left xs (ys ++ zs) o h, left ys zs (after o xs) rest, right ys zs (after o xs) rest)
+      (left xs (ys ++ zs) o h, left ys zs (placeAfter o xs) rest, right ys zs (placeAfter o xs) rest)
 
   module _ (flowOf : ℕ → ℕ) where
     -- ---- propositions
@@ -72,14 +72,14 @@ module _ (cap : ℕ) (trace : Trace) (flow : ℕ → ℕ → ℕ) where
         right (x .es) _ o h .0 k ∙ ap not (prop-is p o signals (left (x .es) _ o h) k)
     prop-is (andP p q) o signals h k =
         let x : Block = emitP flowOf p o in
-        let o′ : ℕ = after o (x .es) in
+        let o′ : ℕ = placeAfter o (x .es) in
         let parts = three (x .es) (emitP flowOf q o′ .es) _ o h in
         let first = prop-is p o (named-left (namesP p) (namesP q) signals) (parts .0) k in
         let second = prop-is q o′ (named-right (namesP p) (namesP q) signals) (parts .1) k in
         parts .2 .0 k ∙ ap₂ _&&_ first second
     prop-is (orP p q) o signals h k =
         let x : Block = emitP flowOf p o in
-        let o′ : ℕ = after o (x .es) in
+        let o′ : ℕ = placeAfter o (x .es) in
         let parts = three (x .es) (emitP flowOf q o′ .es) _ o h in
         let first = prop-is p o (named-left (namesP p) (namesP q) signals) (parts .0) k in
         let second = prop-is q o′ (named-right (namesP p) (namesP q) signals) (parts .1) k in
@@ -102,8 +102,9 @@ module _ (cap : ℕ) (trace : Trace) (flow : ℕ → ℕ → ℕ) where
     -- An atom's proposition, and the rows that follow its equations.
     with-prop : {leading bounds : Bool} {s n o : ℕ} (p : Prop) (rows : ℕ → ℕ → List Equation) →
         let x : Block = emitP flowOf p o in
-        Given leading bounds (namesP p) s n o (x .es ++ rows (after o (x .es)) (x .out))
-        → ((k : ℕ) → on flow (x .out) k ≡ at trace p k) × Stands (after o (x .es)) (rows (after o (x .es)) (x .out))
+        Given leading bounds (namesP p) s n o (x .es ++ rows (placeAfter o (x .es)) (x .out))
+        → ((k : ℕ) → on flow (x .out) k ≡ at trace p k) × Stands (placeAfter o (x .es))
+        (rows (placeAfter o (x .es)) (x .out))
     with-prop {o = o} p rows given =
         let x : Block = emitP flowOf p o in
         (prop-is p o (given .signals) (left (x .es) _ o (given .stands)), right (x .es) _ o (given .stands))
@@ -123,14 +124,14 @@ module _ (cap : ℕ) (trace : Trace) (flow : ℕ → ℕ → ℕ) where
     -- Two formulas that are joined by `&` or `|`, and the row that joins them.
     both : (f g : Formula) {s n o : ℕ} (row : List Equation) →
         let x : Block = emit flowOf f s n o in
-        let o′ : ℕ = after o (x .es) in
+        let o′ : ℕ = placeAfter o (x .es) in
         let y : Block = emit flowOf g s n o′ in
         Given (leads (raw f) && leads (raw g)) (bounded cap (raw f) && bounded cap (raw g))
         (λ j. names f j || names g j) s n o (x .es ++ (y .es ++ row))
-        → GivenOf f s n o × GivenOf g s n o′ × Stands (after o′ (y .es)) row
+        → GivenOf f s n o × GivenOf g s n o′ × Stands (placeAfter o′ (y .es)) row
     both f g {s} {n} {o} row given =
         let x : Block = emit flowOf f s n o in
-        let y : Block = emit flowOf g s n (after o (x .es)) in
+        let y : Block = emit flowOf g s n (placeAfter o (x .es)) in
         let parts = three (x .es) (y .es) row o (given .stands) in
         let led = and-eq-true-iff (leads (raw f)) (leads (raw g)) .0 (given .led) in
         let bound = and-eq-true-iff (bounded cap (raw f)) (bounded cap (raw g)) .0 (given .bound) in (
@@ -161,14 +162,14 @@ module _ (cap : ℕ) (trace : Trace) (flow : ℕ → ℕ → ℕ) where
 
     then-parts : (l f : Formula) {s n o : ℕ} → GivenOf (then l f) s n o →
         let x : Block = emit flowOf l s n o in
-        let o′ : ℕ = after o (x .es) in
+        let o′ : ℕ = placeAfter o (x .es) in
         let y : Block = emit flowOf f (o′ ⊕ 3) (o′ ⊕ 4) (o′ ⊕ 5) in
-        ThenParts l f s n o o′ (after (o′ ⊕ 5) (y .es)) (x .out) (y .out)
+        ThenParts l f s n o o′ (placeAfter (o′ ⊕ 5) (y .es)) (x .out) (y .out)
     then-parts l f {s} {n} {o} given =
         let x : Block = emit flowOf l s n o in
-        let o′ : ℕ = after o (x .es) in
+        let o′ : ℕ = placeAfter o (x .es) in
         let y : Block = emit flowOf f (o′ ⊕ 3) (o′ ⊕ 4) (o′ ⊕ 5) in
-        let o″ : ℕ = after (o′ ⊕ 5) (y .es) in
+        let o″ : ℕ = placeAfter (o′ ⊕ 5) (y .es) in
         let ending : List Equation = lead-end-es n o′ (x .out) in
         let rest : List Equation = then-es n o″ (o′ ⊕ 3) (y .out) in
         let parts = three (x .es) ending (y .es ++ rest) o (given .stands) in
@@ -211,23 +212,23 @@ module _ (cap : ℕ) (trace : Trace) (flow : ℕ → ℕ → ℕ) where
     agrees (test begin p) s n o given =
         let x : Block = emitP flowOf p o in
         let (says, rows) = with-prop flowOf p (begin-es s n) given in
-        begin-is cap trace flow s n (given .negated) (after o (x .es)) (x .out) (at trace p) says rows
+        begin-is cap trace flow s n (given .negated) (placeAfter o (x .es)) (x .out) (at trace p) says rows
     agrees (test end p) s n o given = λ b d since. prop-is flowOf p o (given .signals) (given .stands) (b ⊕ d)
     agrees (test point p) s n o given = λ b d since.
         let x : Block = emitP flowOf p o in
         let (says, rows) = with-prop flowOf p (point-es s) given in
         rw (eq-longer b d)
-        (point-is cap trace flow s n (given .negated) (after o (x .es)) (x .out) (at trace p) says rows b d since)
+        (point-is cap trace flow s n (given .negated) (placeAfter o (x .es)) (x .out) (at trace p) says rows b d since)
     agrees (test held p) s n o given = λ b d since.
         let x : Block = emitP flowOf p o in
         let (says, rows) = with-prop flowOf p (held-es s n) given in
         rw (lt-longer b d, span b d)
-        (held-is cap trace flow s n (given .negated) (after o (x .es)) (x .out) (at trace p) says rows b d since)
+        (held-is cap trace flow s n (given .negated) (placeAfter o (x .es)) (x .out) (at trace p) says rows b d since)
     agrees (test kept p) s n o given = λ b d since.
         let x : Block = emitP flowOf p o in
         let (says, rows) = with-prop flowOf p (kept-es s) given in
         rw (span b d)
-        (kept-is cap trace flow s n (given .negated) (after o (x .es)) (x .out) (at trace p) says rows b d since)
+        (kept-is cap trace flow s n (given .negated) (placeAfter o (x .es)) (x .out) (at trace p) says rows b d since)
     agrees (len op x) s n o given = λ b d since.
         let rows = given .stands in
         let counted = len-is cap trace flow s n (given .negated) o op x rows b d since in
@@ -235,7 +236,7 @@ module _ (cap : ℕ) (trace : Trace) (flow : ℕ → ℕ → ℕ) where
         (compare-is cap trace flow small (o ⊕ 3) (o ⊕ 2) op x (given .bound) (rows .1 .1 .1) (b ⊕ d) d counted)
     agrees (count sum p op x) s n o given = λ b d since.
         let y : Block = emitP flowOf p o in
-        let o′ : ℕ = after o (y .es) in
+        let o′ : ℕ = placeAfter o (y .es) in
         let (says, rows) = with-prop flowOf p (sum-es n op x) given in
         let counted = sum-is cap trace flow s n (given .negated) o′ (y .out) (at trace p) says op x rows b d since in
         let bound = and-eq-true-iff (bounded cap (rawP p)) (numBound cap x) .0 (given .bound) .1 in
@@ -244,7 +245,7 @@ module _ (cap : ℕ) (trace : Trace) (flow : ℕ → ℕ → ℕ) where
         (tally (at trace p) b d) counted)
     agrees (count age p op x) s n o given = λ b d since.
         let y : Block = emitP flowOf p o in
-        let o′ : ℕ = after o (y .es) in
+        let o′ : ℕ = placeAfter o (y .es) in
         let (says, rows) = with-prop flowOf p (age-es n op x) given in
         let counted = age-is cap trace flow s n (given .negated) o′ (y .out) (at trace p) says op x rows b d since in
         let bound = and-eq-true-iff (bounded cap (rawP p)) (numBound cap x) .0 (given .bound) .1 in
@@ -263,7 +264,7 @@ module _ (cap : ℕ) (trace : Trace) (flow : ℕ → ℕ → ℕ) where
         row .0 (b ⊕ d) ∙ ap₂ _||_ (agrees f s n o first b d since) (agrees g s n _ second b d since)
     agrees (then l f) s n o given = λ b d since.
         let x : Block = emit flowOf l s n o in
-        let o′ : ℕ = after o (x .es) in
+        let o′ : ℕ = placeAfter o (x .es) in
         let y : Block = emit flowOf f (o′ ⊕ 3) (o′ ⊕ 4) (o′ ⊕ 5) in
         let parts = then-parts flowOf l f given in
         let first = agrees l s n o (parts .first) in
@@ -271,5 +272,5 @@ module _ (cap : ℕ) (trace : Trace) (flow : ℕ → ℕ → ℕ) where
         let falls : (d : ℕ) → meaning trace l b (suc (b ⊕ d)) ≡ true → meaning trace l b (b ⊕ d) ≡ true =
         λ d. lead-falls trace same l (parts .is-lead) b (b ⊕ d) (rw ⊕-add (omega arith)) in
         rw (span b d)
-        (then-is cap trace flow s n (given .negated) o′ (after (o′ ⊕ 5) (y .es)) (x .out) (y .out)
+        (then-is cap trace flow s n (given .negated) o′ (placeAfter (o′ ⊕ 5) (y .es)) (x .out) (y .out)
         (parts .ending) (parts .rest) (meaning trace l) (meaning trace f) b falls (first b) second d since)

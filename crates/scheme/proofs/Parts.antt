@@ -11,7 +11,7 @@ use Rattle.limits.specs.Limits.{signalCount}
 use Rattle.tables.specs.Kind.{START, NOT}
 use Rattle.tables.specs.Table.{Equation}
 use Rattle.scheme.specs.Scheme.{_⊕_, equation}
-use Rattle.scheme.specs.Emit.{Block, after, emit, names, signals, places, whole-es, observer}
+use Rattle.scheme.specs.Emit.{Block, placeAfter, emit, names, signals, places, whole-es, observer}
 use Rattle.scheme.proofs.Places.{after-append, after-length}
 
 -- The start flow, its negation, and the named signals among the first m.
@@ -25,14 +25,14 @@ flowAmong named m j = getD (places named 0 2 m) j 0
 module _ (m : ℕ) (f : Formula) where
   -- Where the formula's equations begin, and they,
   abbrev pub bodyPlace : ℕ
-  bodyPlace = after 0 (headRows (names f) m)
+  bodyPlace = placeAfter 0 (headRows (names f) m)
 
   abbrev pub bodyBlock : Block
   bodyBlock = emit (flowAmong (names f) m) f 0 1 bodyPlace
 
   -- where the closing equations begin, and they.
   abbrev pub wholePlace : ℕ
-  wholePlace = after bodyPlace (bodyBlock .es)
+  wholePlace = placeAfter bodyPlace (bodyBlock .es)
 
   abbrev pub wholeRows : List Equation
   wholeRows = whole-es 0 wholePlace (bodyBlock .out)

@@ -6,20 +6,20 @@ use native.Mathlib.Omega.{arith}
 use lib.ListN.{getD, length}
 use Rattle.tables.specs.Table.{Equation, equationAt}
 use Rattle.scheme.specs.Scheme.{_⊕_, equation}
-use Rattle.scheme.specs.Emit.{after, numbersOf}
+use Rattle.scheme.specs.Emit.{placeAfter, numbersOf}
 use Rattle.scheme.proofs.Offsets.{suc-⊕}
 
 -- ---- the place after equations
 
-pub after-append : (xs ys : List Equation) (o : ℕ) → after o (xs ++ ys) ≡ after (after o xs) ys
+pub after-append : (xs ys : List Equation) (o : ℕ) → placeAfter o (xs ++ ys) ≡ placeAfter (placeAfter o xs) ys
 after-append [] ys o = refl
 after-append (e ∷ xs) ys o = after-append xs ys (suc o)
 
-pub after-later : (es : List Equation) (o : ℕ) → o ≤ after o es
+pub after-later : (es : List Equation) (o : ℕ) → o ≤ placeAfter o es
 after-later [] o = omega arith
 after-later (e ∷ es) o = omega (arith, after-later es (suc o))
 
-pub after-length : (es : List Equation) (o : ℕ) → after o es ≡ o + length es
+pub after-length : (es : List Equation) (o : ℕ) → placeAfter o es ≡ o + length es
 after-length [] o = omega arith
 after-length (e ∷ es) o = omega (arith, after-length es (suc o))
 
@@ -43,11 +43,11 @@ module _ (R : ℕ → Equation → Type 0) where
   each-left [] ys o h = tt
   each-left (e ∷ xs) ys o h = (h .0, each-left xs ys (suc o) (h .1))
 
-  pub each-right : (xs ys : List Equation) (o : ℕ) → Each R o (xs ++ ys) → Each R (after o xs) ys
+  pub each-right : (xs ys : List Equation) (o : ℕ) → Each R o (xs ++ ys) → Each R (placeAfter o xs) ys
   each-right [] ys o h = h
   each-right (e ∷ xs) ys o h = each-right xs ys (suc o) (h .1)
 
-  pub each-join : (xs ys : List Equation) (o : ℕ) → Each R o xs → Each R (after o xs) ys → Each R o (xs ++ ys)
+  pub each-join : (xs ys : List Equation) (o : ℕ) → Each R o xs → Each R (placeAfter o xs) ys → Each R o (xs ++ ys)
   each-join [] ys o h g = g
   each-join (e ∷ xs) ys o h g = (h .0, each-join xs ys (suc o) (h .1) g)
 

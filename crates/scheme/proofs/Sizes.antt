@@ -18,7 +18,7 @@ use Rattle.tables.specs.Kind.{START, NOT}
 use Rattle.tables.specs.Table.{Equation}
 use Rattle.limits.specs.Limits.{arenaLimit, equationLimit, signalCount}
 use Rattle.scheme.specs.Scheme.{_⊕_, equation, widest}
-use Rattle.scheme.specs.Emit.{after, emitP, emit, names, flowIn, signals, header, whole-es, body, observer}
+use Rattle.scheme.specs.Emit.{placeAfter, emitP, emit, names, flowIn, signals, header, whole-es, body, observer}
 use Rattle.scheme.proofs.Header.{signals-length}
 
 module _ (flowOf : ℕ → ℕ) where
@@ -28,9 +28,9 @@ module _ (flowOf : ℕ → ℕ) where
   prop-size (signal j) o = omega arith
   prop-size (negP p) o = simp length-append (omega (arith, prop-size p o))
   prop-size (andP p q) o =
-      simp length-append (omega (arith, prop-size p o, prop-size q (after o (emitP flowOf p o .es))))
+      simp length-append (omega (arith, prop-size p o, prop-size q (placeAfter o (emitP flowOf p o .es))))
   prop-size (orP p q) o =
-      simp length-append (omega (arith, prop-size p o, prop-size q (after o (emitP flowOf p o .es))))
+      simp length-append (omega (arith, prop-size p o, prop-size q (placeAfter o (emitP flowOf p o .es))))
 
   size : (f : Formula) (s n o : ℕ) → 4 * length (emit flowOf f s n o .es) ≤ widest * length (flat (raw f))
   size (test begin p) s n o = simp length-append (omega (arith, prop-size p o))
@@ -43,11 +43,11 @@ module _ (flowOf : ℕ → ℕ) where
   size (count age p op x) s n o = simp length-append (omega (arith, prop-size p o))
   size (neg f) s n o = simp length-append (omega (arith, size f s n o))
   size (and f g) s n o =
-      simp length-append (omega (arith, size f s n o, size g s n (after o (emit flowOf f s n o .es))))
+      simp length-append (omega (arith, size f s n o, size g s n (placeAfter o (emit flowOf f s n o .es))))
   size (or f g) s n o =
-      simp length-append (omega (arith, size f s n o, size g s n (after o (emit flowOf f s n o .es))))
+      simp length-append (omega (arith, size f s n o, size g s n (placeAfter o (emit flowOf f s n o .es))))
   size (then l f) s n o =
-      let o′ : ℕ = after o (emit flowOf l s n o .es) in
+      let o′ : ℕ = placeAfter o (emit flowOf l s n o .es) in
       simp length-append (omega (arith, size l s n o, size f (o′ ⊕ 3) (o′ ⊕ 4) (o′ ⊕ 5)))
 
 -- The header of an observer, and its three parts together.
@@ -64,9 +64,9 @@ body-size k m g h = omega arith
 
 pub observer-size : (f : Formula) → length (flat (raw f)) ≤ arenaLimit → length (observer f) ≤ equationLimit
 observer-size f h =
-    let o : ℕ = after 0 (header (names f)) in
+    let o : ℕ = placeAfter 0 (header (names f)) in
     let few = body-size (length (body f .es)) (length (flat (raw f))) (size (flowIn (names f)) f 0 1 o) h in
-    let all = three-size (header (names f)) (body f .es) (whole-es 0 (after o (body f .es)) (body f .out))
+    let all = three-size (header (names f)) (body f .es) (whole-es 0 (placeAfter o (body f .es)) (body f .out))
     (signalCount + 2) 2400 4
     (header-size (names f) signalCount) few (omega arith) in
     le-trans all (omega arith)

@@ -32,9 +32,9 @@ pub record Block : Type 0 where
   pub out : ℕ
 
 -- The place after equations that stand from place o on.
-abbrev pub after : ℕ → List Equation → ℕ
-after o [] = o
-after o (e ∷ es) = after (suc o) es
+abbrev pub placeAfter : ℕ → List Equation → ℕ
+placeAfter o [] = o
+placeAfter o (e ∷ es) = placeAfter (suc o) es
 
 -- ---- the rows of each node, from place o on
 
@@ -118,19 +118,19 @@ ownFlow o x = valueOf (flowsAt o 0 0 0 0) x
 
 abbrev pub not-block : ℕ → Block → Block
 not-block o x =
-    let o′ : ℕ = after o (x .es) in
+    let o′ : ℕ = placeAfter o (x .es) in
     record { es = x .es ++ not-es o′ (x .out); out = ownFlow o′ (notNode .result) }
 
 -- Two blocks, the second after the first, and the row that joins them: of `&`, and of `|` with the same result.
 abbrev pub join-block : (ℕ → ℕ → ℕ → List Equation) → ℕ → Block → Block → Block
 join-block join o x y =
-    let o′ : ℕ = after (after o (x .es)) (y .es) in
+    let o′ : ℕ = placeAfter (placeAfter o (x .es)) (y .es) in
     record { es = x .es ++ (y .es ++ join o′ (x .out) (y .out)); out = ownFlow o′ (andNode .result) }
 
 -- An atom over a proposition's block.
 abbrev pub atom-block : (ℕ → ℕ → List Equation) → Node → ℕ → Block → Block
 atom-block rest d o x =
-    let o′ : ℕ = after o (x .es) in
+    let o′ : ℕ = placeAfter o (x .es) in
     record { es = x .es ++ rest o′ (x .out); out = ownFlow o′ (d .result) }
 
 -- The start flow of a second part and its negation, where the end of its lead stands at place o, and the place after
@@ -147,7 +147,7 @@ secondPlace o = o ⊕ length leadEndRows
 -- A `then`: o′ is the place after the lead x.
 abbrev pub then-block : ℕ → ℕ → Block → Block → Block
 then-block n o′ x y =
-    let o″ : ℕ = after (secondPlace o′) (y .es) in
+    let o″ : ℕ = placeAfter (secondPlace o′) (y .es) in
     record {
       es = x .es ++ (lead-end-es n o′ (x .out) ++ (y .es ++ then-es n o″ (secondStart o′) (y .out)));
       out = ownFlow o″ (thenNode .result);
@@ -160,8 +160,8 @@ module _ (flowOf : ℕ → ℕ) where
   emitP (constant c) o = record { es = constant-es c o; out = ownFlow o (constantNode .result) }
   emitP (signal j) o = record { es = []; out = flowOf j }
   emitP (negP p) o = not-block o (emitP p o)
-  emitP (andP p q) o = join-block and-es o (emitP p o) (emitP q (after o (emitP p o .es)))
-  emitP (orP p q) o = join-block or-es o (emitP p o) (emitP q (after o (emitP p o .es)))
+  emitP (andP p q) o = join-block and-es o (emitP p o) (emitP q (placeAfter o (emitP p o .es)))
+  emitP (orP p q) o = join-block or-es o (emitP p o) (emitP q (placeAfter o (emitP p o .es)))
 
   abbrev pub emit : Formula → ℕ → ℕ → ℕ → Block
   emit (test begin p) s n o = atom-block (begin-es s n) beginNode o (emitP p o)
@@ -173,10 +173,10 @@ module _ (flowOf : ℕ → ℕ) where
   emit (count sum p op x) s n o = atom-block (sum-es n op x) sumNode o (emitP p o)
   emit (count age p op x) s n o = atom-block (age-es n op x) ageNode o (emitP p o)
   emit (neg f) s n o = not-block o (emit f s n o)
-  emit (and f g) s n o = join-block and-es o (emit f s n o) (emit g s n (after o (emit f s n o .es)))
-  emit (or f g) s n o = join-block or-es o (emit f s n o) (emit g s n (after o (emit f s n o .es)))
+  emit (and f g) s n o = join-block and-es o (emit f s n o) (emit g s n (placeAfter o (emit f s n o .es)))
+  emit (or f g) s n o = join-block or-es o (emit f s n o) (emit g s n (placeAfter o (emit f s n o .es)))
   emit (then l f) s n o =
-      let o′ : ℕ = after o (emit l s n o .es) in
+      let o′ : ℕ = placeAfter o (emit l s n o .es) in
       then-block n o′ (emit l s n o) (emit f (secondStart o′) (secondIdle o′) (secondPlace o′))
 
 -- ---- the named signals
@@ -218,11 +218,12 @@ header named = equation START 0 0 0 ∷ equation NOT 0 0 0 ∷ signals named 0 s
 -- ---- the observer
 
 abbrev pub body : Formula → Block
-body f = emit (flowIn (names f)) f 0 1 (after 0 (header (names f)))
+body f = emit (flowIn (names f)) f 0 1 (placeAfter 0 (header (names f)))
 
 abbrev pub observer : Formula → List Equation
 observer f =
-    header (names f) ++ (body f .es ++ whole-es 0 (after (after 0 (header (names f))) (body f .es)) (body f .out))
+    header (names f) ++ (body f .es ++ whole-es 0 (placeAfter (placeAfter 0 (header (names f))) (body f .es))
+    (body f .out))
 
 -- The numbers of equations, four each.
 abbrev pub numbersOf : List Equation → List ℕ

@@ -166,8 +166,8 @@ abbrev pub wholeNode : Node
 wholeNode = node wholeRows 1 Fourth Idle
 
 -- In the order of the kinds of records (formulas, specs/Arena.antt), the whole rule's last.
-abbrev pub nodes : List Node
-nodes =
+abbrev pub nodeList : List Node
+nodeList =
     constantNode ∷ signalNode ∷ notNode ∷ andNode ∷ orNode
     ∷ beginNode ∷ endNode ∷ pointNode ∷ heldNode ∷ keptNode
     ∷ lenNode ∷ sumNode ∷ ageNode ∷ leadEndNode ∷ thenNode ∷ wholeNode ∷ []
@@ -180,7 +180,7 @@ abbrev pub noNode : Node
 noNode = node [] 0 Nought Nought
 
 unfoldable pub nodeOf : ℕ → Node
-nodeOf k = getD nodes k noNode
+nodeOf k = getD nodeList k noNode
 
 -- ---- values
 

@@ -9,7 +9,7 @@ use lib.Seq.{take-at, length-take-le}
 use Rattle.traces.specs.declared.Tick.{Tick}
 use Rattle.lists.specs.Number.{numberAt}
 use Rattle.flows.specs.Flow.{flows, nextState}
-use Rattle.flows.specs.Step.{after, afterTick}
+use Rattle.flows.specs.Step.{afterStep, afterTick}
 use Rattle.flows.specs.declared.Stepped.the-variants.{Verdict}
 use Rattle.flows.proofs.Buffers.{length-flows}
 use borrow.Author.Needs.{needs}
@@ -18,7 +18,7 @@ use Rattle.flows.proofs.run.Tie as tie
 
 whole : (cap : ℕ) (t : List ℕ) (n : ℕ) (k : Tick) (state₀ values₀ state values : List ℕ)
     → values ≡ flows cap t k state₀ n ++ drop n values₀ → state ≡ nextState t (take n values) n state₀
-    → after (Verdict (numberAt (take n values) (n - 1))) state values ≡ afterTick cap t n state₀ values₀ k
+    → afterStep (Verdict (numberAt (take n values) (n - 1))) state values ≡ afterTick cap t n state₀ values₀ k
 unfolding afterTick
 whole cap t n k state₀ values₀ state values ev es =
     let fs = flows cap t k state₀ n in

@@ -4,7 +4,7 @@ use Prim.Native.Nat.{ℕ}
 use lib.ListN.{List·getD-eq-default}
 use borrow.Author.Needs.{needs}
 use Rattle.tables.proofs.Numbers.{none-below}
-use Rattle.scheme.specs.Scheme.{Node, nodes, nodeCount, noNode, nodeOf, asNode}
+use Rattle.scheme.specs.Scheme.{Node, nodeList, nodeCount, noNode, nodeOf, asNode}
 use Rattle.scheme.specs.declared.Node.{Node as CodeNode}
 use Rattle.nodes.proofs.node_of.Statement.{statement}
 use Rattle.nodes.proofs.node_of.Tie as tie
@@ -18,7 +18,7 @@ beyond : tie.Need-returns-17
 unfolding nodeOf
 beyond c =
     let past = none-below (c .before .before .args .k) nodeCount (c .before .match .rest) in
-    c .no-node .ensures ∙ ap asNode (sym (List·getD-eq-default nodes noNode past))
+    c .no-node .ensures ∙ ap asNode (sym (List·getD-eq-default nodeList noNode past))
 
 pub node-of-spec : {M : Type 1} → statement M
 unfolding nodeOf

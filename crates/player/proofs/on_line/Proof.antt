@@ -8,7 +8,7 @@ use borrow.Author.Needs.{needs}
 use lib.ListN.{length, take, drop}
 use Rattle.observers.specs.declared.Compiled.{Compiled}
 use Rattle.observers.specs.declared.Compiled.the-variants as C
-use Rattle.flows.specs.Step.{After, after}
+use Rattle.flows.specs.Step.{AfterStep, afterStep}
 use Rattle.flows.specs.declared.Stepped.{Stepped}
 use Rattle.flows.specs.declared.Stepped.the-variants as S
 use Rattle.lists.specs.Line.{lineFrom}
@@ -81,10 +81,10 @@ module _ (c : tie.After-stage-after) where
       ∙ ends Line.Rule e
 
   tick-ends : (start signals : ℕ) → told ≡ Line.Tick start signals → (a r : Stepped) (s v : List ℕ) → r ≡ a
-      → after r s v ≡ stepOf start signals world
-      → stepEffect next (after a s v) world ≡ lined world line
+      → afterStep r s v ≡ stepOf start signals world
+      → stepEffect next (afterStep a s v) world ≡ lined world line
   tick-ends start signals e a r s v i h =
-      ap (λ (x : After). stepEffect next x world) (ap (λ (x : Stepped). after x s v) (sym i) ∙ h)
+      ap (λ (x : AfterStep). stepEffect next x world) (ap (λ (x : Stepped). afterStep x s v) (sym i) ∙ h)
       ∙ ends (Line.Tick start signals) e
 
 -- ---- the ways out
