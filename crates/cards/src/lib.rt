@@ -12,13 +12,13 @@ ghost use Rattle.cards.specs.Says.{editionOf, saysBy, brokenBy, lineSays
 ghost use Rattle.cards.specs.Says.{isOver};
 
 // The number at a place of a line, and the place after it.
-pub enum Number {
+enum Number {
     Is { value: u32, next: usize },
     Broken,
 }
 
 // The eight parameters, where their line is fine.
-pub struct Parameters {
+struct Parameters {
     pub fine: bool,
     pub values: [u32; 8],
 }

@@ -3,6 +3,7 @@ use mathlib.Core.List.{List}
 use mathlib.Core.Path.{_≡_}
 use Prim.Native.Nat.{ℕ, _≤_}
 use Rattle.traces.specs.declared.Tick.{Tick}
+use Rattle.limits.specs.Limits.{equationLimit}
 use Rattle.tables.specs.Reply.{Reply}
 use Rattle.flows.specs.Step.{AfterStep, AfterFresh, freshened, stepped, freshReply, stepReply}
 use Rattle.rules.specs.declared.Read as rules
@@ -74,7 +75,7 @@ pub record SameTold (first second : List ℕ) (r : Answer) : Type 0 where
 
 -- A number of equations that C's answer has room for.
 abbrev pub small : Compiled → Type 0
-small (Equations n) = n ≤ 4096
+small (Equations n) = n ≤ equationLimit
 small (Refused k) = Unit {0}
 
 -- The answers of writing and reading Lustre text.
@@ -99,5 +100,5 @@ short (Length l) = l ≤ lengthLimit
 short (No-text k) = Unit {0}
 
 abbrev pub few : Loaded → Type 0
-few (Loads n) = n ≤ 4096
+few (Loads n) = n ≤ equationLimit
 few (No-table k) = Unit {0}

@@ -38,7 +38,7 @@ const EQ: u32 = 2;
 const GT: u32 = 3;
 
 // x op y, by the operator's number.
-pub fn compare(op: u32, x: u32, y: u32) -> bool
+fn compare(op: u32, x: u32, y: u32) -> bool
     ensures { λ r. ⌜ r ≡ compares (opOf op) x y ⌝ }
 {
     match op {

@@ -24,7 +24,7 @@ ghost use Rattle.player.specs.Feed.{LineAt, Room, Stops, Admitted, fedTo
 ghost use Rattle.player.specs.Feed.{Finishes, placed};
 
 // What the program prints for a line.
-pub enum Output {
+enum Output {
     Quiet,
     Verdict(u32),
     Refused(u32),
@@ -37,13 +37,13 @@ pub struct Watch {
 }
 
 // What a line does to it, and has it print.
-pub struct Answered {
+struct Answered {
     pub watch: Watch,
     pub output: Output,
 }
 
 // After a piece of a card: how many of its bytes are used up, and how many bytes of the output are filled.
-pub struct Fed {
+struct Fed {
     pub watch: Watch,
     pub used: usize,
     pub filled: usize,

@@ -5,13 +5,13 @@ ghost use mathlib.Core.Path.{_≡_};
 ghost use Rattle.reader.specs.Part.{ruleFrom};
 
 // The lent bytes, and the place in them where the line `watch=` stands.
-pub struct Reader<'a> {
+struct Reader<'a> {
     pub bytes: &'a [u8],
     pub at: usize,
 }
 
 // What stands after the six bytes `watch=` at a place, up to the line's end, as a part of s; nothing past the end.
-pub fn rule_at(s: &[u8], at: usize) -> &[u8]
+fn rule_at(s: &[u8], at: usize) -> &[u8]
     ensures { λ r. ⌜ now r ≡ ruleFrom (now (s .entry)) at ⌝ }
 {
     if s.len() < 6 {
@@ -26,14 +26,14 @@ pub fn rule_at(s: &[u8], at: usize) -> &[u8]
 }
 
 // The same of a reader: the rule text, lent for as long as the reader's bytes are.
-pub fn rule_text<'a>(r: Reader<'a>) -> &'a [u8]
+fn rule_text<'a>(r: Reader<'a>) -> &'a [u8]
     ensures { λ t. ⌜ now t ≡ ruleFrom (now (r .entry .bytes)) (r .entry .at) ⌝ }
 {
     rule_at(r.bytes, r.at)
 }
 
 // A reader at a place of some bytes.
-pub fn new<'a>(bytes: &'a [u8], at: usize) -> Reader<'a>
+fn new<'a>(bytes: &'a [u8], at: usize) -> Reader<'a>
     ensures { λ r. ⌜ (r .bytes ≡ bytes .entry) × (r .at ≡ at) ⌝ }
 {
     Reader { bytes, at }

@@ -3,6 +3,7 @@ use mathlib.Core.Path.{_≡_, sym, ap, subst}
 use Prim.Native.Nat.{_≤_}
 use native.Mathlib.Omega.{arith}
 use Rattle.observers.specs.declared.Compiled.{Compiled}
+use Rattle.limits.specs.Limits.{equationLimit}
 use Rattle.firmware.specs.Face.{compiledAnswer, small}
 use borrow.Author.Needs.{needs}
 use Rattle.firmware.proofs.compiled_answer.Statement.{statement}
@@ -14,7 +15,7 @@ enum-known-c c = search needs
 cast-t5 : tie.Need-cast-t5
 cast-t5 c =
     let answered = c .before .c .given in
-    let few : answered .0 .0 ≤ 4096 = subst small (answered .1) (c .before .before .before .pre) in
+    let few : answered .0 .0 ≤ equationLimit = subst small (answered .1) (c .before .before .before .pre) in
     omega (arith, few)
 
 enum-known-c-2 : tie.Need-enum-known-c-2

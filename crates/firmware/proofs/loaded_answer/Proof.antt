@@ -2,6 +2,7 @@
 use mathlib.Core.Path.{_≡_, sym, ap, subst}
 use Prim.Native.Nat.{_≤_}
 use native.Mathlib.Omega.{arith}
+use Rattle.limits.specs.Limits.{equationLimit}
 use Rattle.firmware.specs.Face.{loadAnswer, few}
 use borrow.Author.Needs.{needs}
 use Rattle.firmware.proofs.loaded_answer.Statement.{statement}
@@ -12,7 +13,8 @@ enum-known-l c = search needs
 
 cast-t5 : tie.Need-cast-t5
 cast-t5 c =
-    let fits : c .before .l .given .0 .0 ≤ 4096 = subst few (c .before .l .given .1) (c .before .before .before .pre) in
+    let answered = c .before .l .given in
+    let fits : answered .0 .0 ≤ equationLimit = subst few (answered .1) (c .before .before .before .pre) in
     omega (arith, fits)
 
 enum-known-l-2 : tie.Need-enum-known-l-2
