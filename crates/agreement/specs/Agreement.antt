@@ -5,7 +5,7 @@ use mathlib.Core.Path.{_≡_}
 use Prim.Native.Nat.{ℕ, _+_, _*_, _≤_}
 use lib.ListN.{length}
 use Rattle.traces.specs.declared.Tick.{Tick}
-use Rattle.traces.specs.Trace.{Trace, traceOf}
+use Rattle.traces.specs.Trace.{Trace, traceOf, tickOf}
 use Rattle.formulas.specs.Formula.{Formula}
 use Rattle.formulas.specs.Meaning.{verdict}
 use Rattle.tables.specs.Table.{checked}
@@ -13,7 +13,7 @@ use Rattle.flows.specs.Step.{freshened}
 use Rattle.flows.specs.Run.{Call, answers, ticks, expected}
 use Rattle.tables.specs.declared.Checked.the-variants.{Passed}
 use Rattle.flows.specs.declared.Fresh.the-variants.{Made}
-use Rattle.scheme.specs.Memories.{memories}
+use Rattle.tables.specs.Table.{memories}
 
 -- "only the eight parameters are the same at all steps that are not refused"
 pub data SameParameters (ps : List ℕ) : List Tick → Type 0 where
@@ -22,7 +22,7 @@ pub data SameParameters (ps : List ℕ) : List Tick → Type 0 where
 
 -- The trace of the ticks; past the last one, which no verdict looks at, ticks with those parameters.
 abbrev pub traceOfTicks : List ℕ → List Tick → Trace
-traceOfTicks ps ks = traceOf (record { start = 0; signals = 0; parameters = ps }) ks
+traceOfTicks ps ks = traceOf (tickOf 0 0 ps) ks
 
 -- The n equations of the table are an observer of the formula f, which has that many nodes.
 pub record Observes (cap : ℕ) (t : List ℕ) (n : ℕ) (f : Formula) (nodes : ℕ) : Type 0 where

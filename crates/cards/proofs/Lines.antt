@@ -11,6 +11,7 @@ use lib.ListN.{length, getD, take, drop, length-take, drop-of-length-le}
 use lib.Seq.{drop-cons, take-length}
 use borrow.Author.Tests.{ne-eqb}
 use Rattle.lists.specs.Line.{lineEnd, line}
+use Rattle.lists.proofs.Lines.{take-line}
 use Rattle.cards.specs.Lines.{Cut, cutAs, withLine, pushOn, cut}
 
 pub append-nil : (l : List ℕ) → l ++ [] ≡ l
@@ -59,18 +60,6 @@ pub first-long : (s more : List ℕ) → LongFirst s more
 unfolding line
 first-long [] more = omega arith
 first-long (b ∷ s) more = first-split b s more (eqb b lineEnd) refl (first-long s more)
-
--- The line is the front of the bytes.
-take-line-split : (b : ℕ) (s : List ℕ) (t : Bool) → eqb b lineEnd ≡ t → take (length (line s)) s ≡ line s
-    → take (length (line (b ∷ s))) (b ∷ s) ≡ line (b ∷ s)
-unfolding line
-take-line-split b s true e ih = rw e
-take-line-split b s false e ih = rw e (ap (λ (l : List ℕ). b ∷ l) ih)
-
-pub take-line : (s : List ℕ) → take (length (line s)) s ≡ line s
-unfolding line
-take-line [] = refl
-take-line (b ∷ s) = take-line-split b s (eqb b lineEnd) refl (take-line s)
 
 pub line-within : (s : List ℕ) → length (line s) ≤ length s
 line-within s = omega (arith, ap length (take-line s), length-take (length (line s)) s)

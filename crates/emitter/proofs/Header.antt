@@ -12,7 +12,7 @@ use Rattle.traces.specs.Trace.{nonzero}
 use Rattle.tables.specs.Kind.{SIGNAL, START, NOT}
 use Rattle.tables.specs.Table.{Equation}
 use Rattle.limits.specs.Limits.{signalCount}
-use Rattle.scheme.specs.Scheme.{equation}
+use Rattle.tables.specs.Table.{equation}
 use Rattle.scheme.specs.Emit.{placeAfter, signals, places}
 use Rattle.emitter.specs.Machine.{withEquations, Header, headerOf, settled, settle}
 use Rattle.emitter.specs.Contract.{Headed}

@@ -16,19 +16,8 @@ use Rattle.formulas.specs.Arena.{row, flat}
 use Rattle.formulas.proofs.Formulas.{rawP, raw}
 use Rattle.tables.specs.Table.{Equation}
 use Rattle.scheme.specs.Scheme.{_⊕_, Node, nodeOf, beginNode, pointNode, heldNode, keptNode, sumNode, ageNode}
-use Rattle.scheme.specs.Emit.{
-  Block,
-  placeAfter,
-  ownFlow,
-  emitP,
-  emit,
-  not-block,
-  join-block,
-  atom-block,
-  not-es,
-  and-es,
-  or-es,
-}
+use Rattle.scheme.specs.Emit.{Block, placeAfter, ownFlow, emitP, emit, not-block, join-block, atom-block, not-es}
+use Rattle.scheme.specs.Emit.{and-es, or-es}
 use Rattle.scheme.specs.Emit.{begin-es, point-es, held-es, kept-es, sum-es, age-es, lead-end-es, then-es}
 use Rattle.emitter.specs.Machine.{withEquations, State, state, before, recordOf}
 use Rattle.emitter.specs.Machine.{valuesAt, applied, step, run}

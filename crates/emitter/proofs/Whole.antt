@@ -105,7 +105,7 @@ unfolding withEquations ends
 emitted {arena} {t} {named} {t₁} {ps} {o} {t₂} {r} short e-named h g =
     record {
       many = λ f e. g .many ∙ ap (λ (s : State). s .next) (same f e) ∙ ends-next f signalCount t;
-      withEquations = λ f e. g .written ∙ ap (λ (s : State). s .table) (same f e) ∙ ends-table f signalCount t;
+      written = λ f e. g .written ∙ ap (λ (s : State). s .table) (same f e) ∙ ends-table f signalCount t;
       few = omega arith;
     }
   where

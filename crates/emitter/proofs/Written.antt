@@ -8,7 +8,8 @@ use lib.ListN.{length, set, take}
 use lib.Seq.{sets, take-all}
 use Rattle.lists.proofs.Buffers.{sets-append}
 use Rattle.tables.specs.Table.{Equation}
-use Rattle.scheme.specs.Scheme.{equation, widest, valueOf, kindFor, resolved, filled, rowsIn}
+use Rattle.tables.specs.Table.{equation}
+use Rattle.scheme.specs.Scheme.{widest, valueOf, kindFor, resolved, filled, rowsIn}
 use Rattle.scheme.specs.declared.Node.{Node}
 use Rattle.scheme.specs.declared.Row.{Row}
 use Rattle.scheme.specs.declared.Values.{Values}

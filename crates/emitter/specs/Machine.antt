@@ -13,7 +13,8 @@ use Rattle.formulas.specs.Arena as arena
 use Rattle.tables.specs.Kind.{SIGNAL, START, NOT}
 use Rattle.tables.specs.Table.{Equation}
 use Rattle.limits.specs.Limits.{recordLimit, signalCount}
-use Rattle.scheme.specs.Scheme.{_⊕_, equation, Node, nodeOf, valueOf, comparisonOf, filled}
+use Rattle.scheme.specs.Scheme.{_⊕_, Node, nodeOf, valueOf, comparisonOf, filled}
+use Rattle.tables.specs.Table.{equation}
 use Rattle.scheme.specs.declared.Values.{Values}
 use Rattle.scheme.specs.Emit.{numbersOf}
 use Rattle.emitter.specs.declared.Record.{Record}

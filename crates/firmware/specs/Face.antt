@@ -2,7 +2,6 @@
 use mathlib.Core.List.{List}
 use mathlib.Core.Path.{_≡_}
 use Prim.Native.Nat.{ℕ, _≤_}
-use Rattle.traces.specs.declared.Tick.{Tick}
 use Rattle.limits.specs.Limits.{equationLimit}
 use Rattle.tables.specs.Reply.{Reply}
 use Rattle.flows.specs.Step.{AfterStep, AfterFresh, freshened, stepped, freshReply, stepReply}
@@ -27,10 +26,6 @@ use Rattle.firmware.specs.declared.Answer.{Answer}
 -- "A refusal gives its number and no other result (0 elsewhere)."
 abbrev pub answer : Reply → Answer
 answer x = record { refusal = x .refusal; result = x .result }
-
--- A tick from its numbers.
-abbrev pub tickOf : ℕ → ℕ → List ℕ → Tick
-tickOf s g ps = record { start = s; signals = g; parameters = ps }
 
 -- What a call leaves: its answer and the buffer that it was lent for writing; of a step the state and the values.
 pub record Left : Type 0 where

@@ -32,7 +32,7 @@ abbrev pub TEST : ℕ
 TEST = 5
 
 abbrev pub BEGIN : ℕ
-BEGIN = 5
+BEGIN = TEST
 
 abbrev pub END : ℕ
 END = 6
@@ -54,7 +54,7 @@ abbrev pub COUNT : ℕ
 COUNT = 11
 
 abbrev pub SUM : ℕ
-SUM = 11
+SUM = COUNT
 
 abbrev pub AGE : ℕ
 AGE = 12

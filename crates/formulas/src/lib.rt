@@ -15,7 +15,7 @@ pub const OR: u32 = 4;
 // `begin`, and then the other tests.
 pub const TEST: u32 = 5;
 
-pub const BEGIN: u32 = 5;
+pub const BEGIN: u32 = TEST;
 
 pub const END: u32 = 6;
 
@@ -30,7 +30,7 @@ pub const LEN: u32 = 10;
 // `sum`, and then `age`.
 pub const COUNT: u32 = 11;
 
-pub const SUM: u32 = 11;
+pub const SUM: u32 = COUNT;
 
 pub const AGE: u32 = 12;
 

@@ -1,12 +1,12 @@
 -- A line, one byte at a time. Assumes nothing.
 use mathlib.Core.Bool.{Bool, true, false, cond}
-use mathlib.Core.Path.{_≡_, ap}
+use mathlib.Core.Path.{_≡_, refl, ap}
 use mathlib.Core.List.{List, [], _∷_}
 use Prim.Native.Nat.{ℕ, suc, _+_, _≤_, _<_}
 use native.Mathlib.Numerals.{add-one}
 use native.Mathlib.Omega.{arith}
 use lib.Dec.{eqb}
-use lib.ListN.{length, getD, drop, drop-of-length-le, length-drop}
+use lib.ListN.{length, getD, take, drop, drop-of-length-le, length-drop}
 use lib.Seq.{drop-cons}
 use borrow.Author.Tests.{ne-eqb}
 use Rattle.lists.specs.Line.{lineEnd, line, lineFrom}
@@ -52,3 +52,15 @@ module _ {s : List ℕ} {at i : ℕ} (h : Lining s at i) where
 
   pub lining-more : i < length s → (getD s i 0 ≡ lineEnd → ⊥) → Lining s at (i + 1)
   lining-more p n = record { passed = omega (arith, h .passed, ap length (line-more s i p n)); from = omega arith }
+
+-- The line is the front of the bytes.
+take-line-split : (b : ℕ) (s : List ℕ) (t : Bool) → eqb b lineEnd ≡ t → take (length (line s)) s ≡ line s
+    → take (length (line (b ∷ s))) (b ∷ s) ≡ line (b ∷ s)
+unfolding line
+take-line-split b s true e ih = rw e
+take-line-split b s false e ih = rw e (ap (λ (l : List ℕ). b ∷ l) ih)
+
+pub take-line : (s : List ℕ) → take (length (line s)) s ≡ line s
+unfolding line
+take-line [] = refl
+take-line (b ∷ s) = take-line-split b s (eqb b lineEnd) refl (take-line s)

@@ -58,7 +58,7 @@ pub fn same_bytes(s: &[u8], t: &[u8]) -> bool
 }
 
 // The smaller of two numbers.
-fn least(x: usize, y: usize) -> usize
+pub fn least(x: usize, y: usize) -> usize
     ensures { λ r. ⌜ r ≡ min x y ⌝ }
 {
     if x <= y { x } else { y }

@@ -22,7 +22,8 @@ use Rattle.tables.specs.declared.Operand.the-variants.{Unused, Earlier, Anywher
 use Rattle.tables.proofs.Tests.{and-true, all-at}
 use Rattle.tables.proofs.Numbers.{kind-beyond}
 use Rattle.lustre.specs.Text.{valueText, lineEnd}
-use Rattle.lustre.specs.Form.{equation, equationOf, Letter, isA, isB, isC, slot, render, absent}
+use Rattle.tables.specs.Table.{equation}
+use Rattle.lustre.specs.Form.{equationOf, Letter, isA, isB, isC, slot, render, absent}
 use Rattle.lustre.specs.Form.{Agree, highest, Small, padded, formWidth, forms, formCount, formAt}
 use Rattle.lustre.specs.Form.{formText, Fits, formNumber, formOf, Plain}
 use Rattle.lustre.specs.Scan.{scanned, scan}

@@ -11,16 +11,13 @@ use Rattle.lists.specs.Text.{bytes}
 use Rattle.limits.specs.Limits.{equationLimit, literalCount}
 use Rattle.tables.specs.Kind.{SIGNAL, START, CONSTANT, NOT, AND, OR, BOOLEAN-PRE, COUNT-PRE, CAPPED, IF}
 use Rattle.tables.specs.Kind.{COMPARE-LITERAL, COMPARE-PARAMETER}
-use Rattle.tables.specs.Table.{Equation, equationAt, Kind, kindOf}
+use Rattle.tables.specs.Table.{Equation, equation, equationAt, Kind, kindOf}
 use Rattle.tables.specs.Table.Kind.{signal, start, constant, negation, conjunction, disjunction, booleanPre}
 use Rattle.tables.specs.Table.Kind.{countPre, capped, ifElse, compareLiteral, compareParameter, unknown}
 use Rattle.lustre.specs.Decimal.{numberText}
 use Rattle.lustre.specs.Text.{lineText}
 use Rattle.lustre.specs.declared.Numbers.{Numbers}
 use Rattle.lustre.specs.declared.Form.{Form}
-
-abbrev pub equation : ℕ → ℕ → ℕ → ℕ → Equation
-equation k a b c = record { kind = k; a = a; b = b; c = c }
 
 -- The equation of four numbers.
 abbrev pub equationOf : Numbers → Equation

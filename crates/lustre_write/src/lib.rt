@@ -9,7 +9,7 @@ use lustre::only;
 use tables::Checked;
 use tables::check_table;
 ghost use mathlib.Core.Path.{_≡_};
-ghost use Prim.Native.Nat.{_+_, _*_, _≤_, _<_, min};
+ghost use Prim.Native.Nat.{_+_, _*_, _≤_, _<_};
 ghost use lib.ListN.{length, set};
 ghost use Rattle.limits.specs.Limits.{equationLimit};
 ghost use Rattle.tables.specs.Table.{equationAt, checked};
@@ -26,13 +26,6 @@ fn store(out: &mut [u8], i: usize, x: u8)
     if i < out.len() {
         out[i] = x;
     }
-}
-
-// The smaller of two numbers.
-fn least(x: usize, y: usize) -> usize
-    ensures { λ r. ⌜ r ≡ min x y ⌝ }
-{
-    if x <= y { x } else { y }
 }
 
 // The number that a letter stands for.
@@ -79,7 +72,7 @@ fn write_form(form: &[u8], e: Numbers, out: &mut [u8]) -> usize
     let mut at = 0;
     let mut j = 0;
     while j < form.len() {
-        let q = least(at, out.len());
+        let q = lists::least(at, out.len());
         at += write_piece(e, form[j], &mut out[q..]);
         j += 1;
     }
@@ -139,7 +132,7 @@ fn write_line(table: &[u32], i: usize, out: &mut [u8]) -> usize
         (now (out .entry)) (now (out .exit)) r ⌝ }
 {
     let p = write_form(b"fA=", only(i), out);
-    let q = least(p, out.len());
+    let q = lists::least(p, out.len());
     p + write_end(equation_at(table, i), &mut out[q..])
 }
 
@@ -151,7 +144,7 @@ fn write_lines(table: &[u32], n: usize, out: &mut [u8]) -> usize
     let mut at = 0;
     let mut i = 0;
     while i < n {
-        let q = least(at, out.len());
+        let q = lists::least(at, out.len());
         at += write_line(table, i, &mut out[q..]);
         i += 1;
     }
@@ -166,9 +159,9 @@ fn write_text(table: &[u32], n: usize, out: &mut [u8]) -> usize
 {
     let last = n - 1;
     let p = write_form(b"let\n", only(0), out);
-    let q = least(p, out.len());
+    let q = lists::least(p, out.len());
     let s = p + write_lines(table, n, &mut out[q..]);
-    let u = least(s, out.len());
+    let u = lists::least(s, out.len());
     s + write_form(b"a=fA;\ntel\n", only(last), &mut out[u..])
 }
 

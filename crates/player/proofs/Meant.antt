@@ -19,15 +19,8 @@ use Rattle.formulas.specs.Meaning.{verdict}
 use Rattle.formulas.specs.Tree.{Tree, nodes, formulaOf}
 use Rattle.tables.specs.Table.{Equation, all}
 use Rattle.limits.specs.Limits.{parameterCount, standardCap, textLimit, lineLimit, equationLimit, tableRoom}
-use Rattle.flows.specs.Step.{
-  AfterStep,
-  freshened,
-  stepped,
-  stepChecked,
-  steppedIf,
-  afterTick as tickAfter,
-  parameterFits,
-}
+use Rattle.flows.specs.Step.{AfterStep, freshened, stepped, stepChecked, steppedIf, afterTick as tickAfter}
+use Rattle.flows.specs.Step.{parameterFits}
 use Rattle.flows.specs.Run.{Call, answers, callChecked, ticks, expected}
 use Rattle.tables.specs.declared.Checked.{Checked}
 use Rattle.tables.specs.declared.Checked.the-variants.{Passed, Refused as Failed}
@@ -55,7 +48,8 @@ use Rattle.cards.specs.declared.Count.the-variants as K
 use Rattle.cards.specs.declared.Phase.the-variants as P
 use Rattle.cards.specs.declared.Stage.{Stage}
 use Rattle.cards.proofs.Sized.{parameters-low, parameters-short, count-short}
-use Rattle.player.specs.Card.{World, worldOf, watchOf, Effect, effectOf, tickOf, stepOf, ruleMade, played}
+use Rattle.player.specs.Card.{World, worldOf, watchOf, Effect, effectOf, stepOf, ruleMade, played}
+use Rattle.traces.specs.Trace.{tickOf}
 use Rattle.player.specs.Card.{lined}
 use Rattle.player.specs.Card.{outputBytes, owed, prints, start, printed}
 use Rattle.player.specs.Meant.{TickLines, Fine, verdictLines}

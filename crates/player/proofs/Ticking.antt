@@ -17,7 +17,8 @@ use Rattle.cards.specs.declared.Phase.the-variants as P
 use Rattle.cards.specs.declared.TickLine.the-variants as T
 use Rattle.cards.proofs.Front.{First, first-tick}
 use Rattle.cards.proofs.Hex.{tick-length}
-use Rattle.player.specs.Card.{World, worldOf, watchOf, Effect, effectOf, tickOf, played, lined, outputBytes}
+use Rattle.player.specs.Card.{World, worldOf, watchOf, Effect, effectOf, played, lined, outputBytes}
+use Rattle.traces.specs.Trace.{tickOf}
 use Rattle.player.specs.Feed.{Admitted, Runs, fedTo, placed}
 use Rattle.player.specs.declared.Output.the-variants as O
 use Rattle.player.specs.declared.Watch.{Watch}

@@ -10,7 +10,7 @@ use denote.Ref.{RefT, now}
 use denote.Triple.Both.{Both}
 use Rattle.limits.specs.Limits.{standardCap, parameterCount, tableRoom, equationLimit}
 use Rattle.lists.specs.Text.{bytes}
-use Rattle.traces.specs.declared.Tick.{Tick}
+use Rattle.traces.specs.Trace.{tickOf}
 use Rattle.observers.specs.Compile.{AfterCompile, compiled}
 use Rattle.observers.specs.declared.Compiled.{Compiled}
 use Rattle.observers.specs.declared.Compiled.the-variants as C
@@ -126,9 +126,6 @@ abbrev pub ruleEffect : Stage → AfterRule → World → Effect
 ruleEffect k r w = withRule k (r .answer) (ruledWorld r w)
 
 -- A tick line: one step.
-abbrev pub tickOf : ℕ → ℕ → List ℕ → Tick
-tickOf start signals ps = record { start = start; signals = signals; parameters = ps }
-
 abbrev pub withStep : Stage → Stepped → World → Effect
 withStep k (S.Verdict v) w = goOn (watchOf k (w .watch .n)) (O.Verdict v) w
 withStep k (S.Refused r) w = stop (O.Refused r) w

@@ -12,7 +12,8 @@ use Rattle.cards.specs.Lines.{overLong, cut}
 use Rattle.cards.specs.Ticks.{tickFirst}
 use Rattle.cards.specs.declared.Phase.the-variants as P
 use Rattle.cards.specs.declared.TickLine.the-variants as T
-use Rattle.player.specs.Card.{World, worldOf, tickOf, overWatch, lined, prints}
+use Rattle.player.specs.Card.{World, worldOf, overWatch, lined, prints}
+use Rattle.traces.specs.Trace.{tickOf}
 use Rattle.player.specs.declared.Fed.{Fed}
 use Rattle.player.specs.declared.Turn.{Turn}
 use Rattle.player.specs.declared.Watch.{Watch}

@@ -9,7 +9,8 @@ use Rattle.cards.specs.Numbers.{parametersOf, countOf}
 use Rattle.cards.specs.Numbers.Listed.{are}
 use Rattle.cards.specs.Ticks.{tickLine}
 use Rattle.cards.specs.Lines.{cut, cutAs}
-use Rattle.player.specs.Card.{tickOf, outputBytes}
+use Rattle.traces.specs.Trace.{tickOf}
+use Rattle.player.specs.Card.{outputBytes}
 use Rattle.player.specs.declared.Output.the-variants as O
 use Rattle.cards.specs.declared.Count.the-variants as K
 use Rattle.cards.specs.declared.TickLine.the-variants as T

@@ -20,7 +20,8 @@ ghost use Rattle.reader.specs.Part.{ruleFrom};
 ghost use Rattle.player.specs.Card.{World, brought, entering, leaving, start};
 ghost use Rattle.player.specs.Card.{afterRule, ruleMade, effectOf, lined, outputBytes, lastOutput};
 ghost use Rattle.player.specs.Card.{watchOf, goingOn, stopped};
-ghost use Rattle.player.specs.Feed.{LineAt, Room, Stops, Admitted, fedTo, Runs, Feeds, shifted, Turns, Short};
+ghost use Rattle.player.specs.Feed.{longestOutput, LineAt, Room, Stops, Admitted};
+ghost use Rattle.player.specs.Feed.{fedTo, Runs, Feeds, shifted, Turns, Short};
 ghost use Rattle.player.specs.Feed.{Finishes, placed};
 
 // What the program prints for a line.
@@ -414,7 +415,7 @@ pub fn run_turn(
     values: &mut [u32],
     out: &mut [u8],
 ) -> Turn
-    requires { ⌜ (to ≤ length (now buf)) × (to + 11 ≤ length (now out)) ⌝ }
+    requires { ⌜ (to ≤ length (now buf)) × (to + longestOutput ≤ length (now out)) ⌝ }
     ensures { λ r. ⌜ Turns (entering watch parameters table state values) (now (buf .entry)) to r
         (leaving (r .watch) parameters table state values) (now (buf .exit)) (now (out .entry)) (now (out .exit)) ⌝ }
 {
@@ -432,7 +433,7 @@ pub fn run_turn(
 
 // The end of the input: the first `to` bytes of buf are left over. Answers how many bytes are to be written.
 pub fn finish(w: Watch, buf: &[u8], to: usize, out: &mut [u8]) -> usize
-    requires { ⌜ (to ≤ length (now buf)) × (Short (take to (now buf)) × (11 ≤ length (now out))) ⌝ }
+    requires { ⌜ (to ≤ length (now buf)) × (Short (take to (now buf)) × (longestOutput ≤ length (now out))) ⌝ }
     ensures { λ r. ⌜ Finishes w (take to (now (buf .entry))) r (now (out .entry)) (now (out .exit)) ⌝ }
 {
     let stage = w.stage;

@@ -16,7 +16,8 @@ use Rattle.formulas.specs.Bounds.{numBound}
 use Rattle.formulas.specs.Arena.{numKind, numValue}
 use Rattle.tables.specs.Table.{kindOf}
 use Rattle.limits.specs.Limits.{parameterCount}
-use Rattle.scheme.specs.Scheme.{_⊕_, equation, comparisonOf}
+use Rattle.scheme.specs.Scheme.{_⊕_, comparisonOf}
+use Rattle.tables.specs.Table.{equation}
 use Rattle.scheme.specs.Emit.{begin-es, point-es, kept-es, held-es, len-es, sum-es, age-es}
 use Rattle.scheme.proofs.Offsets.{longer, each-last, tally-last, streak-single}
 use Rattle.scheme.proofs.Local.{on, Stand}

@@ -15,7 +15,8 @@ use Rattle.formulas.specs.Raw.{rawP, raw}
 use Rattle.tables.specs.Kind.{SIGNAL}
 use Rattle.tables.specs.Table.{Equation, kindOf, shapeOf, shapeFits, operandFits}
 use Rattle.limits.specs.Limits.{signalCount}
-use Rattle.scheme.specs.Scheme.{_⊕_, equation}
+use Rattle.scheme.specs.Scheme.{_⊕_}
+use Rattle.tables.specs.Table.{equation}
 use Rattle.scheme.specs.Emit.{placeAfter, namesP, names, signals, places}
 use Rattle.scheme.proofs.Offsets.{suc-⊕}
 use Rattle.scheme.proofs.Places.{after-later, Each}

@@ -18,10 +18,11 @@ use Rattle.formulas.specs.Raw.{raw}
 use Rattle.limits.specs.Limits.{signalCount}
 use Rattle.tables.specs.Kind.{SIGNAL, START, NOT}
 use Rattle.tables.specs.Table.{Equation, kindOf, kindAt, isMemory}
-use Rattle.scheme.specs.Scheme.{_⊕_, equation, comparisonOf}
+use Rattle.scheme.specs.Scheme.{_⊕_, comparisonOf}
+use Rattle.tables.specs.Table.{equation}
 use Rattle.scheme.specs.Emit.{placeAfter, emitP, emit, names, flowIn, signals, header, whole-es, body, observer}
 use Rattle.scheme.specs.Emit.{numbersOf}
-use Rattle.scheme.specs.Memories.{memories}
+use Rattle.tables.specs.Table.{memories}
 use Rattle.scheme.proofs.Places.{four-more}
 
 -- The memories of a formula's own equations: one for each `begin`, `kept`, `held`, `len`, `sum` and `age`, two for

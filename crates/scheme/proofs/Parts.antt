@@ -10,7 +10,8 @@ use Rattle.formulas.specs.Formula.{Formula}
 use Rattle.limits.specs.Limits.{signalCount}
 use Rattle.tables.specs.Kind.{START, NOT}
 use Rattle.tables.specs.Table.{Equation}
-use Rattle.scheme.specs.Scheme.{_⊕_, equation}
+use Rattle.scheme.specs.Scheme.{_⊕_}
+use Rattle.tables.specs.Table.{equation}
 use Rattle.scheme.specs.Emit.{Block, placeAfter, emit, names, signals, places, whole-es, observer}
 use Rattle.scheme.proofs.Places.{after-append, after-length}
 

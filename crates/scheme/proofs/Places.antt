@@ -5,7 +5,8 @@ use Prim.Native.Nat.{ℕ, zero, suc, _+_, _*_, _≤_, _<_}
 use native.Mathlib.Omega.{arith}
 use lib.ListN.{getD, length}
 use Rattle.tables.specs.Table.{Equation, equationAt}
-use Rattle.scheme.specs.Scheme.{_⊕_, equation}
+use Rattle.scheme.specs.Scheme.{_⊕_}
+use Rattle.tables.specs.Table.{equation}
 use Rattle.scheme.specs.Emit.{placeAfter, numbersOf}
 use Rattle.scheme.proofs.Offsets.{suc-⊕}
 

@@ -17,7 +17,8 @@ use Rattle.formulas.specs.Raw.{rawP, raw}
 use Rattle.tables.specs.Kind.{START, NOT}
 use Rattle.tables.specs.Table.{Equation}
 use Rattle.limits.specs.Limits.{arenaLimit, equationLimit, signalCount}
-use Rattle.scheme.specs.Scheme.{_⊕_, equation, widest}
+use Rattle.scheme.specs.Scheme.{_⊕_, widest}
+use Rattle.tables.specs.Table.{equation}
 use Rattle.scheme.specs.Emit.{placeAfter, emitP, emit, names, flowIn, signals, header, whole-es, body, observer}
 use Rattle.scheme.proofs.Header.{signals-length}
 

@@ -17,10 +17,12 @@ use Rattle.formulas.specs.Arena.{numKind, numValue}
 use Rattle.tables.specs.Table.{Equation}
 use Rattle.tables.specs.Kind.{SIGNAL, START, NOT}
 use Rattle.limits.specs.Limits.{signalCount}
-use Rattle.scheme.specs.Scheme.{_⊕_, equation, constantRows, notRows, andRows, orRows, beginRows, pointRows}
+use Rattle.scheme.specs.Scheme.{_⊕_, constantRows, notRows, andRows, orRows, beginRows, pointRows}
+use Rattle.tables.specs.Table.{equation}
 use Rattle.scheme.specs.Scheme.{keptRows, heldRows, lenRows, sumRows, ageRows, leadEndRows, thenRows, wholeRows}
 use Rattle.scheme.specs.Scheme.{Node, constantNode, notNode, andNode, beginNode, pointNode, heldNode}
-use Rattle.scheme.specs.Scheme.{keptNode, lenNode, sumNode, ageNode, leadEndNode, thenNode, valueOf, comparisonOf}
+use Rattle.scheme.specs.Scheme.{keptNode, lenNode, sumNode, ageNode, leadEndNode, thenNode, valueOf}
+use Rattle.scheme.specs.Scheme.{comparisonOf}
 use Rattle.scheme.specs.Scheme.{filled}
 use Rattle.scheme.specs.declared.Name.{Name}
 use Rattle.scheme.specs.declared.Name.the-variants.{Fourth}

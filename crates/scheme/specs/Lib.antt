@@ -1,4 +1,3 @@
 -- The observer of a formula: the rows of each node, and the equations that they give.
 pub mod Scheme
 pub mod Emit
-pub mod Memories

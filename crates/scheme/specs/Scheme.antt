@@ -7,7 +7,7 @@ use Prim.Native.Nat.{ℕ, zero, suc}
 use lib.Dec.{eqb}
 use lib.ListN.{getD, length, take}
 use Rattle.formulas.specs.Arena.{LITERAL}
-use Rattle.tables.specs.Table.{Equation}
+use Rattle.tables.specs.Table.{Equation, equation}
 use Rattle.tables.specs.Kind.{CONSTANT, NOT, AND, OR, BOOLEAN-PRE, COUNT-PRE, CAPPED, IF}
 use Rattle.tables.specs.Kind.{COMPARE-LITERAL, COMPARE-PARAMETER}
 use Rattle.scheme.specs.declared.Name.{Name}
@@ -24,9 +24,6 @@ infixl 65 _⊕_
 abbrev pub _⊕_ : ℕ → ℕ → ℕ
 o ⊕ zero = o
 o ⊕ suc k = suc (o ⊕ k)
-
-abbrev pub equation : ℕ → ℕ → ℕ → ℕ → Equation
-equation k a b c = record { kind = k; a = a; b = b; c = c }
 
 -- ---- rows
 

@@ -27,6 +27,9 @@ pub record Equation : Type 0 where
   pub b : ℕ
   pub c : ℕ
 
+abbrev pub equation : ℕ → ℕ → ℕ → ℕ → Equation
+equation k a b c = record { kind = k; a = a; b = b; c = c }
+
 -- Equation i of a table.
 abbrev pub equationAt : List ℕ → ℕ → Equation
 equationAt t i =
@@ -103,6 +106,11 @@ isMemory ifElse = false
 isMemory compareLiteral = false
 isMemory compareParameter = false
 isMemory unknown = false
+
+-- "Memories are counted over the n equations": kinds 6 and 7.
+abbrev pub memories : List ℕ → ℕ → ℕ
+memories t zero = 0
+memories t (suc i) = cond (isMemory (kindAt t i)) (suc (memories t i)) (memories t i)
 
 -- x is one of the first m equations, and its flow has that sort.
 unfoldable pub isFlow : List ℕ → ℕ → Sort → ℕ → Bool

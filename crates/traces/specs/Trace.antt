@@ -31,6 +31,10 @@ parameterAt k j = getD (k .parameters) j 0
 abbrev pub starts : Tick → Bool
 starts k = nonzero (k .start)
 
+-- A tick of its numbers.
+abbrev pub tickOf : ℕ → ℕ → List ℕ → Tick
+tickOf start signals ps = record { start = start; signals = signals; parameters = ps }
+
 -- A trace gives the tick of each number, from 0 on.
 abbrev pub Trace : Type 0
 Trace = ℕ → Tick

@@ -97,24 +97,12 @@ pub enum Split {
     Refused(u32),
 }
 
-// Whether a byte is part of a run.
-fn in_run(b: u8) -> bool
-    ensures { λ r. ⌜ r ≡ eqb (classOf b) RUN ⌝ }
-{
-    match b {
-        b'a'..=b'z' | b'0'..=b'9' => true,
-        _ => false,
-    }
-}
-
 // The class of a byte: it decides which words it can be part of.
 fn class(b: u8) -> u32
     ensures { λ r. ⌜ r ≡ classOf b ⌝ }
 {
-    if in_run(b) {
-        return RUN;
-    }
     match b {
+        b'a'..=b'z' | b'0'..=b'9' => RUN,
         b' ' => SPACE,
         b'(' => ROUND,
         b')' => ROUND_END,
@@ -128,6 +116,13 @@ fn class(b: u8) -> u32
         b'>' => GT,
         _ => OTHER,
     }
+}
+
+// Whether a byte is part of a run.
+fn in_run(b: u8) -> bool
+    ensures { λ r. ⌜ r ≡ eqb (classOf b) RUN ⌝ }
+{
+    class(b) == RUN
 }
 
 // The end of the run that starts at i.

@@ -2,6 +2,7 @@
 use mathlib.Core.Path.{_≡_, sym, ap, subst}
 use Prim.Native.Nat.{_≤_}
 use native.Mathlib.Omega.{arith}
+use Rattle.lustre.specs.Write.{lengthLimit}
 use Rattle.firmware.specs.Face.{writeAnswer, short}
 use borrow.Author.Needs.{needs}
 use Rattle.firmware.proofs.written_answer.Statement.{statement}
@@ -13,7 +14,7 @@ enum-known-w c = search needs
 cast-t5 : tie.Need-cast-t5
 cast-t5 c =
     let answered = c .before .w .given in
-    let fits : answered .0 .0 ≤ 409700 = subst short (answered .1) (c .before .before .before .pre) in
+    let fits : answered .0 .0 ≤ lengthLimit = subst short (answered .1) (c .before .before .before .pre) in
     omega (arith, fits)
 
 enum-known-w-2 : tie.Need-enum-known-w-2

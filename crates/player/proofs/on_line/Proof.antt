@@ -16,7 +16,7 @@ use Rattle.cards.specs.Says.{saysBy, lineSays}
 use Rattle.cards.specs.declared.Stage.{Stage}
 use Rattle.cards.specs.declared.Content.{Content}
 use Rattle.cards.specs.declared.Content.the-variants as Line
-use Rattle.cards.proofs.Lines.{take-line}
+use Rattle.lists.proofs.Lines.{take-line}
 use Rattle.reader.specs.Part.{ruleFrom}
 use Rattle.player.specs.Card.{World, brought, AfterRule, afterRule, ruleMade, ruleEffect, stepEffect, stepOf}
 use Rattle.player.specs.Card.{playedTo, lined}

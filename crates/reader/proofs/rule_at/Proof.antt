@@ -5,7 +5,7 @@ use native.Mathlib.Omega.{arith}
 use borrow.Author.Needs.{needs}
 use lib.ListN.{length, take, drop}
 use Rattle.lists.proofs.Lines.{line-past, line-fits}
-use Rattle.cards.proofs.Lines.{take-line}
+use Rattle.lists.proofs.Lines.{take-line}
 use Rattle.reader.proofs.rule_at.Statement.{statement}
 use Rattle.reader.proofs.rule_at.Tie as tie
 

@@ -1,10 +1,9 @@
 -- `words::class` meets its contract: at a single byte the definition computes; else the tests decide. Assumes nothing.
-use mathlib.Core.Path.{_≡_, sym, ap, _∙_}
+use mathlib.Core.Path.{_≡_, sym, ap}
 use Prim.Native.Nat.{ℕ}
-use borrow.Author.Needs.{needs}
-use borrow.Author.Tests.{eqb-true}
-use Rattle.words.specs.Split.{RUN, classOf}
-use Rattle.words.proofs.Classes.{other}
+use native.Mathlib.Omega.{arith}
+use Rattle.words.specs.Split.{classOf}
+use Rattle.words.proofs.Classes.{within-below, within-above, letter, digit, no-run, other}
 use Rattle.words.proofs.class.Statement.{statement}
 use Rattle.words.proofs.class.Tie as tie
 
@@ -12,21 +11,39 @@ use Rattle.words.proofs.class.Tie as tie
 known : {b k : ℕ} → b ≡ k → classOf k ≡ classOf b
 known e = sym (ap classOf e)
 
-returns : tie.Need-returns
-returns c = sym (eqb-true _ RUN (sym (c .before .in-run .ensures) ∙ c .if1 .taken))
+-- Digits, then letters.
+returns-12 : tie.Need-returns-12
+returns-12 c = let b = c .before .before .before .args .b in sym (digit b (c .before .if1 .left) (c .if2 .taken))
 
 returns-13 : tie.Need-returns-13
 returns-13 c =
-    let in-run = c .before .before .in-run in
-    sym (other (c .before .before .before .args .b) (sym (in-run .ensures) ∙ c .before .if1 .left) (c .match .rest))
+    let b = c .before .before .before .before .before .args .b in
+    sym (letter b (c .before .if3 .left) (c .if4 .taken))
+
+-- Any other byte, below the digits, between digits and letters, above the letters.
+returns-14 : tie.Need-returns-14
+returns-14 c =
+    let b = c .before .before .args .b in
+    let no = no-run b (within-below 97 122 b (omega arith)) (within-below 48 57 b (c .if1 .taken)) in
+    sym (other b no (c .before .match .rest))
+
+returns-15 : tie.Need-returns-15
+returns-15 c =
+    let b = c .before .before .before .before .args .b in
+    let no = no-run b (within-below 97 122 b (c .if3 .taken)) (within-above 48 57 b (c .before .if2 .left)) in
+    sym (other b no (c .before .before .before .match .rest))
+
+returns-16 : tie.Need-returns-16
+returns-16 c =
+    let b = c .before .before .before .before .before .args .b in
+    let no = no-run b (within-above 97 122 b (c .if4 .left)) (within-above 48 57 b (c .before .before .if2 .left)) in
+    sym (other b no (c .before .before .before .before .match .rest))
 
 pub class-spec : {M : Type 1} → statement M
 unfolding classOf
 class-spec =
     tie.close
     (tie.spec
-    (λ c. search needs)
-    returns
     (λ c. known (c .match .keys1))
     (λ c. known (c .match .keys2))
     (λ c. known (c .match .keys3))
@@ -38,4 +55,8 @@ class-spec =
     (λ c. known (c .match .keys9))
     (λ c. known (c .match .keys10))
     (λ c. known (c .match .keys11))
-    returns-13)
+    returns-12
+    returns-13
+    returns-14
+    returns-15
+    returns-16)
