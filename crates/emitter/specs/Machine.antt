@@ -13,10 +13,10 @@ use Rattle.formulas.specs.Arena as arena
 use Rattle.tables.specs.Kind.{SIGNAL, START, NOT}
 use Rattle.tables.specs.Table.{Equation}
 use Rattle.limits.specs.Limits.{recordLimit, signalCount}
-use Rattle.scheme.specs.Scheme.{_⊕_, Node, nodeOf, valueOf, comparisonOf, filled}
+use Rattle.scheme.specs.Scheme.{_⊕_, Node, nodeOf, rowAt, Values, valueOf, comparisonOf, filled}
 use Rattle.tables.specs.Table.{equation}
-use Rattle.scheme.specs.declared.Values.{Values}
 use Rattle.scheme.specs.Emit.{numbersOf}
+use Rattle.nodes.specs.Numbers.{asRow, lookedUp}
 use Rattle.emitter.specs.declared.Record.{Record}
 
 -- Operands that wait on the stack: at most one for each record, and room for one more.
@@ -67,6 +67,13 @@ valuesAt places o n st r =
       comparison = comparisonOf (r .b);
       c = r .c;
     }
+
+-- Five rows of the node of the kind k, as the code looks them up: the node's own come first.
+unfoldable pub rowOf : List ℕ → ℕ → ℕ → Equation
+rowOf vs k i = lookedUp vs (asRow (rowAt (nodeOf k .rows) i))
+
+abbrev pub fiveRows : List ℕ → ℕ → List Equation
+fiveRows vs k = rowOf vs k 0 ∷ rowOf vs k 1 ∷ rowOf vs k 2 ∷ rowOf vs k 3 ∷ rowOf vs k 4 ∷ []
 
 -- What a node leaves, with its values.
 unfoldable pub applied : Node → Values → State → State

@@ -2,26 +2,28 @@
 // first, as a stack machine. A record's kind picks a node of the observer scheme (crate scheme), and the node's rows
 // go to the table. The pass as a definition is in specs/Machine.antt; that it gives the observer's equations is what
 // `emit_observer` promises.
-use scheme::Node;
-use scheme::Row;
-use scheme::Values;
+use nodes::Row;
 ghost use mathlib.Core.Path.{_≡_};
 ghost use mathlib.Core.List.{[], _∷_};
 ghost use Prim.Native.Nat.{_≤_, _<_, _+_, _-_};
-ghost use lib.ListN.{getD, set, length};
+ghost use lib.ListN.{getD, set, length, take};
 ghost use Rattle.limits.specs.Limits.{arenaLimit, equationLimit, signalCount};
 ghost use Rattle.tables.specs.Table.{equation};
-ghost use Rattle.scheme.specs.Scheme.{resolved, filled, nodeOf, rowsIn};
-ghost use Rattle.emitter.specs.Machine.{withEquations, before, recordAt, valuesAt};
-ghost use Rattle.emitter.specs.Machine.{stacked, marked, marks, headerOf};
+ghost use Rattle.scheme.specs.Scheme.{nodeCount};
+ghost use Rattle.nodes.specs.Numbers.{valueList, lookedUp};
+ghost use Rattle.emitter.specs.Machine.{withEquations, fiveRows, before, recordAt, valuesAt, stacked, marked};
+ghost use Rattle.emitter.specs.Machine.{marks, headerOf};
 ghost use Rattle.emitter.specs.Machine.{settled};
-ghost use Rattle.emitter.specs.Contract.{Emitted, Room, Pushed, Added, Entered, Ran, Headed};
+ghost use Rattle.emitter.specs.Contract.{Emitted, Room, Pushed, AddedBy, Entered, Ran, Headed};
 
 // How many signals there are.
 const SIGNALS: usize = limits::SIGNALS as usize;
 
 // Operands that wait at one time: at most one for each record, and room for one more.
 const STACK: usize = limits::RECORDS + 1;
+
+// The values of the names, and the kind of the record's comparison.
+const VALUES: usize = nodes::NAMES + 1;
 
 // ---- buffers
 
@@ -61,54 +63,44 @@ fn before(n: u32) -> u32
     if n == 0 { 0 } else { n - 1 }
 }
 
-// A row's equation, put at place o.
-fn put_row(t: &mut [u32], o: u32, v: Values, r: Row)
-    requires { ⌜ v .place ≤ equationLimit ⌝ }
-    ensures { λ _. ⌜ now (t .exit) ≡ withEquations (now (t .entry)) o (resolved v r ∷ []) ⌝ }
+// A row with its names looked up among the values, put at place o.
+fn put_row(t: &mut [u32], o: u32, vs: &[u32; VALUES], r: Row)
+    ensures { λ _. ⌜ now (t .exit) ≡ withEquations (now (t .entry)) o (lookedUp (now (vs .entry)) r ∷ []) ⌝ }
 {
-    let k = r.0;
-    let x = r.1;
-    let y = r.2;
-    let z = r.3;
-    let kind = nodes::kind_for(v, k);
-    let a = nodes::value(v, x);
-    let b = nodes::value(v, y);
-    let c = nodes::value(v, z);
+    let comparison = lists::number_at(vs, nodes::NAMES);
+    let kind = nodes::kind_by(comparison, r.0);
+    let a = lists::number_at(vs, r.1 as usize);
+    let b = lists::number_at(vs, r.2 as usize);
+    let c = lists::number_at(vs, r.3 as usize);
     put(t, o, kind, a, b, c);
 }
 
-// A node's rows, put at its place. Without a loop, so that a caller's constants decide all tests.
-fn fill(t: &mut [u32], v: Values, d: Node)
-    requires { ⌜ v .place ≤ equationLimit ⌝ }
-    ensures { λ _. ⌜ now (t .exit) ≡ withEquations (now (t .entry)) (v .place) (filled v (rowsIn d)) ⌝ }
+// The first `count` rows of the node of the kind k, put from place o on. Without a loop, so that a caller's constants
+// decide all tests.
+fn fill(t: &mut [u32], o: u32, vs: &[u32; VALUES], k: u32, count: u32)
+    requires { ⌜ o ≤ equationLimit ⌝ }
+    ensures { λ _. ⌜ now (t .exit) ≡ withEquations (now (t .entry)) o (take count (fiveRows (now (vs .entry)) k)) ⌝ }
 {
-    let o = v.place;
-    let count = d.count;
     if count == 0 {
         return;
     }
-    let first = d.first;
-    put_row(t, o, v, first);
+    put_row(t, o, vs, nodes::row_at(k, 0));
     if count == 1 {
         return;
     }
-    let second = d.second;
-    put_row(t, o + 1, v, second);
+    put_row(t, o + 1, vs, nodes::row_at(k, 1));
     if count == 2 {
         return;
     }
-    let third = d.third;
-    put_row(t, o + 2, v, third);
+    put_row(t, o + 2, vs, nodes::row_at(k, 2));
     if count == 3 {
         return;
     }
-    let fourth = d.fourth;
-    put_row(t, o + 3, v, fourth);
+    put_row(t, o + 3, vs, nodes::row_at(k, 3));
     if count == 4 {
         return;
     }
-    let fifth = d.fifth;
-    put_row(t, o + 4, v, fifth);
+    put_row(t, o + 4, vs, nodes::row_at(k, 4));
 }
 
 // ---- the stack of operands: the first `height` numbers of an array
@@ -171,40 +163,50 @@ struct Place {
     pub height: usize,
 }
 
-// The values for a record.
-fn values_at(stack: &[u32], places: &[u32], m: Place, x: Record) -> Values
-    ensures { λ r. ⌜ r ≡ valuesAt (now (places .entry)) (m .next) (m .idle)
-        (stacked (now (stack .entry)) (m .height)) x ⌝ }
+// The values for a record, in the order of their names.
+fn values_at(stack: &[u32], places: &[u32], m: Place, x: Record) -> [u32; VALUES]
+    requires { ⌜ m .next ≤ equationLimit ⌝ }
+    ensures { λ r. ⌜ r ≡ valueList (valuesAt (now (places .entry)) (m .next) (m .idle)
+        (stacked (now (stack .entry)) (m .height)) x) ⌝ }
 {
-    Values {
-        place: m.next,
-        idle: m.idle,
-        start: before(m.idle),
-        last: operand(stack, m.height, 0),
-        previous: operand(stack, m.height, 1),
-        signal: lists::number_at(places, x.a as usize),
-        a: x.a,
-        comparison: nodes::comparison_of(x.b),
-        c: x.c,
-    }
+    let start = before(m.idle);
+    let last = operand(stack, m.height, 0);
+    let previous = operand(stack, m.height, 1);
+    let signal = lists::number_at(places, x.a as usize);
+    let comparison = nodes::comparison_of(x.b);
+    let o = m.next;
+    [
+        0,
+        m.idle,
+        start,
+        last,
+        previous,
+        signal,
+        x.a,
+        x.c,
+        o,
+        o + 1,
+        o + 2,
+        o + 3,
+        o + 4,
+        comparison,
+    ]
 }
 
 // The node of the kind k: its rows go to the table, its operands come off the stack, its result goes on, and its start
 // is the one from here on.
-fn add_node(table: &mut [u32], stack: &mut [u32], m: Place, v: Values, k: u32) -> Place
-    requires { ⌜ Room m (now stack) × (v .place ≡ m .next) ⌝ }
-    ensures { λ r. ⌜ Added (nodeOf k) v (now (table .entry)) (now (stack .entry)) m (now (table .exit))
+fn add_node(table: &mut [u32], stack: &mut [u32], m: Place, vs: &[u32; VALUES], k: u32) -> Place
+    requires { ⌜ Room m (now stack) × (k ≤ nodeCount) ⌝ }
+    ensures { λ r. ⌜ AddedBy k (now (vs .entry)) (now (table .entry)) (now (stack .entry)) m (now (table .exit))
         (now (stack .exit)) r ⌝ }
 {
-    let d = nodes::node_of(k);
-    fill(table, v, d);
-    let result = d.result;
-    let out = nodes::value(v, result);
-    let next = d.idle;
-    let idle = nodes::value(v, next);
-    let height = push(stack, m.height, d.takes, out);
+    let d = nodes::node_at(k);
+    fill(table, m.next, vs, k, d.0);
+    let out = lists::number_at(vs, d.2 as usize);
+    let idle = lists::number_at(vs, d.3 as usize);
+    let height = push(stack, m.height, d.1, out);
     Place {
-        next: m.next + d.count,
+        next: m.next + d.0,
         idle,
         height,
     }
@@ -217,26 +219,26 @@ fn enter(table: &mut [u32], stack: &mut [u32], places: &[u32], m: Place, x: Reco
     ensures { λ r. ⌜ Entered (now (places .entry)) x (now (table .entry)) (now (stack .entry)) m
         (now (table .exit)) (now (stack .exit)) r ⌝ }
 {
-    let v = values_at(stack, places, m, x);
+    let vs = values_at(stack, places, m, x);
     let k = x.kind;
     match k {
-        formulas::CONSTANT => add_node(table, stack, m, v, formulas::CONSTANT),
-        formulas::SIGNAL => add_node(table, stack, m, v, formulas::SIGNAL),
-        formulas::NOT => add_node(table, stack, m, v, formulas::NOT),
-        formulas::AND => add_node(table, stack, m, v, formulas::AND),
-        formulas::OR => add_node(table, stack, m, v, formulas::OR),
-        formulas::BEGIN => add_node(table, stack, m, v, formulas::BEGIN),
-        formulas::END => add_node(table, stack, m, v, formulas::END),
-        formulas::POINT => add_node(table, stack, m, v, formulas::POINT),
-        formulas::HELD => add_node(table, stack, m, v, formulas::HELD),
-        formulas::KEPT => add_node(table, stack, m, v, formulas::KEPT),
-        formulas::LEN => add_node(table, stack, m, v, formulas::LEN),
-        formulas::SUM => add_node(table, stack, m, v, formulas::SUM),
-        formulas::AGE => add_node(table, stack, m, v, formulas::AGE),
-        formulas::LEAD_END => add_node(table, stack, m, v, formulas::LEAD_END),
-        formulas::THEN => add_node(table, stack, m, v, formulas::THEN),
-        formulas::WHOLE => add_node(table, stack, m, v, formulas::WHOLE),
-        _ => add_node(table, stack, m, v, k),
+        formulas::CONSTANT => add_node(table, stack, m, &vs, formulas::CONSTANT),
+        formulas::SIGNAL => add_node(table, stack, m, &vs, formulas::SIGNAL),
+        formulas::NOT => add_node(table, stack, m, &vs, formulas::NOT),
+        formulas::AND => add_node(table, stack, m, &vs, formulas::AND),
+        formulas::OR => add_node(table, stack, m, &vs, formulas::OR),
+        formulas::BEGIN => add_node(table, stack, m, &vs, formulas::BEGIN),
+        formulas::END => add_node(table, stack, m, &vs, formulas::END),
+        formulas::POINT => add_node(table, stack, m, &vs, formulas::POINT),
+        formulas::HELD => add_node(table, stack, m, &vs, formulas::HELD),
+        formulas::KEPT => add_node(table, stack, m, &vs, formulas::KEPT),
+        formulas::LEN => add_node(table, stack, m, &vs, formulas::LEN),
+        formulas::SUM => add_node(table, stack, m, &vs, formulas::SUM),
+        formulas::AGE => add_node(table, stack, m, &vs, formulas::AGE),
+        formulas::LEAD_END => add_node(table, stack, m, &vs, formulas::LEAD_END),
+        formulas::THEN => add_node(table, stack, m, &vs, formulas::THEN),
+        formulas::WHOLE => add_node(table, stack, m, &vs, formulas::WHOLE),
+        _ => add_node(table, stack, m, &vs, nodes::NONE),
     }
 }
 

@@ -1,556 +1,215 @@
-// The nodes of the observer scheme as code: their rows (crate scheme, specs/Scheme.antt), and what the names of a row
-// stand for.
-use scheme::Name;
-use scheme::Node;
-use scheme::Row;
-use scheme::RowKind;
-use scheme::Values;
+// The nodes of the observer scheme as code (crate scheme, specs/Scheme.antt has them as definitions). A name of a
+// value is a number here, its place in an array of values.
 ghost use mathlib.Core.Path.{_≡_};
-ghost use Prim.Native.Nat.{_≤_};
-ghost use Rattle.limits.specs.Limits.{equationLimit};
-ghost use Rattle.scheme.specs.Scheme.{constantNode, signalNode, notNode, andNode, orNode, beginNode, endNode};
-ghost use Rattle.scheme.specs.Scheme.{pointNode, heldNode, keptNode, lenNode, sumNode, ageNode, leadEndNode};
-ghost use Rattle.scheme.specs.Scheme.{thenNode, wholeNode, noNode, nodeOf, asNode, valueOf, kindFor, comparisonOf};
+ghost use Rattle.scheme.specs.Scheme.{nodeOf, rowAt, comparisonOf};
+ghost use Rattle.nodes.specs.Numbers.{asRow, asNode, kindBy};
 
-// No row: past a node's last one.
-const NO_ROW: Row = Row(RowKind::Plain(0), Name::Nought, Name::Nought, Name::Nought);
+// ---- the names
+
+// 0.
+const NOUGHT: u32 = 0;
+
+// The negated start flow, and the start flow.
+const IDLE: u32 = 1;
+
+const START: u32 = 2;
+
+// The flow of the last operand, and of the one before it.
+const LAST: u32 = 3;
+
+const PREVIOUS: u32 = 4;
+
+// The flow of the signal that the record names.
+const SIGNAL: u32 = 5;
+
+// The record's first and last number.
+const A: u32 = 6;
+
+const C: u32 = 7;
+
+// The node's own flows.
+const FIRST: u32 = 8;
+
+const SECOND: u32 = 9;
+
+const THIRD: u32 = 10;
+
+const FOURTH: u32 = 11;
+
+const FIFTH: u32 = 12;
+
+// How many names there are; the kind of the record's comparison stands after their values.
+pub const NAMES: usize = 13;
+
+// The kind of a row that compares as the record asks: no row always compares with a literal.
+const COMPARISON: u32 = tables::COMPARE_LITERAL;
+
+// Past the last kind of record: its node adds nothing.
+pub const NONE: u32 = formulas::WHOLE + 1;
+
+// ---- the tables
+
+// A row: the kind of an equation, and the names of its three numbers.
+pub struct Row(pub u32, pub u32, pub u32, pub u32);
+
+const NO_ROW: Row = Row(0, NOUGHT, NOUGHT, NOUGHT);
 
 // The rows that `kept` and `held` share.
-const KEPT_PRE: Row = Row(
-    RowKind::Plain(tables::BOOLEAN_PRE),
-    Name::Third,
-    Name::Nought,
-    Name::Nought,
-);
+const KEPT_1: Row = Row(tables::BOOLEAN_PRE, THIRD, NOUGHT, NOUGHT);
 
-const KEPT_NOW: Row = Row(
-    RowKind::Plain(tables::OR),
-    Name::Start,
-    Name::First,
-    Name::Nought,
-);
+const KEPT_2: Row = Row(tables::OR, START, FIRST, NOUGHT);
 
-const KEPT_NEXT: Row = Row(
-    RowKind::Plain(tables::AND),
-    Name::Second,
-    Name::Last,
-    Name::Nought,
-);
+const KEPT_3: Row = Row(tables::AND, SECOND, LAST, NOUGHT);
 
-// ---- the nodes. s and n are the start flow and its negation, P the last operand, m a memory.
-
-// A constant.
-fn constant_node() -> Node
-    ensures { λ r. ⌜ r ≡ asNode constantNode ⌝ }
+// Row i of the node of the kind k, by the kinds of records (formulas); past its last row, and past the last kind, no
+// row. s and n are the start flow and its negation, P the last operand, m a memory. A match, so that no copy of a
+// table is made.
+pub fn row_at(k: u32, i: u32) -> Row
+    ensures { λ r. ⌜ r ≡ asRow (rowAt (nodeOf k .rows) i) ⌝ }
 {
-    Node {
-        count: 1,
-        takes: 0,
-        result: Name::First,
-        idle: Name::Idle,
-        first: Row(
-            RowKind::Plain(tables::CONSTANT),
-            Name::A,
-            Name::Nought,
-            Name::Nought,
-        ),
-        second: NO_ROW,
-        third: NO_ROW,
-        fourth: NO_ROW,
-        fifth: NO_ROW,
+    match k {
+        // A constant.
+        formulas::CONSTANT => match i {
+            0 => Row(tables::CONSTANT, A, NOUGHT, NOUGHT),
+            _ => NO_ROW,
+        },
+        // A signal.
+        formulas::SIGNAL => NO_ROW,
+        // `!`.
+        formulas::NOT => match i {
+            0 => Row(tables::NOT, LAST, NOUGHT, NOUGHT),
+            _ => NO_ROW,
+        },
+        // `&`.
+        formulas::AND => match i {
+            0 => Row(tables::AND, PREVIOUS, LAST, NOUGHT),
+            _ => NO_ROW,
+        },
+        // `|`.
+        formulas::OR => match i {
+            0 => Row(tables::OR, PREVIOUS, LAST, NOUGHT),
+            _ => NO_ROW,
+        },
+        // `begin`: v = (s and P) or (n and m), m = false -> pre v.
+        formulas::BEGIN => match i {
+            0 => Row(tables::BOOLEAN_PRE, FOURTH, NOUGHT, NOUGHT),
+            1 => Row(tables::AND, START, LAST, NOUGHT),
+            2 => Row(tables::AND, IDLE, FIRST, NOUGHT),
+            3 => Row(tables::OR, SECOND, THIRD, NOUGHT),
+            _ => NO_ROW,
+        },
+        // `end`.
+        formulas::END => NO_ROW,
+        // `point`: s and P.
+        formulas::POINT => match i {
+            0 => Row(tables::AND, START, LAST, NOUGHT),
+            _ => NO_ROW,
+        },
+        // `held`: the rows of `kept`, and n and m.
+        formulas::HELD => match i {
+            0 => KEPT_1,
+            1 => KEPT_2,
+            2 => KEPT_3,
+            3 => Row(tables::AND, IDLE, FIRST, NOUGHT),
+            _ => NO_ROW,
+        },
+        // `kept`: k = s or m, m = false -> pre (k and P).
+        formulas::KEPT => match i {
+            0 => KEPT_1,
+            1 => KEPT_2,
+            2 => KEPT_3,
+            _ => NO_ROW,
+        },
+        // `len`: c = if n then cap(m, n) else 0, m = 0 -> pre c.
+        formulas::LEN => match i {
+            0 => Row(tables::COUNT_PRE, THIRD, NOUGHT, NOUGHT),
+            1 => Row(tables::CAPPED, FIRST, IDLE, NOUGHT),
+            2 => Row(tables::IF, IDLE, SECOND, NOUGHT),
+            3 => Row(COMPARISON, THIRD, A, C),
+            _ => NO_ROW,
+        },
+        // `sum`: c = if n then m else 0, m = 0 -> pre cap(c, P).
+        formulas::SUM => match i {
+            0 => Row(tables::COUNT_PRE, THIRD, NOUGHT, NOUGHT),
+            1 => Row(tables::IF, IDLE, FIRST, NOUGHT),
+            2 => Row(tables::CAPPED, SECOND, LAST, NOUGHT),
+            3 => Row(COMPARISON, SECOND, A, C),
+            _ => NO_ROW,
+        },
+        // `age`: c = if P then cap(if n then m else 0, P) else 0, m = 0 -> pre c.
+        formulas::AGE => match i {
+            0 => Row(tables::COUNT_PRE, FOURTH, NOUGHT, NOUGHT),
+            1 => Row(tables::IF, IDLE, FIRST, NOUGHT),
+            2 => Row(tables::CAPPED, SECOND, LAST, NOUGHT),
+            3 => Row(tables::IF, LAST, THIRD, NOUGHT),
+            4 => Row(COMPARISON, FOURTH, A, C),
+            _ => NO_ROW,
+        },
+        // The end of a lead P: n and pre(P) and not P, and its negation.
+        formulas::LEAD_END => match i {
+            0 => Row(tables::BOOLEAN_PRE, LAST, NOUGHT, NOUGHT),
+            1 => Row(tables::NOT, LAST, NOUGHT, NOUGHT),
+            2 => Row(tables::AND, IDLE, FIRST, NOUGHT),
+            3 => Row(tables::AND, THIRD, SECOND, NOUGHT),
+            4 => Row(tables::NOT, FOURTH, NOUGHT, NOUGHT),
+            _ => NO_ROW,
+        },
+        // `then`: running r = n and (s' or pre r); r and P.
+        formulas::THEN => match i {
+            0 => Row(tables::BOOLEAN_PRE, THIRD, NOUGHT, NOUGHT),
+            1 => Row(tables::OR, START, FIRST, NOUGHT),
+            2 => Row(tables::AND, PREVIOUS, SECOND, NOUGHT),
+            3 => Row(tables::AND, THIRD, LAST, NOUGHT),
+            _ => NO_ROW,
+        },
+        // The whole rule: started = s or pre started; verdict = (not started) or P.
+        formulas::WHOLE => match i {
+            0 => Row(tables::BOOLEAN_PRE, SECOND, NOUGHT, NOUGHT),
+            1 => Row(tables::OR, START, FIRST, NOUGHT),
+            2 => Row(tables::NOT, SECOND, NOUGHT, NOUGHT),
+            3 => Row(tables::OR, THIRD, LAST, NOUGHT),
+            _ => NO_ROW,
+        },
+        _ => NO_ROW,
     }
 }
 
-// A signal.
-fn signal_node() -> Node
-    ensures { λ r. ⌜ r ≡ asNode signalNode ⌝ }
-{
-    Node {
-        count: 0,
-        takes: 0,
-        result: Name::Signal,
-        idle: Name::Idle,
-        first: NO_ROW,
-        second: NO_ROW,
-        third: NO_ROW,
-        fourth: NO_ROW,
-        fifth: NO_ROW,
-    }
-}
+// What a node does beside its rows: how many they are, how many operands it takes off the stack, which value it puts
+// there, and which value is the negated start flow from here on.
+pub struct Node(pub u32, pub u32, pub u32, pub u32);
 
-// `!`.
-fn not_node() -> Node
-    ensures { λ r. ⌜ r ≡ asNode notNode ⌝ }
-{
-    Node {
-        count: 1,
-        takes: 1,
-        result: Name::First,
-        idle: Name::Idle,
-        first: Row(
-            RowKind::Plain(tables::NOT),
-            Name::Last,
-            Name::Nought,
-            Name::Nought,
-        ),
-        second: NO_ROW,
-        third: NO_ROW,
-        fourth: NO_ROW,
-        fifth: NO_ROW,
-    }
-}
-
-// `&`.
-fn and_node() -> Node
-    ensures { λ r. ⌜ r ≡ asNode andNode ⌝ }
-{
-    Node {
-        count: 1,
-        takes: 2,
-        result: Name::First,
-        idle: Name::Idle,
-        first: Row(
-            RowKind::Plain(tables::AND),
-            Name::Previous,
-            Name::Last,
-            Name::Nought,
-        ),
-        second: NO_ROW,
-        third: NO_ROW,
-        fourth: NO_ROW,
-        fifth: NO_ROW,
-    }
-}
-
-// `|`.
-fn or_node() -> Node
-    ensures { λ r. ⌜ r ≡ asNode orNode ⌝ }
-{
-    Node {
-        count: 1,
-        takes: 2,
-        result: Name::First,
-        idle: Name::Idle,
-        first: Row(
-            RowKind::Plain(tables::OR),
-            Name::Previous,
-            Name::Last,
-            Name::Nought,
-        ),
-        second: NO_ROW,
-        third: NO_ROW,
-        fourth: NO_ROW,
-        fifth: NO_ROW,
-    }
-}
-
-// `begin`: v = (s and P) or (n and m), m = false -> pre v.
-fn begin_node() -> Node
-    ensures { λ r. ⌜ r ≡ asNode beginNode ⌝ }
-{
-    Node {
-        count: 4,
-        takes: 1,
-        result: Name::Fourth,
-        idle: Name::Idle,
-        first: Row(
-            RowKind::Plain(tables::BOOLEAN_PRE),
-            Name::Fourth,
-            Name::Nought,
-            Name::Nought,
-        ),
-        second: Row(
-            RowKind::Plain(tables::AND),
-            Name::Start,
-            Name::Last,
-            Name::Nought,
-        ),
-        third: Row(
-            RowKind::Plain(tables::AND),
-            Name::Idle,
-            Name::First,
-            Name::Nought,
-        ),
-        fourth: Row(
-            RowKind::Plain(tables::OR),
-            Name::Second,
-            Name::Third,
-            Name::Nought,
-        ),
-        fifth: NO_ROW,
-    }
-}
-
-// `end`.
-fn end_node() -> Node
-    ensures { λ r. ⌜ r ≡ asNode endNode ⌝ }
-{
-    Node {
-        count: 0,
-        takes: 1,
-        result: Name::Last,
-        idle: Name::Idle,
-        first: NO_ROW,
-        second: NO_ROW,
-        third: NO_ROW,
-        fourth: NO_ROW,
-        fifth: NO_ROW,
-    }
-}
-
-// `point`: s and P.
-fn point_node() -> Node
-    ensures { λ r. ⌜ r ≡ asNode pointNode ⌝ }
-{
-    Node {
-        count: 1,
-        takes: 1,
-        result: Name::First,
-        idle: Name::Idle,
-        first: Row(
-            RowKind::Plain(tables::AND),
-            Name::Start,
-            Name::Last,
-            Name::Nought,
-        ),
-        second: NO_ROW,
-        third: NO_ROW,
-        fourth: NO_ROW,
-        fifth: NO_ROW,
-    }
-}
-
-// `held`: the rows of `kept`, and n and m.
-fn held_node() -> Node
-    ensures { λ r. ⌜ r ≡ asNode heldNode ⌝ }
-{
-    Node {
-        count: 4,
-        takes: 1,
-        result: Name::Fourth,
-        idle: Name::Idle,
-        first: KEPT_PRE,
-        second: KEPT_NOW,
-        third: KEPT_NEXT,
-        fourth: Row(
-            RowKind::Plain(tables::AND),
-            Name::Idle,
-            Name::First,
-            Name::Nought,
-        ),
-        fifth: NO_ROW,
-    }
-}
-
-// `kept`: k = s or m, m = false -> pre (k and P).
-fn kept_node() -> Node
-    ensures { λ r. ⌜ r ≡ asNode keptNode ⌝ }
-{
-    Node {
-        count: 3,
-        takes: 1,
-        result: Name::Second,
-        idle: Name::Idle,
-        first: KEPT_PRE,
-        second: KEPT_NOW,
-        third: KEPT_NEXT,
-        fourth: NO_ROW,
-        fifth: NO_ROW,
-    }
-}
-
-// `len`: c = if n then cap(m, n) else 0, m = 0 -> pre c.
-fn len_node() -> Node
-    ensures { λ r. ⌜ r ≡ asNode lenNode ⌝ }
-{
-    Node {
-        count: 4,
-        takes: 0,
-        result: Name::Fourth,
-        idle: Name::Idle,
-        first: Row(
-            RowKind::Plain(tables::COUNT_PRE),
-            Name::Third,
-            Name::Nought,
-            Name::Nought,
-        ),
-        second: Row(
-            RowKind::Plain(tables::CAPPED),
-            Name::First,
-            Name::Idle,
-            Name::Nought,
-        ),
-        third: Row(
-            RowKind::Plain(tables::IF),
-            Name::Idle,
-            Name::Second,
-            Name::Nought,
-        ),
-        fourth: Row(RowKind::Comparison, Name::Third, Name::A, Name::C),
-        fifth: NO_ROW,
-    }
-}
-
-// `sum`: c = if n then m else 0, m = 0 -> pre cap(c, P).
-fn sum_node() -> Node
-    ensures { λ r. ⌜ r ≡ asNode sumNode ⌝ }
-{
-    Node {
-        count: 4,
-        takes: 1,
-        result: Name::Fourth,
-        idle: Name::Idle,
-        first: Row(
-            RowKind::Plain(tables::COUNT_PRE),
-            Name::Third,
-            Name::Nought,
-            Name::Nought,
-        ),
-        second: Row(
-            RowKind::Plain(tables::IF),
-            Name::Idle,
-            Name::First,
-            Name::Nought,
-        ),
-        third: Row(
-            RowKind::Plain(tables::CAPPED),
-            Name::Second,
-            Name::Last,
-            Name::Nought,
-        ),
-        fourth: Row(RowKind::Comparison, Name::Second, Name::A, Name::C),
-        fifth: NO_ROW,
-    }
-}
-
-// `age`: c = if P then cap(if n then m else 0, P) else 0, m = 0 -> pre c.
-fn age_node() -> Node
-    ensures { λ r. ⌜ r ≡ asNode ageNode ⌝ }
-{
-    Node {
-        count: 5,
-        takes: 1,
-        result: Name::Fifth,
-        idle: Name::Idle,
-        first: Row(
-            RowKind::Plain(tables::COUNT_PRE),
-            Name::Fourth,
-            Name::Nought,
-            Name::Nought,
-        ),
-        second: Row(
-            RowKind::Plain(tables::IF),
-            Name::Idle,
-            Name::First,
-            Name::Nought,
-        ),
-        third: Row(
-            RowKind::Plain(tables::CAPPED),
-            Name::Second,
-            Name::Last,
-            Name::Nought,
-        ),
-        fourth: Row(
-            RowKind::Plain(tables::IF),
-            Name::Last,
-            Name::Third,
-            Name::Nought,
-        ),
-        fifth: Row(RowKind::Comparison, Name::Fourth, Name::A, Name::C),
-    }
-}
-
-// The end of a lead l: n and pre(l) and not l, and its negation. The second part has a start of its own, and the
-// present one waits on the stack.
-fn lead_end_node() -> Node
-    ensures { λ r. ⌜ r ≡ asNode leadEndNode ⌝ }
-{
-    Node {
-        count: 5,
-        takes: 1,
-        result: Name::Idle,
-        idle: Name::Fifth,
-        first: Row(
-            RowKind::Plain(tables::BOOLEAN_PRE),
-            Name::Last,
-            Name::Nought,
-            Name::Nought,
-        ),
-        second: Row(
-            RowKind::Plain(tables::NOT),
-            Name::Last,
-            Name::Nought,
-            Name::Nought,
-        ),
-        third: Row(
-            RowKind::Plain(tables::AND),
-            Name::Idle,
-            Name::First,
-            Name::Nought,
-        ),
-        fourth: Row(
-            RowKind::Plain(tables::AND),
-            Name::Third,
-            Name::Second,
-            Name::Nought,
-        ),
-        fifth: Row(
-            RowKind::Plain(tables::NOT),
-            Name::Fourth,
-            Name::Nought,
-            Name::Nought,
-        ),
-    }
-}
-
-// `then`: running r = n and (s' or pre r); r and f. Back to the start that waits on the stack.
-fn then_node() -> Node
-    ensures { λ r. ⌜ r ≡ asNode thenNode ⌝ }
-{
-    Node {
-        count: 4,
-        takes: 2,
-        result: Name::Fourth,
-        idle: Name::Previous,
-        first: Row(
-            RowKind::Plain(tables::BOOLEAN_PRE),
-            Name::Third,
-            Name::Nought,
-            Name::Nought,
-        ),
-        second: Row(
-            RowKind::Plain(tables::OR),
-            Name::Start,
-            Name::First,
-            Name::Nought,
-        ),
-        third: Row(
-            RowKind::Plain(tables::AND),
-            Name::Previous,
-            Name::Second,
-            Name::Nought,
-        ),
-        fourth: Row(
-            RowKind::Plain(tables::AND),
-            Name::Third,
-            Name::Last,
-            Name::Nought,
-        ),
-        fifth: NO_ROW,
-    }
-}
-
-// The whole rule: started = s or pre started; verdict = (not started) or v.
-fn whole_node() -> Node
-    ensures { λ r. ⌜ r ≡ asNode wholeNode ⌝ }
-{
-    Node {
-        count: 4,
-        takes: 1,
-        result: Name::Fourth,
-        idle: Name::Idle,
-        first: Row(
-            RowKind::Plain(tables::BOOLEAN_PRE),
-            Name::Second,
-            Name::Nought,
-            Name::Nought,
-        ),
-        second: Row(
-            RowKind::Plain(tables::OR),
-            Name::Start,
-            Name::First,
-            Name::Nought,
-        ),
-        third: Row(
-            RowKind::Plain(tables::NOT),
-            Name::Second,
-            Name::Nought,
-            Name::Nought,
-        ),
-        fourth: Row(
-            RowKind::Plain(tables::OR),
-            Name::Third,
-            Name::Last,
-            Name::Nought,
-        ),
-        fifth: NO_ROW,
-    }
-}
-
-// Past the last kind.
-fn no_node() -> Node
-    ensures { λ r. ⌜ r ≡ asNode noNode ⌝ }
-{
-    Node {
-        count: 0,
-        takes: 0,
-        result: Name::Nought,
-        idle: Name::Nought,
-        first: NO_ROW,
-        second: NO_ROW,
-        third: NO_ROW,
-        fourth: NO_ROW,
-        fifth: NO_ROW,
-    }
-}
-
-// The node of a kind of record, and of the whole rule; past them one that adds nothing.
-pub fn node_of(k: u32) -> Node
+// The node of the kind k. The end of a lead leaves the present start on the stack, and `then` takes it back.
+pub fn node_at(k: u32) -> Node
     ensures { λ r. ⌜ r ≡ asNode (nodeOf k) ⌝ }
 {
     match k {
-        formulas::CONSTANT => constant_node(),
-        formulas::SIGNAL => signal_node(),
-        formulas::NOT => not_node(),
-        formulas::AND => and_node(),
-        formulas::OR => or_node(),
-        formulas::BEGIN => begin_node(),
-        formulas::END => end_node(),
-        formulas::POINT => point_node(),
-        formulas::HELD => held_node(),
-        formulas::KEPT => kept_node(),
-        formulas::LEN => len_node(),
-        formulas::SUM => sum_node(),
-        formulas::AGE => age_node(),
-        formulas::LEAD_END => lead_end_node(),
-        formulas::THEN => then_node(),
-        formulas::WHOLE => whole_node(),
-        _ => no_node(),
+        formulas::CONSTANT => Node(1, 0, FIRST, IDLE),
+        formulas::SIGNAL => Node(0, 0, SIGNAL, IDLE),
+        formulas::NOT => Node(1, 1, FIRST, IDLE),
+        formulas::AND => Node(1, 2, FIRST, IDLE),
+        formulas::OR => Node(1, 2, FIRST, IDLE),
+        formulas::BEGIN => Node(4, 1, FOURTH, IDLE),
+        formulas::END => Node(0, 1, LAST, IDLE),
+        formulas::POINT => Node(1, 1, FIRST, IDLE),
+        formulas::HELD => Node(4, 1, FOURTH, IDLE),
+        formulas::KEPT => Node(3, 1, SECOND, IDLE),
+        formulas::LEN => Node(4, 0, FOURTH, IDLE),
+        formulas::SUM => Node(4, 1, FOURTH, IDLE),
+        formulas::AGE => Node(5, 1, FIFTH, IDLE),
+        formulas::LEAD_END => Node(5, 1, IDLE, FIFTH),
+        formulas::THEN => Node(4, 2, FOURTH, PREVIOUS),
+        formulas::WHOLE => Node(4, 1, FOURTH, IDLE),
+        _ => Node(0, 0, NOUGHT, NOUGHT),
     }
 }
 
-// ---- what the names of a row stand for
+// ---- kinds
 
-// What a name stands for.
-pub fn value(v: Values, x: Name) -> u32
-    requires { ⌜ v .place ≤ equationLimit ⌝ }
-    ensures { λ r. ⌜ r ≡ valueOf v x ⌝ }
+// The kind of a row's equation, where `comparison` is the kind that the record asks for.
+pub fn kind_by(comparison: u32, k: u32) -> u32
+    ensures { λ r. ⌜ r ≡ kindBy comparison k ⌝ }
 {
-    match x {
-        Name::Nought => 0,
-        Name::Idle => v.idle,
-        Name::Start => v.start,
-        Name::Last => v.last,
-        Name::Previous => v.previous,
-        Name::Signal => v.signal,
-        Name::A => v.a,
-        Name::C => v.c,
-        Name::First => v.place,
-        Name::Second => v.place + 1,
-        Name::Third => v.place + 2,
-        Name::Fourth => v.place + 3,
-        Name::Fifth => v.place + 4,
-    }
-}
-
-// The number of a row's kind.
-pub fn kind_for(v: Values, k: RowKind) -> u32
-    ensures { λ r. ⌜ r ≡ kindFor v k ⌝ }
-{
-    match k {
-        RowKind::Plain(n) => n,
-        RowKind::Comparison => v.comparison,
-    }
+    if k == COMPARISON { comparison } else { k }
 }
 
 // The kind of equation that compares with a literal or with a parameter, as the record says.

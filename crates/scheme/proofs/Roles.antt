@@ -17,11 +17,11 @@ use Rattle.tables.specs.declared.Operand.the-variants.{Unused, Earlier, Anywher
 use Rattle.tables.specs.declared.Shape.{Shape}
 use Rattle.tables.proofs.Tests.{all-at}
 use Rattle.scheme.specs.Scheme.{_⊕_, rowAt, valueOf, kindFor, resolved, filled}
-use Rattle.scheme.specs.declared.Name.{Name}
-use Rattle.scheme.specs.declared.Name.the-variants.{Nought, Idle, Start, Last, Previous, Signal, A, C}
-use Rattle.scheme.specs.declared.Name.the-variants.{First, Second, Third, Fourth, Fifth}
-use Rattle.scheme.specs.declared.Row.{Row}
-use Rattle.scheme.specs.declared.Values.{Values}
+use Rattle.scheme.specs.Scheme.{Name}
+use Rattle.scheme.specs.Scheme.Name.{Nought, Idle, Start, Last, Previous, Signal, A, C}
+use Rattle.scheme.specs.Scheme.Name.{First, Second, Third, Fourth, Fifth}
+use Rattle.scheme.specs.Scheme.{Row}
+use Rattle.scheme.specs.Scheme.{Values}
 use Rattle.scheme.proofs.Offsets.{⊕-add}
 use Rattle.scheme.proofs.Places.{Each, each-at, each-from, nothing}
 
@@ -65,7 +65,7 @@ isBelow k (own j) = false
 
 -- The kind of a row, with these values.
 abbrev pub kindIn : Values → Row → Kind
-kindIn v r = kindOf (kindFor v (r .0))
+kindIn v r = kindOf (kindFor v (r .kind))
 
 -- Rows with these values and these roles.
 module _ (v : Values) (roles : Name → Role) (rows : List Row) where
@@ -85,7 +85,7 @@ module _ (v : Values) (roles : Name → Role) (rows : List Row) where
   operandOk i (Anywhere s) x = isFlowOf (length rows) s (roles x)
 
   abbrev pub shapeOk : ℕ → Shape → Row → Bool
-  shapeOk i s r = operandOk i (s .a) (r .1) && (operandOk i (s .b) (r .2) && operandOk i (s .c) (r .3))
+  shapeOk i s r = operandOk i (s .a) (r .a) && (operandOk i (s .b) (r .b) && operandOk i (s .c) (r .c))
 
   abbrev pub rowOk : ℕ → Bool
   rowOk i = shapeOk i (shapeOf (kindIn v (rowAt rows i))) (rowAt rows i)
@@ -197,11 +197,11 @@ module _ (t : List ℕ) (N o : ℕ) where
     row-fits i h e =
         let r : Row = rowAt rows i in
         let s : Shape = shapeOf (kindIn v r) in
-        let first = and-eq-true-iff (operandOk v roles rows i (s .a) (r .1)) _ .0 e in
-        let others = and-eq-true-iff (operandOk v roles rows i (s .b) (r .2)) _ .0 (first .1) in
-        let a = operand-fits i h (s .a) (r .1) (first .0) in
-        let b = operand-fits i h (s .b) (r .2) (others .0) in
-        let c = operand-fits i h (s .c) (r .3) (others .1) in
+        let first = and-eq-true-iff (operandOk v roles rows i (s .a) (r .a)) _ .0 e in
+        let others = and-eq-true-iff (operandOk v roles rows i (s .b) (r .b)) _ .0 (first .1) in
+        let a = operand-fits i h (s .a) (r .a) (first .0) in
+        let b = operand-fits i h (s .b) (r .b) (others .0) in
+        let c = operand-fits i h (s .c) (r .c) (others .1) in
         record { fits = rw (a, b, c) }
 
     pub rows-fit : rowsOk v roles rows ≡ true → Each (Fits t N) o (filled v rows)

@@ -21,11 +21,11 @@ use Rattle.tables.specs.Kind.{CONSTANT, NOT, AND, OR}
 use Rattle.scheme.specs.Scheme.{_⊕_, constantRows, notRows, andRows, orRows, beginRows, pointRows, keptRows}
 use Rattle.scheme.specs.Scheme.{heldRows, lenRows, sumRows, ageRows, leadEndRows, thenRows, wholeRows}
 use Rattle.scheme.specs.Scheme.{valueOf, comparisonOf, filled}
-use Rattle.scheme.specs.declared.Name.{Name}
-use Rattle.scheme.specs.declared.Name.the-variants.{Nought, Idle, Start, Last, Previous, Signal, A, C}
-use Rattle.scheme.specs.declared.Name.the-variants.{First, Second, Third, Fourth, Fifth}
-use Rattle.scheme.specs.declared.Row.{Row}
-use Rattle.scheme.specs.declared.Values.{Values}
+use Rattle.scheme.specs.Scheme.{Name}
+use Rattle.scheme.specs.Scheme.Name.{Nought, Idle, Start, Last, Previous, Signal, A, C}
+use Rattle.scheme.specs.Scheme.Name.{First, Second, Third, Fourth, Fifth}
+use Rattle.scheme.specs.Scheme.{Row}
+use Rattle.scheme.specs.Scheme.{Values}
 use Rattle.scheme.specs.Emit.{flowsAt, comparing, constantAt}
 use Rattle.scheme.specs.Emit.{constant-es, not-es, and-es, or-es, begin-es, point-es, kept-es, held-es}
 use Rattle.scheme.specs.Emit.{len-es, sum-es, age-es, lead-end-es, then-es, whole-es}

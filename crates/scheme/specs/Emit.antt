@@ -24,9 +24,9 @@ use Rattle.scheme.specs.Scheme.{Node, constantNode, notNode, andNode, be
 use Rattle.scheme.specs.Scheme.{keptNode, lenNode, sumNode, ageNode, leadEndNode, thenNode, valueOf}
 use Rattle.scheme.specs.Scheme.{comparisonOf}
 use Rattle.scheme.specs.Scheme.{filled}
-use Rattle.scheme.specs.declared.Name.{Name}
-use Rattle.scheme.specs.declared.Name.the-variants.{Fourth}
-use Rattle.scheme.specs.declared.Values.{Values}
+use Rattle.scheme.specs.Scheme.{Name}
+use Rattle.scheme.specs.Scheme.Name.{Fourth}
+use Rattle.scheme.specs.Scheme.{Values}
 
 -- A block of equations, and the flow that is its result.
 pub record Block : Type 0 where

@@ -5,19 +5,11 @@ use mathlib.Core.Bool.{cond}
 use mathlib.Core.List.{List, [], _∷_, _++_}
 use Prim.Native.Nat.{ℕ, zero, suc}
 use lib.Dec.{eqb}
-use lib.ListN.{getD, length, take}
+use lib.ListN.{getD}
 use Rattle.formulas.specs.Arena.{LITERAL}
 use Rattle.tables.specs.Table.{Equation, equation}
 use Rattle.tables.specs.Kind.{CONSTANT, NOT, AND, OR, BOOLEAN-PRE, COUNT-PRE, CAPPED, IF}
 use Rattle.tables.specs.Kind.{COMPARE-LITERAL, COMPARE-PARAMETER}
-use Rattle.scheme.specs.declared.Name.{Name}
-use Rattle.scheme.specs.declared.Name.the-variants.{Nought, Idle, Start, Last, Previous, Signal, A, C}
-use Rattle.scheme.specs.declared.Name.the-variants.{First, Second, Third, Fourth, Fifth}
-use Rattle.scheme.specs.declared.RowKind.{RowKind}
-use Rattle.scheme.specs.declared.RowKind.the-variants.{Plain, Comparison}
-use Rattle.scheme.specs.declared.Row.{Row}
-use Rattle.scheme.specs.declared.Node.{Node as CodeNode}
-use Rattle.scheme.specs.declared.Values.{Values}
 
 -- o ⊕ k is o + k, by recursion on k: it computes where k is a numeral.
 infixl 65 _⊕_
@@ -27,8 +19,26 @@ o ⊕ suc k = suc (o ⊕ k)
 
 -- ---- rows
 
+-- What a number of a row stands for: 0; the negated start flow, and the start flow; the flow of the last operand, and
+-- of the one before it; the flow of the signal that the record names; the record's first and last number; the node's
+-- own flows.
+pub data Name : Type 0 where
+  Nought Idle Start Last Previous Signal A C First Second Third Fourth Fifth : Name
+
+-- The kind of a row's equation: always that one, or the comparison that the record asks for.
+pub data RowKind : Type 0 where
+  Plain : ℕ → RowKind
+  Comparison : RowKind
+
+-- The kind and the three numbers of an equation.
+pub record Row : Type 0 where
+  pub kind : RowKind
+  pub a : Name
+  pub b : Name
+  pub c : Name
+
 abbrev pub row : RowKind → Name → Name → Name → Row
-row k a b c = record { 0 = k; 1 = a; 2 = b; 3 = c }
+row k a b c = record { kind = k; a = a; b = b; c = c }
 
 -- An equation of that kind with one operand, and with two.
 abbrev pub one : ℕ → Name → Row
@@ -181,7 +191,18 @@ nodeOf k = getD nodeList k noNode
 
 -- ---- values
 
--- What a name stands for.
+-- What the names stand for at a node: the place of its first equation, flows, and numbers of its record.
+pub record Values : Type 0 where
+  pub place : ℕ
+  pub idle : ℕ
+  pub start : ℕ
+  pub last : ℕ
+  pub previous : ℕ
+  pub signal : ℕ
+  pub a : ℕ
+  pub comparison : ℕ
+  pub c : ℕ
+
 abbrev pub valueOf : Values → Name → ℕ
 valueOf v Nought = 0
 valueOf v Idle = v .idle
@@ -207,13 +228,11 @@ comparisonOf b = cond (eqb b LITERAL) COMPARE-LITERAL COMPARE-PARAMETER
 
 -- A row's equation, and those of rows.
 abbrev pub resolved : Values → Row → Equation
-resolved v r = equation (kindFor v (r .0)) (valueOf v (r .1)) (valueOf v (r .2)) (valueOf v (r .3))
+resolved v r = equation (kindFor v (r .kind)) (valueOf v (r .a)) (valueOf v (r .b)) (valueOf v (r .c))
 
 abbrev pub filled : Values → List Row → List Equation
 filled v [] = []
 filled v (r ∷ rs) = resolved v r ∷ filled v rs
-
--- ---- as the code has them
 
 -- Row i, and one that nothing asks for past the last.
 abbrev pub noRow : Row
@@ -221,22 +240,3 @@ noRow = one 0 Nought
 
 abbrev pub rowAt : List Row → ℕ → Row
 rowAt rs i = getD rs i noRow
-
--- A node with five rows, of which the first `count` are its own.
-abbrev pub asNode : Node → CodeNode
-asNode d =
-    record {
-      count = length (d .rows);
-      takes = d .takes;
-      result = d .result;
-      idle = d .idle;
-      first = rowAt (d .rows) 0;
-      second = rowAt (d .rows) 1;
-      third = rowAt (d .rows) 2;
-      fourth = rowAt (d .rows) 3;
-      fifth = rowAt (d .rows) 4;
-    }
-
--- Its rows.
-unfoldable pub rowsIn : CodeNode → List Row
-rowsIn d = take (d .count) (d .first ∷ d .second ∷ d .third ∷ d .fourth ∷ d .fifth ∷ [])

@@ -4,23 +4,31 @@ use Rattle.emitter.proofs.Written.{written-row}
 use Rattle.emitter.proofs.put_row.Statement.{statement}
 use Rattle.emitter.proofs.put_row.Tie as tie
 
--- The places of the code: after the last name is looked up, after the first one, and the start.
-abbrev named : tie.After-slice-known2 → tie.After-value3
-named c = c .before .before .before .before
+-- The places of the code, the last one first: after each name is looked up, the kind, and the start.
+abbrev third : tie.After-slice-known2 → tie.After-number-at4
+third c = c .before .before .before .before
 
-abbrev kinded : tie.After-value3 → tie.After-kind-for
+abbrev second : tie.After-number-at4 → tie.After-number-at3
+second c = c .before .before .before
+
+abbrev first : tie.After-number-at3 → tie.After-number-at2
+first c = c .before .before .before
+
+abbrev kinded : tie.After-number-at2 → tie.After-kind-by
 kinded c = c .before .before .before
 
-abbrev start : tie.After-kind-for → tie.Start
-start c = c .before .before
+abbrev start : tie.After-kind-by → tie.Start
+start c = c .before .before .before .before
 
 returns : tie.Need-returns
 returns c =
-    let at = named c in
-    let args = start (kinded at) .args in
-    written-row (args .t .now) (args .o) (args .v) (args .r) (kinded at .kind-for .ensures)
-    (at .before .before .value .ensures) (at .before .value2 .ensures) (at .value3 .ensures)
-    (c .before .before .put .ensures)
+    let z = third c in
+    let y = second z in
+    let x = first y in
+    let k = kinded x in
+    let args = start k .args in
+    written-row (args .t .now) (args .vs .now) (args .o) (args .r) (k .before .number-at .ensures) (k .kind-by .ensures)
+    (x .number-at2 .ensures) (y .number-at3 .ensures) (z .number-at4 .ensures) (c .before .before .put .ensures)
 
 pub put-row-spec : {M : Type 1} → statement M
 put-row-spec =
@@ -28,7 +36,11 @@ put-row-spec =
     (tie.spec
     (λ c κs. search needs)
     (λ c κs. search needs)
+    (λ c. search needs)
     (λ c κs. search needs)
+    (λ c. search needs)
+    (λ c κs. search needs)
+    (λ c. search needs)
     (λ c κs. search needs)
     (λ c κs. search needs)
     (λ c. search needs)

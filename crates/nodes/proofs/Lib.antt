@@ -1,0 +1,2 @@
+-- That the tables of numbers are the nodes.
+pub mod Found

@@ -1,0 +1,14 @@
+-- `nodes::kind_by` meets its contract: the test decides. Assumes nothing.
+use borrow.Author.Tests.{eq-eqb, ne-eqb}
+use Rattle.tables.specs.Kind.{COMPARE-LITERAL}
+use Rattle.nodes.proofs.kind_by.Statement.{statement}
+use Rattle.nodes.proofs.kind_by.Tie as tie
+
+returns : tie.Need-returns
+returns c = simp (eq-eqb (c .before .args .k) COMPARE-LITERAL (c .if1 .taken))
+
+returns-2 : tie.Need-returns-2
+returns-2 c = simp (ne-eqb (c .before .args .k) COMPARE-LITERAL (c .if1 .left))
+
+pub kind-by-spec : {M : Type 1} → statement M
+kind-by-spec = tie.close (tie.spec returns returns-2)

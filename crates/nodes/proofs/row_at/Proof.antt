@@ -1,0 +1,72 @@
+-- `nodes::row_at` meets its contract: each arm gives a row of its own kind. Assumes nothing.
+use native.Mathlib.Omega.{arith}
+use Rattle.scheme.specs.Scheme.{nodeCount, nodeOf}
+use Rattle.tables.proofs.Numbers.{none-below}
+use Rattle.nodes.proofs.Found.{row-known, row-past, row-beyond}
+use Rattle.nodes.proofs.row_at.Statement.{statement}
+use Rattle.nodes.proofs.row_at.Tie as tie
+
+pub row-at-spec : {M : Type 1} → statement M
+unfolding nodeOf
+row-at-spec =
+    tie.close
+    (tie.spec
+    (λ c. row-known (c .before .match .keys1) (c .match2 .keys1))
+    (λ c. row-past (c .before .match .keys1) (none-below (c .before .before .args .i) 1 (c .match2 .rest)))
+    (λ c. row-past (c .match .keys2) (omega arith))
+    (λ c. row-known (c .before .match .keys3) (c .match3 .keys1))
+    (λ c. row-past (c .before .match .keys3) (none-below (c .before .before .args .i) 1 (c .match3 .rest)))
+    (λ c. row-known (c .before .match .keys4) (c .match4 .keys1))
+    (λ c. row-past (c .before .match .keys4) (none-below (c .before .before .args .i) 1 (c .match4 .rest)))
+    (λ c. row-known (c .before .match .keys5) (c .match5 .keys1))
+    (λ c. row-past (c .before .match .keys5) (none-below (c .before .before .args .i) 1 (c .match5 .rest)))
+    (λ c. row-known (c .before .match .keys6) (c .match6 .keys1))
+    (λ c. row-known (c .before .match .keys6) (c .match6 .keys2))
+    (λ c. row-known (c .before .match .keys6) (c .match6 .keys3))
+    (λ c. row-known (c .before .match .keys6) (c .match6 .keys4))
+    (λ c. row-past (c .before .match .keys6) (none-below (c .before .before .args .i) 4 (c .match6 .rest)))
+    (λ c. row-past (c .match .keys7) (omega arith))
+    (λ c. row-known (c .before .match .keys8) (c .match7 .keys1))
+    (λ c. row-past (c .before .match .keys8) (none-below (c .before .before .args .i) 1 (c .match7 .rest)))
+    (λ c. row-known (c .before .match .keys9) (c .match8 .keys1))
+    (λ c. row-known (c .before .match .keys9) (c .match8 .keys2))
+    (λ c. row-known (c .before .match .keys9) (c .match8 .keys3))
+    (λ c. row-known (c .before .match .keys9) (c .match8 .keys4))
+    (λ c. row-past (c .before .match .keys9) (none-below (c .before .before .args .i) 4 (c .match8 .rest)))
+    (λ c. row-known (c .before .match .keys10) (c .match9 .keys1))
+    (λ c. row-known (c .before .match .keys10) (c .match9 .keys2))
+    (λ c. row-known (c .before .match .keys10) (c .match9 .keys3))
+    (λ c. row-past (c .before .match .keys10) (none-below (c .before .before .args .i) 3 (c .match9 .rest)))
+    (λ c. row-known (c .before .match .keys11) (c .match10 .keys1))
+    (λ c. row-known (c .before .match .keys11) (c .match10 .keys2))
+    (λ c. row-known (c .before .match .keys11) (c .match10 .keys3))
+    (λ c. row-known (c .before .match .keys11) (c .match10 .keys4))
+    (λ c. row-past (c .before .match .keys11) (none-below (c .before .before .args .i) 4 (c .match10 .rest)))
+    (λ c. row-known (c .before .match .keys12) (c .match11 .keys1))
+    (λ c. row-known (c .before .match .keys12) (c .match11 .keys2))
+    (λ c. row-known (c .before .match .keys12) (c .match11 .keys3))
+    (λ c. row-known (c .before .match .keys12) (c .match11 .keys4))
+    (λ c. row-past (c .before .match .keys12) (none-below (c .before .before .args .i) 4 (c .match11 .rest)))
+    (λ c. row-known (c .before .match .keys13) (c .match12 .keys1))
+    (λ c. row-known (c .before .match .keys13) (c .match12 .keys2))
+    (λ c. row-known (c .before .match .keys13) (c .match12 .keys3))
+    (λ c. row-known (c .before .match .keys13) (c .match12 .keys4))
+    (λ c. row-known (c .before .match .keys13) (c .match12 .keys5))
+    (λ c. row-past (c .before .match .keys13) (none-below (c .before .before .args .i) 5 (c .match12 .rest)))
+    (λ c. row-known (c .before .match .keys14) (c .match13 .keys1))
+    (λ c. row-known (c .before .match .keys14) (c .match13 .keys2))
+    (λ c. row-known (c .before .match .keys14) (c .match13 .keys3))
+    (λ c. row-known (c .before .match .keys14) (c .match13 .keys4))
+    (λ c. row-known (c .before .match .keys14) (c .match13 .keys5))
+    (λ c. row-past (c .before .match .keys14) (none-below (c .before .before .args .i) 5 (c .match13 .rest)))
+    (λ c. row-known (c .before .match .keys15) (c .match14 .keys1))
+    (λ c. row-known (c .before .match .keys15) (c .match14 .keys2))
+    (λ c. row-known (c .before .match .keys15) (c .match14 .keys3))
+    (λ c. row-known (c .before .match .keys15) (c .match14 .keys4))
+    (λ c. row-past (c .before .match .keys15) (none-below (c .before .before .args .i) 4 (c .match14 .rest)))
+    (λ c. row-known (c .before .match .keys16) (c .match15 .keys1))
+    (λ c. row-known (c .before .match .keys16) (c .match15 .keys2))
+    (λ c. row-known (c .before .match .keys16) (c .match15 .keys3))
+    (λ c. row-known (c .before .match .keys16) (c .match15 .keys4))
+    (λ c. row-past (c .before .match .keys16) (none-below (c .before .before .args .i) 4 (c .match15 .rest)))
+    (λ c. row-beyond (c .before .args .i) (none-below (c .before .args .k) nodeCount (c .match .rest))))

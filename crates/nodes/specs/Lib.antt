@@ -1,0 +1,2 @@
+-- The nodes of the observer scheme as numbers.
+pub mod Numbers

@@ -1,0 +1,59 @@
+-- The nodes of the observer scheme (scheme, specs/Scheme.antt) as numbers: a name is its place in a list of values.
+-- Definitions only.
+use mathlib.Core.Bool.{cond}
+use mathlib.Core.List.{List, [], _∷_}
+use Prim.Native.Nat.{ℕ}
+use lib.Dec.{eqb}
+use lib.ListN.{length, getD}
+use Rattle.tables.specs.Kind.{COMPARE-LITERAL}
+use Rattle.tables.specs.Table.{Equation}
+use Rattle.scheme.specs.Scheme.{_⊕_, Name, RowKind, Row as SchemeRow, Node as SchemeNode, Values}
+use Rattle.tables.specs.Table.{equation}
+use Rattle.scheme.specs.Scheme.Name.{Nought, Idle, Start, Last, Previous, Signal, A, C}
+use Rattle.scheme.specs.Scheme.Name.{First, Second, Third, Fourth, Fifth}
+use Rattle.scheme.specs.Scheme.RowKind.{Plain, Comparison}
+use Rattle.nodes.specs.declared.Row.{Row}
+use Rattle.nodes.specs.declared.Node.{Node}
+
+abbrev pub numberOf : Name → ℕ
+numberOf Nought = 0
+numberOf Idle = 1
+numberOf Start = 2
+numberOf Last = 3
+numberOf Previous = 4
+numberOf Signal = 5
+numberOf A = 6
+numberOf C = 7
+numberOf First = 8
+numberOf Second = 9
+numberOf Third = 10
+numberOf Fourth = 11
+numberOf Fifth = 12
+
+-- The values in the order of their names' numbers, and after them the kind of the record's comparison.
+abbrev pub nameCount : ℕ
+nameCount = 13
+
+abbrev pub valueList : Values → List ℕ
+valueList v =
+    0 ∷ v .idle ∷ v .start ∷ v .last ∷ v .previous ∷ v .signal ∷ v .a ∷ v .c
+    ∷ v .place ∷ (v .place ⊕ 1) ∷ (v .place ⊕ 2) ∷ (v .place ⊕ 3) ∷ (v .place ⊕ 4) ∷ v .comparison ∷ []
+
+-- The comparison that a record asks for stands as the comparison with a literal: no row always has that kind.
+abbrev pub kindNumber : RowKind → ℕ
+kindNumber (Plain k) = k
+kindNumber Comparison = COMPARE-LITERAL
+
+abbrev pub kindBy : ℕ → ℕ → ℕ
+kindBy comparison k = cond (eqb k COMPARE-LITERAL) comparison k
+
+abbrev pub asRow : SchemeRow → Row
+asRow r = record { 0 = kindNumber (r .kind); 1 = numberOf (r .a); 2 = numberOf (r .b); 3 = numberOf (r .c) }
+
+abbrev pub asNode : SchemeNode → Node
+asNode d = record { 0 = length (d .rows); 1 = d .takes; 2 = numberOf (d .result); 3 = numberOf (d .idle) }
+
+-- A row of numbers with its names looked up in a list of values.
+abbrev pub lookedUp : List ℕ → Row → Equation
+lookedUp vs r =
+    equation (kindBy (getD vs nameCount 0) (r .0)) (getD vs (r .1) 0) (getD vs (r .2) 0) (getD vs (r .3) 0)
