@@ -6,7 +6,7 @@ use Prim.Native.Nat.{ℕ}
 use Rattle.lists.specs.Text.{bytes}
 use Rattle.tables.specs.Table.{kindOf}
 use Rattle.lustre.specs.Decimal.{digits, numberText}
-use Rattle.lustre.specs.Text.{valueText, lineEnd, lineText, lines, foot, textOf}
+use Rattle.lustre.specs.Text.{valueText, lineRest, lineText, lines, foot, textOf}
 
 -- What follows `fN=` for an equation of these four numbers.
 abbrev endOf : ℕ → ℕ → ℕ → ℕ → List ℕ
@@ -47,5 +47,5 @@ column =
 
 -- "the line `let`, a line per equation as `f0=b;`, then `a=fN;` with the last N, then `tel`"
 whole : textOf (1 ∷ 0 ∷ 0 ∷ 0 ∷ 3 ∷ 0 ∷ 0 ∷ 0 ∷ []) 2 ≡ bytes "let\nf0=b;\nf1=not f0;\na=f1;\ntel\n"
-unfolding textOf lines lineText lineEnd foot valueText kindOf digits numberText
+unfolding textOf lines lineText lineRest foot valueText kindOf digits numberText
 whole = refl

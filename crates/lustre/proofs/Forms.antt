@@ -21,7 +21,7 @@ use Rattle.tables.specs.declared.Operand.{Operand}
 use Rattle.tables.specs.declared.Operand.the-variants.{Unused, Earlier, Anywhere, Below}
 use Rattle.tables.proofs.Tests.{and-true, all-at}
 use Rattle.tables.proofs.Numbers.{kind-beyond}
-use Rattle.lustre.specs.Text.{valueText, lineEnd}
+use Rattle.lustre.specs.Text.{valueText, lineRest}
 use Rattle.tables.specs.Table.{equation}
 use Rattle.lustre.specs.Form.{equationOf, Letter, isA, isB, isC, slot, render, absent}
 use Rattle.lustre.specs.Form.{Agree, highest, Small, padded, formWidth, forms, formCount, formAt}
@@ -105,7 +105,7 @@ forms-apart f g hf hg d =
 -- A form is the one of each equation that agrees with it, and gives its text.
 record Given (f : ℕ) (e : Equation) : Type 0 where
   form : formOf e ≡ f
-  text : lineEnd e ≡ render e (formText (formAt f))
+  text : lineRest e ≡ render e (formText (formAt f))
 
 abbrev Gives : ℕ → Type 0
 Gives f = (e : Equation) → Agree e (equationOf (formAt f .settled)) (formText (formAt f)) → Given f e
@@ -126,7 +126,7 @@ of-form f p = p
 
 -- In the order of the forms. Forms of one kind are told apart by a number that they settle.
 each-gives : Each Gives formCount 0
-unfolding formAt forms padded absent kindOf formNumber lineEnd valueText render
+unfolding formAt forms padded absent kindOf formNumber lineRest valueText render
 each-gives =
     of-form 0 (λ e w. rw (w .kinds) (record { form = refl; text = refl }))
     also of-form 1 (λ e w. rw (w .kinds) (record { form = refl; text = refl }))
@@ -162,29 +162,29 @@ form-plain f e h w =
     record { known = rw n h; fits = rw n w }
 
 -- The text of an equation after `fN=` is its form's.
-pub end-form : (e : Equation) → Plain e → lineEnd e ≡ render e (formText (formAt (formOf e)))
+pub end-form : (e : Equation) → Plain e → lineRest e ≡ render e (formText (formAt (formOf e)))
 end-form e w = gives (formOf e) (w .known) e (w .fits .agrees) .text
 
-pub end-as : (f : ℕ) (e : Equation) → f < formCount → Fits (formAt f) e → lineEnd e ≡ render e (formText (formAt f))
+pub end-as : (f : ℕ) (e : Equation) → f < formCount → Fits (formAt f) e → lineRest e ≡ render e (formText (formAt f))
 end-as f e h w = gives f h e (w .agrees) .text
 
 -- What a kind's row says of a number, without the table.
-abbrev Told : Operand → ℕ → Type 0
-Told Unused x = x ≡ 0
-Told (Earlier s) x = x < equationLimit
-Told (Anywhere s) x = x < equationLimit
-Told (Below m) x = x < m
+abbrev Admits : Operand → ℕ → Type 0
+Admits Unused x = x ≡ 0
+Admits (Earlier s) x = x < equationLimit
+Admits (Anywhere s) x = x < equationLimit
+Admits (Below m) x = x < m
 
-flow-told : (t : List ℕ) (m x : ℕ) (b : Bool) → m ≤ equationLimit → (ltb x m && b) ≡ true → x < equationLimit
-flow-told t m x b h e = omega (arith, ltb-true x m (and-true (ltb x m) b e .0))
+flow-admitted : (t : List ℕ) (m x : ℕ) (b : Bool) → m ≤ equationLimit → (ltb x m && b) ≡ true → x < equationLimit
+flow-admitted t m x b h e = omega (arith, ltb-true x m (and-true (ltb x m) b e .0))
 
-told : (t : List ℕ) (n i : ℕ) (o : Operand) (x : ℕ) → n ≤ equationLimit → i ≤ equationLimit
-    → operandFits t n i o x ≡ true → Told o x
+admitted : (t : List ℕ) (n i : ℕ) (o : Operand) (x : ℕ) → n ≤ equationLimit → i ≤ equationLimit
+    → operandFits t n i o x ≡ true → Admits o x
 unfolding operandFits isFlow
-told t n i Unused x hn hi e = eqb-true x 0 e
-told t n i (Earlier s) x hn hi e = flow-told t i x _ hi e
-told t n i (Anywhere s) x hn hi e = flow-told t n x _ hn e
-told t n i (Below m) x hn hi e = ltb-true x m e
+admitted t n i Unused x hn hi e = eqb-true x 0 e
+admitted t n i (Earlier s) x hn hi e = flow-admitted t i x _ hi e
+admitted t n i (Anywhere s) x hn hi e = flow-admitted t n x _ hn e
+admitted t n i (Below m) x hn hi e = ltb-true x m e
 
 -- Where a letter stands nowhere in the form, the equation has the number that the form settles.
 abbrev Keeps : Bool → ℕ → ℕ → Type 0
@@ -215,7 +215,7 @@ having f k a b c n hk ka kb kc h = form-plain f (equation k a b c) (h .0) (recor
 -- Every equation that keeps the rules of its kind has a form.
 abbrev Formed : ℕ → Type 0
 Formed k =
-    (a b c : ℕ) → Told (shapeOf (kindOf k) .a) a → Told (shapeOf (kindOf k) .b) b → Told (shapeOf (kindOf k) .c) c
+    (a b c : ℕ) → Admits (shapeOf (kindOf k) .a) a → Admits (shapeOf (kindOf k) .b) b → Admits (shapeOf (kindOf k) .c) c
     → Plain (equation k a b c)
 
 of-kind : (k : ℕ) → Formed k → Formed k
@@ -275,7 +275,7 @@ each-formed =
     also of-kind COMPARE-PARAMETER (λ a b c p q r. each (parameters a c p r) b (omega arith) q)
     also end
 
-no-kind : (k a : ℕ) → kindCount ≤ k → Told (shapeOf (kindOf k) .a) a → ⊥
+no-kind : (k a : ℕ) → kindCount ≤ k → Admits (shapeOf (kindOf k) .a) a → ⊥
 unfolding shapeOf
 no-kind k a h p = let z = rw (kind-beyond k h) at p in omega (arith, z)
 
@@ -286,21 +286,21 @@ fitting-plain t n i e hn hi h =
     let s = shapeOf (kindOf (e .kind)) in
     let p = and-true (operandFits t n i (s .a) (e .a)) _ h in
     let q = and-true (operandFits t n i (s .b) (e .b)) _ (p .1) in
-    let a = told t n i (s .a) (e .a) hn hi (p .0) in
-    let b = told t n i (s .b) (e .b) hn hi (q .0) in
-    let c = told t n i (s .c) (e .c) hn hi (q .1) in
+    let a = admitted t n i (s .a) (e .a) hn hi (p .0) in
+    let b = admitted t n i (s .b) (e .b) hn hi (q .0) in
+    let c = admitted t n i (s .c) (e .c) hn hi (q .1) in
     elim (decLt (e .kind) kindCount) [
       | yes k ↦ each each-formed (e .kind) (omega arith) k (e .a) (e .b) (e .c) a b c
       | no k ↦ absurd (no-kind (e .kind) (e .a) (omega arith) a)
     ]
 
 -- Two equations whose texts stand at the front of one text are the same, and so is what follows them.
-pub one-end : (e e′ : Equation) (l r : List ℕ) → Plain e → Plain e′ → lineEnd e ++ l ≡ lineEnd e′ ++ r
+pub one-end : (e e′ : Equation) (l r : List ℕ) → Plain e → Plain e′ → lineRest e ++ l ≡ lineRest e′ ++ r
     → (e ≡ e′) × (l ≡ r)
 one-end e e′ l r w w′ h = go (ℕ-discrete (formOf e) (formOf e′))
   where
     scans-back : (d : Equation) (k : List ℕ) → Plain d
-        → scan (formText (formAt (formOf d))) (lineEnd d ++ k) (equationOf (formAt (formOf d) .settled)) ≡ scanned d k
+        → scan (formText (formAt (formOf d))) (lineRest d ++ k) (equationOf (formAt (formOf d) .settled)) ≡ scanned d k
     scans-back d k p =
         let f = form-fine (formOf d) (p .known) in
         rw (end-form d p) (scans d (p .fits .small) (formText (formAt (formOf d))) k _ (f .closes) (p .fits .agrees))
@@ -312,8 +312,8 @@ one-end e e′ l r w w′ h = go (ℕ-discrete (formOf e) (formOf e′))
     go (yes p) =
         let a = scans-back e l w in
         let b = scans-back e′ r w′ in
-        let c : scan (formText (formAt (formOf e))) (lineEnd e ++ l) (equationOf (formAt (formOf e) .settled))
-        ≡ scan (formText (formAt (formOf e′))) (lineEnd e′ ++ r) (equationOf (formAt (formOf e′) .settled)) =
+        let c : scan (formText (formAt (formOf e))) (lineRest e ++ l) (equationOf (formAt (formOf e) .settled))
+        ≡ scan (formText (formAt (formOf e′))) (lineRest e′ ++ r) (equationOf (formAt (formOf e′) .settled)) =
         rw (p, h) in
         let d : scanned e l ≡ scanned e′ r = sym a ∙ c ∙ b in
         (cc, cc)

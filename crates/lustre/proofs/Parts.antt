@@ -5,7 +5,7 @@ use mathlib.Core.List.{List, _++_}
 use Prim.Native.Nat.{ℕ, _-_}
 use Rattle.lists.specs.Text.{bytes}
 use Rattle.tables.specs.Table.{Equation}
-use Rattle.lustre.specs.Text.{lineEnd, lineText, foot}
+use Rattle.lustre.specs.Text.{lineRest, lineText, foot}
 use Rattle.lustre.specs.Form.{own, render}
 
 -- The first line and the last two, as forms.
@@ -23,6 +23,6 @@ pub foot-text : (n : ℕ) → render (own (n - 1)) closing ≡ foot n
 unfolding render foot
 foot-text n = refl
 
-pub line-text : (i : ℕ) (e : Equation) → render (own i) (bytes "fA=") ++ lineEnd e ≡ lineText i e
+pub line-text : (i : ℕ) (e : Equation) → render (own i) (bytes "fA=") ++ lineRest e ≡ lineText i e
 unfolding render lineText
 line-text i e = refl

@@ -19,7 +19,7 @@ use Rattle.lustre.specs.Write.{lengthLimit, writeEffect, effectIf, write
 use Rattle.lustre.specs.declared.Written.the-variants.{Length}
 use Rattle.lustre.proofs.Decimals.{digits-short}
 use Rattle.lustre.proofs.Theorems.{text-written}
-use Rattle.lustre.specs.Text.{truthText, opText, valueText, lineEnd, lineText, lines, foot, textOf}
+use Rattle.lustre.specs.Text.{truthText, opText, valueText, lineRest, lineText, lines, foot, textOf}
 use Rattle.lustre.proofs.Differ.{refused-length}
 
 -- The numbers of an equation are of 32 bits.
@@ -60,7 +60,7 @@ value-few unknown e w = omega arith
 
 module _ (t : List ℕ) (small : (i : ℕ) → getD t i 0 < 4294967296) where
   line-few : (i : ℕ) → i < 4294967296 → length (lineText i (equationAt t i)) ≤ 100
-  unfolding lineText lineEnd
+  unfolding lineText lineRest
   line-few i h =
       let e = equationAt t i in
       let value = value-few (kindOf (e .kind)) e (record { a = small _; b = small _; c = small _ }) in

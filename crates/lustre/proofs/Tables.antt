@@ -24,7 +24,7 @@ use Rattle.tables.specs.declared.Checked.the-variants.{Passed}
 use Rattle.tables.proofs.Tests.{and-true, all-at, all-of}
 use Rattle.tables.proofs.Checks.{checked-fitting, passed-both, long-enough}
 use Rattle.lustre.specs.Decimal.{numberText}
-use Rattle.lustre.specs.Text.{lineEnd, lineText, lines, foot, textOf}
+use Rattle.lustre.specs.Text.{lineRest, lineText, lines, foot, textOf}
 use Rattle.lustre.specs.Form.{highest, Plain, PlainTable, NoLine}
 use Rattle.lustre.proofs.Decimals.{same-number}
 use Rattle.lustre.proofs.Forms.{fitting-plain, one-end}
@@ -43,7 +43,7 @@ well-plain t n e =
 
 -- A line begins with `f`, its number and `=`.
 line-shape : (i : ℕ) (e : Equation) (l : List ℕ)
-    → lineText i e ++ l ≡ bytes "f" ++ (numberText i ++ (bytes "=" ++ (lineEnd e ++ l)))
+    → lineText i e ++ l ≡ bytes "f" ++ (numberText i ++ (bytes "=" ++ (lineRest e ++ l)))
 unfolding lineText
 line-shape i e l = rw (append-assoc, append-assoc)
 
@@ -53,7 +53,7 @@ one-line : (i : ℕ) (e e′ : Equation) (l r : List ℕ) → i ≤ highest → 
 unfolding isDigit
 one-line i e e′ l r h w w′ q =
     let a = sym (line-shape i e l) ∙ q ∙ line-shape i e′ r in
-    let b : numberText i ++ (bytes "=" ++ (lineEnd e ++ l)) ≡ numberText i ++ (bytes "=" ++ (lineEnd e′ ++ r)) = cc in
+    let b : numberText i ++ (bytes "=" ++ (lineRest e ++ l)) ≡ numberText i ++ (bytes "=" ++ (lineRest e′ ++ r)) = cc in
     let c = same-number highest i i _ _ h h refl refl b .1 in
     one-end e e′ l r w w′ (cc)
 

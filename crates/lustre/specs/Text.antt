@@ -45,12 +45,12 @@ valueText compareParameter e = flow (e .a) ++ opText (opOf (e .b)) ++ bytes "k" 
 valueText unknown e = []
 
 -- What follows `fN=` in the line of an equation; "each line ends in byte 10".
-unfoldable pub lineEnd : Equation → List ℕ
-lineEnd e = valueText (kindOf (e .kind)) e ++ bytes ";\n"
+unfoldable pub lineRest : Equation → List ℕ
+lineRest e = valueText (kindOf (e .kind)) e ++ bytes ";\n"
 
 -- "a line per equation as `f0=b;`"
 unfoldable pub lineText : ℕ → Equation → List ℕ
-lineText i e = flow i ++ bytes "=" ++ lineEnd e
+lineText i e = flow i ++ bytes "=" ++ lineRest e
 
 -- The lines of the first n equations.
 unfoldable pub lines : List ℕ → ℕ → List ℕ

@@ -41,8 +41,9 @@ pub struct Form {
     pub text: [u8; FORM_WIDTH],
 }
 
-// Every form; those of one kind stand together, by the number that tells them apart.
-const FORMS: [Form; FORM_COUNT] = [
+// Every form; those of one kind stand together, by the number that tells them apart. Each use of it makes a copy: one
+// that needs many forms takes a copy once (lustre_read), one that needs a single form asks `form_at`.
+pub const FORMS: [Form; FORM_COUNT] = [
     // 0: signal A.
     Form {
         settled: Numbers {

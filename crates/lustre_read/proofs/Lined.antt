@@ -14,7 +14,7 @@ use Rattle.lists.specs.Decimal.{isDigit}
 use Rattle.lists.specs.Number.{numberAt}
 use Rattle.tables.specs.Table.{Equation, equationAt}
 use Rattle.limits.specs.Limits.{equationLimit, tableRoom}
-use Rattle.lustre.specs.Text.{lineEnd, lineText, lines}
+use Rattle.lustre.specs.Text.{lineRest, lineText, lines}
 use Rattle.tables.specs.Table.{equation}
 use Rattle.lustre.specs.Form.{equationOf, own, Letter, slot, render, absent}
 use Rattle.lustre.specs.Form.Letter.{isA, isB, isC}
@@ -98,15 +98,15 @@ own-agrees i f n = record { kinds = refl; others = others }
     others x isC e = refl
 
 line-scans : (i : ℕ) (e : Equation) (r : List ℕ) → i ≤ highest
-    → scan (bytes "fA=") (lineText i e ++ r) (own 0) ≡ scanned (own i) (lineEnd e ++ r)
+    → scan (bytes "fA=") (lineText i e ++ r) (own 0) ≡ scanned (own i) (lineRest e ++ r)
 unfolding closed absent isDigit
 line-scans i e r h =
     rw (← line-text i e, append-assoc)
-    (scans (own i) (own-small i h) (bytes "fA=") (lineEnd e ++ r) (own 0) refl (own-agrees i (bytes "fA=") refl))
+    (scans (own i) (own-small i h) (bytes "fA=") (lineRest e ++ r) (own 0) refl (own-agrees i (bytes "fA=") refl))
 
 module _ (text : List ℕ) (p i : ℕ) (few : i < equationLimit) where
   here : (e : Equation) (r : List ℕ) → drop p text ≡ lineText i e ++ r
-      → scan (bytes "fA=") (drop p text) (own 0) ≡ scanned (own i) (lineEnd e ++ r)
+      → scan (bytes "fA=") (drop p text) (own 0) ≡ scanned (own i) (lineRest e ++ r)
   here e r h = rw h (line-scans i e r (omega arith))
 
   -- No line stands where `fN=` does not,
@@ -135,7 +135,7 @@ module _ (text : List ℕ) (p i : ℕ) (few : i < equationLimit) where
     plain = w .plain;
     says =
         scanned-text (bytes "fA=") (drop p text) (drop q text) (own 0) o refl g
-        ∙ rw (n, w .says) (sym (append-assoc (render (own i) (bytes "fA=")) (lineEnd e) (drop q′ text)));
+        ∙ rw (n, w .says) (sym (append-assoc (render (own i) (bytes "fA=")) (lineRest e) (drop q′ text)));
   }
 
 -- What the readers' answers say, by their cases.

@@ -8,7 +8,7 @@ use lib.Seq.{sets}
 use Rattle.limits.specs.Limits.{equationLimit}
 use Rattle.lists.specs.Decimal.{numeral}
 use Rattle.tables.specs.Table.{Equation, equationAt}
-use Rattle.lustre.specs.Text.{lineEnd, lineText, lines, textOf}
+use Rattle.lustre.specs.Text.{lineRest, lineText, lines, textOf}
 use Rattle.lustre.specs.Read.{Writes}
 use Rattle.lustre.specs.Form.{letter?, put, highest, Plain, PlainTable, NoLine, equationOf}
 use Rattle.lustre.specs.Scan.{Scanned, afterNumber, afterByte}
@@ -31,12 +31,12 @@ scanSeen text (Found e p) = scanned (equationOf e) (drop p text)
 
 -- No equation's text after `fN=` stands at the front.
 abbrev pub NoEnd : List ℕ → Type 0
-NoEnd l = (e : Equation) (r : List ℕ) → Plain e → l ≡ lineEnd e ++ r → ⊥
+NoEnd l = (e : Equation) (r : List ℕ) → Plain e → l ≡ lineRest e ++ r → ⊥
 
 -- The equation's text after `fN=` stands at p, and q is its end.
 pub record EndAt (text : List ℕ) (p : ℕ) (e : Equation) (q : ℕ) : Type 0 where
   pub plain : Plain e
-  pub says : drop p text ≡ lineEnd e ++ drop q text
+  pub says : drop p text ≡ lineRest e ++ drop q text
 
 abbrev pub endSeen : List ℕ → ℕ → Scan → Type 0
 endSeen text p Unlike = NoEnd (drop p text)

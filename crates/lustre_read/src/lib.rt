@@ -3,9 +3,9 @@
 use lists::Decimal;
 use lists::read_decimal;
 use lustre::FORM_COUNT;
+use lustre::FORMS;
 use lustre::Loaded;
 use lustre::Numbers;
-use lustre::form_at;
 use lustre::is_letter;
 use lustre::only;
 use tables::Checked;
@@ -109,9 +109,10 @@ fn scan_form(form: &[u8], text: &[u8], p: usize, e: Numbers) -> Scan
 fn read_end(text: &[u8], p: usize) -> Scan
     ensures { λ r. ⌜ endSeen (now (text .entry)) p r ⌝ }
 {
+    let forms = FORMS;
     let mut f = 0;
     while f < FORM_COUNT {
-        let form = form_at(f);
+        let form = forms[f];
         let settled = form.settled;
         let bytes = form.text;
         let len = form.len;

@@ -12,7 +12,7 @@ use Rattle.lists.proofs.Buffers.{sets-out}
 use Rattle.tables.specs.Table.{Equation, checked}
 use Rattle.tables.specs.declared.Checked.the-variants.{Passed, Refused as Failed}
 use Rattle.tables.proofs.Checks.{passed-both, refused-table}
-use Rattle.lustre.specs.Text.{lineEnd, lineText, lines, textOf}
+use Rattle.lustre.specs.Text.{lineRest, lineText, lines, textOf}
 use Rattle.lustre.specs.Write.{writeChecked, afterWrite, afterText, writeEffect}
 use Rattle.lustre.specs.Form.{own, render, formWidth, formCount, formAt, formText, formOf, Plain}
 use Rattle.lustre.specs.declared.Form.{Form}
@@ -34,12 +34,12 @@ module _ (e : Equation) (f : ℕ) (r : Form) (w : Plain e) (ef : f ≡ formOf e)
   pub fetched-short : r .len ≤ formWidth
   fetched-short = rw er (form-fine f fetched-known .room)
 
-  pub fetched-text : render e (formText r) ≡ lineEnd e
+  pub fetched-text : render e (formText r) ≡ lineRest e
   fetched-text = rw (er, ef) (sym (end-form e w))
 
 -- A line in its two parts, and the text in its three.
 pub line-placed : (i q : ℕ) (d e e′ : Equation) {l l′ : ℕ} {b m p : List ℕ} {r k : ℕ} → d ≡ own i → e ≡ e′
-    → Placed l (render d (bytes "fA=")) b m r → q ≡ min r (length m) → Placed l′ (lineEnd e) (lent m q) p k
+    → Placed l (render d (bytes "fA=")) b m r → q ≡ min r (length m) → Placed l′ (lineRest e) (lent m q) p k
     → Placed (l + l′) (lineText i e′) b (back m q p) (r + k)
 line-placed i q d e e′ h g w c v =
     placed-as (line-text i e ∙ ap (lineText i) g)

@@ -14,7 +14,7 @@ ghost use lib.ListN.{length, set};
 ghost use Rattle.limits.specs.Limits.{equationLimit};
 ghost use Rattle.tables.specs.Table.{equationAt, checked};
 ghost use Rattle.lustre.specs.Decimal.{numberText};
-ghost use Rattle.lustre.specs.Text.{lineEnd, lineText, lines, textOf};
+ghost use Rattle.lustre.specs.Text.{lineRest, lineText, lines, textOf};
 ghost use Rattle.lustre.specs.Write.{afterWrite, writeEffect};
 ghost use Rattle.lustre.specs.Form.{equationOf, slot, piece, render, formWidth, formOf, Plain, PlainTable};
 ghost use Rattle.lustre_write.specs.Placed.{Placed, pieceRoom, formRoom, lineRoom};
@@ -117,7 +117,7 @@ fn form_of(e: Numbers) -> usize
 // What follows `fN=` in the line of an equation.
 fn write_end(e: Numbers, out: &mut [u8]) -> usize
     requires { ⌜ Plain (equationOf e) ⌝ }
-    ensures { λ r. ⌜ Placed formRoom (lineEnd (equationOf e)) (now (out .entry)) (now (out .exit)) r ⌝ }
+    ensures { λ r. ⌜ Placed formRoom (lineRest (equationOf e)) (now (out .entry)) (now (out .exit)) r ⌝ }
 {
     let form = form_at(form_of(e));
     let text = form.text;
