@@ -14,7 +14,7 @@ use Rattle.tables.specs.Table.{Equation}
 use Rattle.limits.specs.Limits.{signalCount}
 use Rattle.tables.specs.Table.{equation}
 use Rattle.scheme.specs.Emit.{placeAfter, signals, places}
-use Rattle.emitter.specs.Machine.{withEquations, Header, headerOf, settled, settle}
+use Rattle.emitter.specs.Machine.{withEquations, Header, headerOf, withSignal, settle}
 use Rattle.emitter.specs.Contract.{Headed}
 use Rattle.emitter.proofs.Written.{written-append}
 
@@ -28,22 +28,22 @@ first-two-is t e₁ e₂ = rw (e₂, e₁, written-append (equation START 0 0 0 
 
 -- ---- one signal
 
-pub settled-named : (t named : List ℕ) (j o flag : ℕ) {t′ named′ : List ℕ} → flag ≡ getD named j 0 → (flag ≡ 0 → ⊥)
+pub signal-named : (t named : List ℕ) (j o flag : ℕ) {t′ named′ : List ℕ} → flag ≡ getD named j 0 → (flag ≡ 0 → ⊥)
     → named′ ≡ set named j o → t′ ≡ withEquations t o (equation SIGNAL j 0 0 ∷ [])
-    → headerOf t′ named′ (o + 1) ≡ settled j (headerOf t named o)
-unfolding settled
-settled-named t named j o zero e h e-named e-t = absurd (h refl)
-settled-named t named j o (suc flag) e h e-named e-t = rw (sym e, e-named, e-t, add-one o)
+    → headerOf t′ named′ (o + 1) ≡ withSignal j (headerOf t named o)
+unfolding withSignal
+signal-named t named j o zero e h e-named e-t = absurd (h refl)
+signal-named t named j o (suc flag) e h e-named e-t = rw (sym e, e-named, e-t, add-one o)
 
-pub settled-other : (t named : List ℕ) (j o : ℕ) {flag : ℕ} {named′ : List ℕ} → flag ≡ getD named j 0 → flag ≡ 0
-    → named′ ≡ set named j o → headerOf t named′ o ≡ settled j (headerOf t named o)
-unfolding settled
-settled-other t named j o e h e-named = rw (sym e, h, e-named)
+pub signal-other : (t named : List ℕ) (j o : ℕ) {flag : ℕ} {named′ : List ℕ} → flag ≡ getD named j 0 → flag ≡ 0
+    → named′ ≡ set named j o → headerOf t named′ o ≡ withSignal j (headerOf t named o)
+unfolding withSignal
+signal-other t named j o e h e-named = rw (sym e, h, e-named)
 
 -- It adds one equation at most.
-settled-near : (j : ℕ) (h : Header) → settled j h .next ≤ h .next + 1
-unfolding settled
-settled-near j h = at-most (nonzero (getD (h .places) j 0))
+signal-near : (j : ℕ) (h : Header) → withSignal j h .next ≤ h .next + 1
+unfolding withSignal
+signal-near j h = at-most (nonzero (getD (h .places) j 0))
   where
     at-most : (b : Bool) → cond b (suc (h .next)) (h .next) ≤ h .next + 1
     at-most true = omega arith
@@ -65,12 +65,12 @@ settling-none {m} =
 
 pub settling-one : {m : ℕ} {t₀ named₀ : List ℕ} {o₀ : ℕ} {t named : List ℕ} {o j : ℕ} {t′ named′ : List ℕ} {o′ : ℕ}
     → Settling m t₀ named₀ o₀ t named o j → j < m
-    → headerOf t′ named′ o′ ≡ settled j (headerOf t named o) → length t′ ≡ length t → length named′ ≡ length named
+    → headerOf t′ named′ o′ ≡ withSignal j (headerOf t named o) → length t′ ≡ length t → length named′ ≡ length named
     → Settling m t₀ named₀ o₀ t′ named′ o′ (j + 1)
 unfolding settle
 settling-one {m} {t₀} {named₀} {o₀} {t} {named} {o} {j} {t′} {named′} {o′} e h d e-t e-named =
-    let next : o′ ≡ settled j (headerOf t named o) .next = ap (λ (x : Header). x .next) d in
-    let near : settled j (headerOf t named o) .next ≤ o + 1 = settled-near j (headerOf t named o) in
+    let next : o′ ≡ withSignal j (headerOf t named o) .next = ap (λ (x : Header). x .next) d in
+    let near : withSignal j (headerOf t named o) .next ≤ o + 1 = signal-near j (headerOf t named o) in
     let one : m - j ≡ suc (m - (j + 1)) = omega arith in
     record {
       passed = omega arith;
@@ -93,12 +93,12 @@ settling-all {named = named} {j = j} e-t e h =
 -- ---- the marks of ν give way to its places, and its signals' equations are written
 
 -- Signal j, whose mark is x.
-settled-at : (done : List ℕ) (x : ℕ) (rest t : List ℕ) (o j : ℕ) → length done ≡ j →
-    settled j (headerOf t (done ++ (x ∷ rest)) o)
+signal-at : (done : List ℕ) (x : ℕ) (rest t : List ℕ) (o j : ℕ) → length done ≡ j →
+    withSignal j (headerOf t (done ++ (x ∷ rest)) o)
     ≡ headerOf (cond (nonzero x) (withEquations t o (equation SIGNAL j 0 0 ∷ [])) t) ((done ++ (o ∷ [])) ++ rest)
     (cond (nonzero x) (suc o) o)
-unfolding settled
-settled-at done x rest t o j e =
+unfolding withSignal
+signal-at done x rest t o j e =
     rw (getD-at done x rest 0 j e, set-at done x rest o j e, append-assoc done (o ∷ []) rest)
 
 -- Its equation before those of the m signals after it.
@@ -131,6 +131,6 @@ settle-is ν (x ∷ rest) done t o j e h =
     let long : length (done ++ (o ∷ [])) ≡ suc j = length-append done (o ∷ []) ∙ rw e (omega arith) in
     let t′ : List ℕ = cond (nonzero x) (withEquations t o (equation SIGNAL j 0 0 ∷ [])) t in
     let o′ : ℕ = cond (nonzero x) (suc o) o in
-    ap (settle m (suc j)) (settled-at done x rest t o j e)
+    ap (settle m (suc j)) (signal-at done x rest t o j e)
     ∙ settle-is ν rest (done ++ (o ∷ [])) t′ o′ (suc j) long those
     ∙ signals-one ν done t o j m (nonzero x) this

@@ -5,13 +5,13 @@ use mathlib.Core.Path.{_≡_, refl, sym, ap, _∙_}
 use Prim.Native.Nat.{ℕ, suc, _+_, _*_, _≤_, _<_}
 use native.Mathlib.Numerals.{add-one, add-two, add-three, add-four}
 use native.Mathlib.Omega.{arith}
-use borrow.Author.Tests.{ne-eqb}
+use borrow.Author.Tests.{ne-eqb, le-leb, lt-leb}
 use lib.ListN.{getD, set, drop, length, length-drop}
 use lib.Seq.{drop-cons}
-use Rattle.formulas.specs.Arena.{SIGNAL, WHOLE}
+use Rattle.formulas.specs.Arena.{SIGNAL}
 use Rattle.scheme.specs.Scheme.{widest}
 use Rattle.emitter.specs.Machine.{stackSize, State, state, step, run, ran, stacked}
-use Rattle.emitter.specs.Machine.{recordOf, recordAt, marked, marks}
+use Rattle.emitter.specs.Machine.{recordAt, whole, recordFrom, marked, marks}
 use Rattle.emitter.specs.Contract.{Entered, Ran, stateOf}
 use Rattle.emitter.specs.declared.Place.{Place}
 use Rattle.emitter.specs.declared.Record.{Record}
@@ -72,7 +72,7 @@ entering-none h =
 -- One more record is entered.
 pub entering-one : {arena places t₀ : List ℕ} {o : ℕ} {t stack : List ℕ} {m : Place} {i : ℕ} {x : Record}
     {t′ stack′ : List ℕ} {m′ : Place} → Entering arena places t₀ o t stack m i → i + 4 ≤ length arena
-    → x ≡ recordAt arena i → Entered places x t stack m t′ stack′ m′ → length t′ ≡ length t
+    → x ≡ recordFrom arena i → Entered places x t stack m t′ stack′ m′ → length t′ ≡ length t
     → length stack′ ≡ length stack → Entering arena places t₀ o t′ stack′ m′ (i + 4)
 entering-one {arena} {places} {t₀} {o} {t} {stack} {m} {i} {x} {t′} {stack′} {m′} e h e-x d e-t e-stack =
     record {
@@ -80,7 +80,7 @@ entering-one {arena} {places} {t₀} {o} {t} {stack} {m} {i} {x} {t′} {stack�
       same = e-t ∙ e .same;
       room = e-stack ∙ e .room;
       left =
-          ap (run places (drop (i + 4) arena)) (rw e-x at (d .stands))
+          ap (run places (drop (i + 4) arena)) (rw (e-x, le-leb (i + 4) (length arena) h) at (d .stands))
           ∙ sym (run-one places arena i (stateOf t stack m) h)
           ∙ e .left;
       near = omega arith;
@@ -89,14 +89,15 @@ entering-one {arena} {places} {t₀} {o} {t} {stack} {m} {i} {x} {t′} {stack�
 
 -- All are, and the whole rule's node.
 pub entering-all : {arena places t₀ : List ℕ} {o : ℕ} {t stack : List ℕ} {m : Place} {i : ℕ} {t′ stack′ : List ℕ}
-    {m′ : Place} → Entering arena places t₀ o t stack m i → length arena < i + 4
-    → Entered places (recordOf WHOLE 0 0 0) t stack m t′ stack′ m′ → Ran arena places t₀ o t′ (m′ .next)
-entering-all {arena} {places} {t₀} {o} {t} {stack} {m} {i} {t′} {stack′} {m′} e h d =
+    {x : Record} {m′ : Place} → Entering arena places t₀ o t stack m i → length arena < i + 4
+    → x ≡ recordFrom arena i → Entered places x t stack m t′ stack′ m′ → Ran arena places t₀ o t′ (m′ .next)
+entering-all {arena} {places} {t₀} {o} {t} {stack} {m} {i} {t′} {stack′} {x} {m′} e h e-x d =
+    let is-whole : x ≡ whole = rw (lt-leb (i + 4) (length arena) h) at e-x in
     let s : State = stateOf t stack m in
     let done : s ≡ run places arena (state t₀ o 1 []) =
     sym (run-short places (drop i arena) s (short arena i h)) ∙ e .left in
     let all : stateOf t′ stack′ m′ ≡ ran arena places t₀ o =
-    d .stands ∙ ap (step places (recordOf WHOLE 0 0 0)) done in
+    rw is-whole at (d .stands) ∙ ap (step places whole) done in
     record { written = ap (λ (s : State). s .table) all; many = ap (λ (s : State). s .next) all; few = omega arith }
 
 -- ---- marking

@@ -1,20 +1,20 @@
 -- The first numbers of an array as a stack, one node added and one record entered. Assumes nothing.
-use mathlib.Core.List.{List, _∷_}
+use mathlib.Core.List.{List, _∷_, map}
 use mathlib.Core.Path.{_≡_, refl, ap, ap₂, _∙_}
 use Prim.Native.Nat.{ℕ, zero, suc, _+_, _-_, _≤_, _<_}
 use native.Mathlib.Nat.{zero-sub, sub-zero, suc-sub-suc}
 use native.Mathlib.Numerals.{add-one}
 use native.Mathlib.Omega.{arith}
-use lib.ListN.{getD, set, drop, length, take, List·getD-eq-default}
+use lib.ListN.{getD, set, drop, length, take}
 use lib.Seq.{getD-set-same, getD-set-other}
-use Rattle.scheme.specs.Scheme.{nodeList, nodeCount, noNode, nodeOf, valueOf, filled}
+use Rattle.scheme.specs.Scheme.{nodeOf, valueNamed, filled}
 use Rattle.scheme.proofs.Offsets.{⊕-add}
 use Rattle.scheme.proofs.ByKind.{rows-few}
-use Rattle.nodes.specs.Numbers.{numberOf, valueList, asNode}
+use Rattle.nodes.specs.Numbers.{numberOf, valueList, asNode, lookedUp}
 use Rattle.nodes.specs.declared.Node.{Node as CodeNode}
 use Rattle.nodes.proofs.Found.{named}
 use Rattle.emitter.proofs.Written.{own-rows}
-use Rattle.emitter.specs.Machine.{withEquations, fiveRows, before, stacked, valuesAt, applied, step}
+use Rattle.emitter.specs.Machine.{withEquations, before, stacked, valuesAt, applied, step}
 use Rattle.emitter.specs.Contract.{Pushed, AddedBy, Entered}
 use Rattle.emitter.specs.declared.Place.{Place}
 use Rattle.emitter.specs.declared.Record.{Record}
@@ -74,24 +74,24 @@ pushed {stack} {h} {t} {v} {stack′} {low} e l s =
 
 -- ---- one node: what the calls of `add_node` gave
 
-pub added : (k : ℕ) {vs t stack : List ℕ} {m : Place} {d : CodeNode} {t′ stack′ : List ℕ} {out n h : ℕ} → k ≤ nodeCount
-    → d ≡ asNode (nodeOf k) → t′ ≡ withEquations t (m .next) (take (d .0) (fiveRows vs k))
-    → out ≡ getD vs (d .2) 0 → n ≡ getD vs (d .3) 0 → Pushed stack (m .height) (d .1) out stack′ h
-    → AddedBy k vs t stack m t′ stack′ (record { next = m .next + d .0; idle = n; height = h })
+pub added : {vs t stack : List ℕ} {m : Place} {d : CodeNode} {t′ stack′ : List ℕ} {out n h : ℕ}
+    → t′ ≡ withEquations t (m .next) (take (d .count) (map (lookedUp vs) (d .rows)))
+    → out ≡ getD vs (d .result) 0 → n ≡ getD vs (d .idle) 0 → Pushed stack (m .height) (d .takes) out stack′ h
+    → AddedBy d vs t stack m t′ stack′ (record { next = m .next + d .count; idle = n; height = h })
 unfolding applied
-added k {vs} {t} {stack} {m} {d} {t′} low e-d e-t e-out e-n e-h = λ v e-vs.
+added {vs} {t} {stack} {m} {d} {t′} e-t e-out e-n e-h = λ k v e-d e-vs.
     let few = rows-few k in
-    let count : d .0 ≡ length (nodeOf k .rows) = ap (λ (x : CodeNode). x .0) e-d in
-    let takes : d .1 ≡ nodeOf k .takes = ap (λ (x : CodeNode). x .1) e-d in
-    let result : d .2 ≡ numberOf (nodeOf k .result) = ap (λ (x : CodeNode). x .2) e-d in
-    let idle : d .3 ≡ numberOf (nodeOf k .idle) = ap (λ (x : CodeNode). x .3) e-d in
-    let rows : take (d .0) (fiveRows vs k) ≡ filled v (nodeOf k .rows) =
-    ap₂ (λ (n : ℕ) (l : List ℕ). take n (fiveRows l k)) count e-vs ∙ own-rows k low v in
+    let count : d .count ≡ length (nodeOf k .rows) = ap (λ (x : CodeNode). x .count) e-d in
+    let takes : d .takes ≡ nodeOf k .takes = ap (λ (x : CodeNode). x .takes) e-d in
+    let result : d .result ≡ numberOf (nodeOf k .result) = ap (λ (x : CodeNode). x .result) e-d in
+    let idle : d .idle ≡ numberOf (nodeOf k .idle) = ap (λ (x : CodeNode). x .idle) e-d in
+    let rows : take (d .count) (map (lookedUp vs) (d .rows)) ≡ filled v (nodeOf k .rows) =
+    ap₂ (λ (x : CodeNode) (l : List ℕ). take (x .count) (map (lookedUp l) (x .rows))) e-d e-vs ∙ own-rows k v in
     let table : t′ ≡ withEquations t (m .next) (filled v (nodeOf k .rows)) = e-t ∙ ap (withEquations t (m .next))
     rows in
-    let pushed-out : getD vs (d .2) 0 ≡ valueOf v (nodeOf k .result) =
+    let pushed-out : getD vs (d .result) 0 ≡ valueNamed v (nodeOf k .result) =
     ap₂ (λ (l : List ℕ) (x : ℕ). getD l x 0) e-vs result ∙ named v (nodeOf k .result) in
-    let idle-out : getD vs (d .3) 0 ≡ valueOf v (nodeOf k .idle) =
+    let idle-out : getD vs (d .idle) 0 ≡ valueNamed v (nodeOf k .idle) =
     ap₂ (λ (l : List ℕ) (x : ℕ). getD l x 0) e-vs idle ∙ named v (nodeOf k .idle) in
     record {
       stands = cc (⊕-add (m .next) (length (nodeOf k .rows)), e-h .holds);
@@ -99,17 +99,12 @@ added k {vs} {t} {stack} {m} {d} {t′} low e-d e-t e-out e-n e-h = λ v e-vs.
       low = e-h .low;
     }
 
--- One record, of the kind k or of one with the same node, whose node was added.
-pub entered : (k : ℕ) {places : List ℕ} {x : Record} {t stack : List ℕ} {m : Place} {vs t′ stack′ : List ℕ}
-    {m′ : Place} → nodeOf (x .kind) ≡ nodeOf k
+-- One record, whose node was added.
+pub entered : {places : List ℕ} {x : Record} {t stack : List ℕ} {m : Place} {d : CodeNode} {vs t′ stack′ : List ℕ}
+    {m′ : Place} → d ≡ asNode (nodeOf (x .kind))
     → vs ≡ valueList (valuesAt places (m .next) (m .idle) (stacked stack (m .height)) x)
-    → AddedBy k vs t stack m t′ stack′ m′ → Entered places x t stack m t′ stack′ m′
+    → AddedBy d vs t stack m t′ stack′ m′ → Entered places x t stack m t′ stack′ m′
 unfolding step
-entered k {places} {x} {stack = stack} {m = m} e-k e-v h =
-    let a = h (valuesAt places (m .next) (m .idle) (stacked stack (m .height)) x) e-v in
-    record { stands = cc (e-k, a .stands); near = a .near; low = a .low }
-
--- Past the last kind all have the same node.
-pub beyond : {k : ℕ} → nodeCount ≤ k → nodeOf k ≡ nodeOf nodeCount
-unfolding nodeOf
-beyond h = List·getD-eq-default nodeList noNode h
+entered {places} {x} {stack = stack} {m = m} e-d e-v h =
+    let a = h (x .kind) (valuesAt places (m .next) (m .idle) (stacked stack (m .height)) x) e-d e-v in
+    record { stands = a .stands; near = a .near; low = a .low }

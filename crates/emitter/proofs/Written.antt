@@ -1,7 +1,7 @@
 -- Equations one after the other in a table: where they end, and what writing them leaves. Assumes nothing.
-use mathlib.Core.List.{List, [], _∷_, _++_}
+use mathlib.Core.List.{List, [], _∷_, _++_, map}
 use mathlib.Core.Path.{_≡_, refl, sym, ap, _∙_}
-use Prim.Native.Nat.{ℕ, suc, _+_, _*_, _≤_, _<_}
+use Prim.Native.Nat.{ℕ, zero, suc, _+_, _*_, _≤_, _<_}
 use native.Mathlib.Numerals.{add-one, add-two, add-three}
 use native.Mathlib.Omega.{arith}
 use lib.ListN.{length, getD, set, take}
@@ -9,14 +9,14 @@ use lib.Seq.{sets, take-all}
 use Rattle.lists.proofs.Buffers.{sets-append}
 use Rattle.tables.specs.Table.{Equation}
 use Rattle.tables.specs.Table.{equation}
-use Rattle.scheme.specs.Scheme.{widest, Row as SchemeRow, rowAt, nodeCount, nodeOf, Values, resolved, filled}
+use Rattle.scheme.specs.Scheme.{widest, Row as SchemeRow, rowAt, nodeOf, Values, resolved, filled}
 use Rattle.scheme.specs.Emit.{placeAfter, numbersOf}
 use Rattle.scheme.proofs.Places.{after-append, after-length, length-numbers}
 use Rattle.scheme.proofs.ByKind.{rows-few}
-use Rattle.nodes.specs.Numbers.{nameCount, valueList, kindBy, asRow, lookedUp}
+use Rattle.nodes.specs.Numbers.{nameCount, valueList, kindBy, asRow, fiveOf, lookedUp}
 use Rattle.nodes.specs.declared.Row.{Row}
 use Rattle.nodes.proofs.Found.{row-looked-up}
-use Rattle.emitter.specs.Machine.{withEquations, rowOf, fiveRows}
+use Rattle.emitter.specs.Machine.{withEquations}
 
 -- ---- the numbers of equations
 
@@ -64,30 +64,43 @@ written-more t o es e e₁ e₂ =
     ∙ ap (λ (n : ℕ). withEquations (withEquations t o es) n (e ∷ [])) (sym (after-length es o))
     ∙ sym (written-append es (e ∷ []) t o)
 
--- ---- the rows of the node of the kind k
+-- ---- the rows of a node
 
--- Row i, as the code found it, written at o.
-pub row-put : (t vs : List ℕ) (o k i : ℕ) {r : Row} {t′ : List ℕ} → r ≡ asRow (rowAt (nodeOf k .rows) i)
-    → t′ ≡ withEquations t o (lookedUp vs r ∷ []) → t′ ≡ withEquations t o (rowOf vs k i ∷ [])
-unfolding rowOf
-row-put t vs o k i e h = h ∙ ap (λ (r : Row). withEquations t o (lookedUp vs r ∷ [])) e
+-- The first i rows looked up, and the next one with them.
+rows-next : (vs : List ℕ) (i : ℕ) (rs : List Row) (r₀ : Row) → i < length rs
+    → take (suc i) (map (lookedUp vs) rs) ≡ take i (map (lookedUp vs) rs) ++ (lookedUp vs (getD rs i r₀) ∷ [])
+rows-next vs i [] r₀ h = absurd (omega arith)
+rows-next vs zero (r ∷ rs) r₀ h = refl
+rows-next vs (suc i) (r ∷ rs) r₀ h =
+    ap (λ (l : List Equation). lookedUp vs r ∷ l) (rows-next vs i rs r₀ (omega arith))
 
--- n of them, and all five.
-pub rows-all : (t vs : List ℕ) (o k n : ℕ) {count : ℕ} {t′ : List ℕ} → count ≡ n
-    → t′ ≡ withEquations t o (take n (fiveRows vs k)) → t′ ≡ withEquations t o (take count (fiveRows vs k))
-rows-all t vs o k n e h = h ∙ ap (λ (m : ℕ). withEquations t o (take m (fiveRows vs k))) (sym e)
+-- They are i.
+rows-length : (vs : List ℕ) (i : ℕ) (rs : List Row) → i ≤ length rs → length (take i (map (lookedUp vs) rs)) ≡ i
+rows-length vs zero rs h = refl
+rows-length vs (suc i) [] h = absurd (omega arith)
+rows-length vs (suc i) (r ∷ rs) h = ap suc (rows-length vs i rs (omega arith))
 
-pub rows-five : (t vs : List ℕ) (o k count : ℕ) {t′ : List ℕ} → widest ≤ count → t′ ≡ withEquations t o (fiveRows vs k)
-    → t′ ≡ withEquations t o (take count (fiveRows vs k))
-rows-five t vs o k count few h = h ∙ ap (withEquations t o) (sym (take-all count (fiveRows vs k) few))
+-- After i rows one more is written.
+pub row-written : (t vs : List ℕ) (o i : ℕ) (rs : List Row) (r₀ : Row) {t₁ t₂ : List ℕ} → i < length rs
+    → t₁ ≡ withEquations t o (take i (map (lookedUp vs) rs))
+    → t₂ ≡ withEquations t₁ (o + i) (lookedUp vs (getD rs i r₀) ∷ [])
+    → t₂ ≡ withEquations t o (take (i + 1) (map (lookedUp vs) rs))
+row-written t vs o i rs r₀ {t₁} h e₁ e₂ =
+    let rows : List Equation = take i (map (lookedUp vs) rs) in
+    let at : o + i ≡ o + length rows = ap (λ (n : ℕ). o + n) (sym (rows-length vs i rs (omega arith))) in
+    written-more t o rows (lookedUp vs (getD rs i r₀)) e₁
+    (e₂ ∙ ap (λ (n : ℕ). withEquations t₁ n (lookedUp vs (getD rs i r₀) ∷ [])) at)
+    ∙ ap (withEquations t o) (sym (rows-next vs i rs r₀ h))
+    ∙ ap (λ (n : ℕ). withEquations t o (take n (map (lookedUp vs) rs))) (sym (add-one i))
 
 -- The node's own rows, with the values v.
-module _ (k : ℕ) (low : k ≤ nodeCount) (v : Values) where
-  row-is : (i : ℕ) → i < widest → rowOf (valueList v) k i ≡ resolved v (rowAt (nodeOf k .rows) i)
-  unfolding rowOf
-  row-is i h = row-looked-up v k i low h
+module _ (k : ℕ) (v : Values) where
+  row-is : (i : ℕ) → i < widest → lookedUp (valueList v) (asRow (rowAt (nodeOf k .rows) i))
+      ≡ resolved v (rowAt (nodeOf k .rows) i)
+  row-is i h = row-looked-up v k i h
 
-  pub own-rows : take (length (nodeOf k .rows)) (fiveRows (valueList v) k) ≡ filled v (nodeOf k .rows)
+  pub own-rows : take (length (nodeOf k .rows)) (map (lookedUp (valueList v)) (fiveOf (nodeOf k .rows)))
+      ≡ filled v (nodeOf k .rows)
   own-rows =
       rw (
         row-is 0 (omega arith),

@@ -10,7 +10,8 @@ use Rattle.formulas.specs.Raw.{raw}
 use Rattle.limits.specs.Limits.{equationLimit, signalCount}
 use Rattle.scheme.specs.Emit.{observer, numbersOf}
 use Rattle.scheme.specs.Scheme.{Node, Values, nodeOf, widest}
-use Rattle.nodes.specs.Numbers.{valueList}
+use Rattle.nodes.specs.Numbers.{asNode, valueList}
+use Rattle.nodes.specs.declared.Node.{Node as CodeNode}
 use Rattle.emitter.specs.Machine.{State, state, applied, step, ran, stacked, headerOf, headed}
 use Rattle.emitter.specs.declared.Place.{Place}
 use Rattle.emitter.specs.declared.Record.{Record}
@@ -45,9 +46,10 @@ pub record Added (d : Node) (v : Values) (t stack : List ℕ) (m : Place) (t′ 
   pub near : m′ .next ≤ m .next + widest
   pub low : m′ .height ≤ m .height + 1
 
--- The node of the kind k was, with whatever values the list has.
-abbrev pub AddedBy : ℕ → List ℕ → List ℕ → List ℕ → Place → List ℕ → List ℕ → Place → Type 0
-AddedBy k vs t stack m t′ stack′ m′ = (v : Values) → vs ≡ valueList v → Added (nodeOf k) v t stack m t′ stack′ m′
+-- The node that d has as numbers was, with the values that the list has.
+abbrev pub AddedBy : CodeNode → List ℕ → List ℕ → List ℕ → Place → List ℕ → List ℕ → Place → Type 0
+AddedBy d vs t stack m t′ stack′ m′ =
+    (k : ℕ) (v : Values) → d ≡ asNode (nodeOf k) → vs ≡ valueList v → Added (nodeOf k) v t stack m t′ stack′ m′
 
 -- One record was entered.
 pub record Entered (places : List ℕ) (x : Record) (t stack : List ℕ) (m : Place) (t′ stack′ : List ℕ) (m′ : Place)

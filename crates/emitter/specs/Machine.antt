@@ -5,7 +5,7 @@
 use mathlib.Core.Bool.{cond}
 use mathlib.Core.List.{List, [], _∷_}
 use Prim.Native.Nat.{ℕ, zero, suc, _+_, _*_}
-use lib.Dec.{eqb}
+use lib.Dec.{eqb, leb}
 use lib.ListN.{getD, set, drop, length}
 use lib.Seq.{sets}
 use Rattle.traces.specs.Trace.{nonzero}
@@ -13,10 +13,9 @@ use Rattle.formulas.specs.Arena as arena
 use Rattle.tables.specs.Kind.{SIGNAL, START, NOT}
 use Rattle.tables.specs.Table.{Equation}
 use Rattle.limits.specs.Limits.{recordLimit, signalCount}
-use Rattle.scheme.specs.Scheme.{_⊕_, Node, nodeOf, rowAt, Values, valueOf, comparisonOf, filled}
+use Rattle.scheme.specs.Scheme.{_⊕_, Node, nodeOf, Values, valueNamed, comparisonOf, filled}
 use Rattle.tables.specs.Table.{equation}
 use Rattle.scheme.specs.Emit.{numbersOf}
-use Rattle.nodes.specs.Numbers.{asRow, lookedUp}
 use Rattle.emitter.specs.declared.Record.{Record}
 
 -- Operands that wait on the stack: at most one for each record, and room for one more.
@@ -53,6 +52,13 @@ recordOf k a b c = record { kind = k; a = a; b = b; c = c }
 abbrev pub recordAt : List ℕ → ℕ → Record
 recordAt l i = recordOf (getD l i 0) (getD l (i + 1) 0) (getD l (i + 2) 0) (getD l (i + 3) 0)
 
+-- The record at i, and the whole rule's past the last.
+abbrev pub whole : Record
+whole = recordOf arena.WHOLE 0 0 0
+
+abbrev pub recordFrom : List ℕ → ℕ → Record
+recordFrom l i = cond (leb (i + 4) (length l)) (recordAt l i) whole
+
 -- The scheme's values for a record; places has the flow of each signal.
 unfoldable pub valuesAt : List ℕ → ℕ → ℕ → List ℕ → Record → Values
 valuesAt places o n st r =
@@ -68,18 +74,11 @@ valuesAt places o n st r =
       c = r .c;
     }
 
--- Five rows of the node of the kind k, as the code looks them up: the node's own come first.
-unfoldable pub rowOf : List ℕ → ℕ → ℕ → Equation
-rowOf vs k i = lookedUp vs (asRow (rowAt (nodeOf k .rows) i))
-
-abbrev pub fiveRows : List ℕ → ℕ → List Equation
-fiveRows vs k = rowOf vs k 0 ∷ rowOf vs k 1 ∷ rowOf vs k 2 ∷ rowOf vs k 3 ∷ rowOf vs k 4 ∷ []
-
 -- What a node leaves, with its values.
 unfoldable pub applied : Node → Values → State → State
 applied d v s =
-    state (withEquations (s .table) (s .next) (filled v (d .rows))) (s .next ⊕ length (d .rows)) (valueOf v (d .idle))
-    (valueOf v (d .result) ∷ drop (d .takes) (s .stack))
+    state (withEquations (s .table) (s .next) (filled v (d .rows))) (s .next ⊕ length (d .rows)) (valueNamed v (d .idle))
+    (valueNamed v (d .result) ∷ drop (d .takes) (s .stack))
 
 unfoldable pub step : List ℕ → Record → State → State
 step places r s = applied (nodeOf (r .kind)) (valuesAt places (s .next) (s .idle) (s .stack) r) s
@@ -102,7 +101,7 @@ stacked l (suc h) = getD l h 0 ∷ stacked l h
 -- The records of an arena and then the whole rule's node, where the table's header ends at o. The start flow is
 -- equation 0, its negation 1.
 abbrev pub ran : List ℕ → List ℕ → List ℕ → ℕ → State
-ran l places t o = step places (recordOf arena.WHOLE 0 0 0) (run places l (state t o 1 []))
+ran l places t o = step places whole (run places l (state t o 1 []))
 
 -- ---- the named signals
 
@@ -127,8 +126,8 @@ abbrev pub headerOf : List ℕ → List ℕ → ℕ → Header
 headerOf t l o = record { table = t; places = l; next = o }
 
 -- Signal j: a marked one gets its equation, and in any case its mark gives way to its place.
-unfoldable pub settled : ℕ → Header → Header
-settled j h =
+unfoldable pub withSignal : ℕ → Header → Header
+withSignal j h =
     headerOf (cond (nonzero (getD (h .places) j 0)) (withEquations (h .table) (h .next) (equation SIGNAL j 0 0 ∷ []))
     (h .table))
     (set (h .places) j (h .next)) (cond (nonzero (getD (h .places) j 0)) (suc (h .next)) (h .next))
@@ -136,7 +135,7 @@ settled j h =
 -- The m signals from j on.
 unfoldable pub settle : ℕ → ℕ → Header → Header
 settle zero j h = h
-settle (suc m) j h = settle m (suc j) (settled j h)
+settle (suc m) j h = settle m (suc j) (withSignal j h)
 
 -- The start flow, its negation, and the signals.
 abbrev pub headed : List ℕ → List ℕ → Header

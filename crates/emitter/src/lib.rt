@@ -2,18 +2,19 @@
 // first, as a stack machine. A record's kind picks a node of the observer scheme (crate scheme), and the node's rows
 // go to the table. The pass as a definition is in specs/Machine.antt; that it gives the observer's equations is what
 // `emit_observer` promises.
+use nodes::Node;
 use nodes::Row;
 ghost use mathlib.Core.Path.{_≡_};
-ghost use mathlib.Core.List.{[], _∷_};
+ghost use mathlib.Core.List.{[], _∷_, map};
 ghost use Prim.Native.Nat.{_≤_, _<_, _+_, _-_};
 ghost use lib.ListN.{getD, set, length, take};
 ghost use Rattle.limits.specs.Limits.{arenaLimit, equationLimit, signalCount};
 ghost use Rattle.tables.specs.Table.{equation};
-ghost use Rattle.scheme.specs.Scheme.{nodeCount};
-ghost use Rattle.nodes.specs.Numbers.{valueList, lookedUp};
-ghost use Rattle.emitter.specs.Machine.{withEquations, fiveRows, before, recordAt, valuesAt, stacked, marked};
+ghost use Rattle.scheme.specs.Scheme.{nodeOf};
+ghost use Rattle.nodes.specs.Numbers.{valueList, asNode, Known, Sized, lookedUp};
+ghost use Rattle.emitter.specs.Machine.{withEquations, before, recordAt, recordFrom, valuesAt, stacked, marked};
 ghost use Rattle.emitter.specs.Machine.{marks, headerOf};
-ghost use Rattle.emitter.specs.Machine.{settled};
+ghost use Rattle.emitter.specs.Machine.{withSignal};
 ghost use Rattle.emitter.specs.Contract.{Emitted, Room, Pushed, AddedBy, Entered, Ran, Headed};
 
 // How many signals there are.
@@ -65,42 +66,28 @@ fn before(n: u32) -> u32
 
 // A row with its names looked up among the values, put at place o.
 fn put_row(t: &mut [u32], o: u32, vs: &[u32; VALUES], r: Row)
+    requires { ⌜ Known r ⌝ }
     ensures { λ _. ⌜ now (t .exit) ≡ withEquations (now (t .entry)) o (lookedUp (now (vs .entry)) r ∷ []) ⌝ }
 {
-    let comparison = lists::number_at(vs, nodes::NAMES);
-    let kind = nodes::kind_by(comparison, r.0);
-    let a = lists::number_at(vs, r.1 as usize);
-    let b = lists::number_at(vs, r.2 as usize);
-    let c = lists::number_at(vs, r.3 as usize);
+    let kind = nodes::kind_by(vs[nodes::NAMES], r.0);
+    let a = vs[r.1 as usize];
+    let b = vs[r.2 as usize];
+    let c = vs[r.3 as usize];
     put(t, o, kind, a, b, c);
 }
 
-// The first `count` rows of the node of the kind k, put from place o on. Without a loop, so that a caller's constants
-// decide all tests.
-fn fill(t: &mut [u32], o: u32, vs: &[u32; VALUES], k: u32, count: u32)
-    requires { ⌜ o ≤ equationLimit ⌝ }
-    ensures { λ _. ⌜ now (t .exit) ≡ withEquations (now (t .entry)) o (take count (fiveRows (now (vs .entry)) k)) ⌝ }
+// The node's rows, put from place o on.
+fn fill(t: &mut [u32], o: u32, vs: &[u32; VALUES], d: Node)
+    requires { ⌜ (o ≤ equationLimit) × Sized d ⌝ }
+    ensures { λ _. ⌜ now (t .exit)
+        ≡ withEquations (now (t .entry)) o (take (d .count) (map (lookedUp (now (vs .entry))) (d .rows))) ⌝ }
 {
-    if count == 0 {
-        return;
+    let rows = d.rows;
+    let mut j = 0;
+    while j < d.count {
+        put_row(t, o + j, vs, rows[j as usize]);
+        j += 1;
     }
-    put_row(t, o, vs, nodes::row_at(k, 0));
-    if count == 1 {
-        return;
-    }
-    put_row(t, o + 1, vs, nodes::row_at(k, 1));
-    if count == 2 {
-        return;
-    }
-    put_row(t, o + 2, vs, nodes::row_at(k, 2));
-    if count == 3 {
-        return;
-    }
-    put_row(t, o + 3, vs, nodes::row_at(k, 3));
-    if count == 4 {
-        return;
-    }
-    put_row(t, o + 4, vs, nodes::row_at(k, 4));
 }
 
 // ---- the stack of operands: the first `height` numbers of an array
@@ -193,60 +180,64 @@ fn values_at(stack: &[u32], places: &[u32], m: Place, x: Record) -> [u32; VALUES
     ]
 }
 
-// The node of the kind k: its rows go to the table, its operands come off the stack, its result goes on, and its start
-// is the one from here on.
-fn add_node(table: &mut [u32], stack: &mut [u32], m: Place, vs: &[u32; VALUES], k: u32) -> Place
-    requires { ⌜ Room m (now stack) × (k ≤ nodeCount) ⌝ }
-    ensures { λ r. ⌜ AddedBy k (now (vs .entry)) (now (table .entry)) (now (stack .entry)) m (now (table .exit))
+// A node: its rows go to the table, its operands come off the stack, its result goes on, and its start is the one from
+// here on.
+fn add_node(table: &mut [u32], stack: &mut [u32], m: Place, vs: &[u32; VALUES], d: Node) -> Place
+    requires { ⌜ Room m (now stack) × Sized d ⌝ }
+    ensures { λ r. ⌜ AddedBy d (now (vs .entry)) (now (table .entry)) (now (stack .entry)) m (now (table .exit))
         (now (stack .exit)) r ⌝ }
 {
-    let d = nodes::node_at(k);
-    fill(table, m.next, vs, k, d.0);
-    let out = lists::number_at(vs, d.2 as usize);
-    let idle = lists::number_at(vs, d.3 as usize);
-    let height = push(stack, m.height, d.1, out);
+    fill(table, m.next, vs, d);
+    let out = vs[d.result as usize];
+    let idle = vs[d.idle as usize];
+    let height = push(stack, m.height, d.takes, out);
     Place {
-        next: m.next + d.0,
+        next: m.next + d.count,
         idle,
         height,
     }
 }
 
-// One record: its kind picks its node. In each arm the kind is a constant, so that the node's rows are found when this
-// is compiled.
-fn enter(table: &mut [u32], stack: &mut [u32], places: &[u32], m: Place, x: Record) -> Place
-    requires { ⌜ Room m (now stack) ⌝ }
+// One record, with the node of its kind.
+fn enter(
+    table: &mut [u32],
+    stack: &mut [u32],
+    places: &[u32],
+    m: Place,
+    x: Record,
+    d: Node,
+) -> Place
+    requires { ⌜ Room m (now stack) × (d ≡ asNode (nodeOf (x .kind))) ⌝ }
     ensures { λ r. ⌜ Entered (now (places .entry)) x (now (table .entry)) (now (stack .entry)) m
         (now (table .exit)) (now (stack .exit)) r ⌝ }
 {
     let vs = values_at(stack, places, m, x);
-    let k = x.kind;
-    match k {
-        formulas::CONSTANT => add_node(table, stack, m, &vs, formulas::CONSTANT),
-        formulas::SIGNAL => add_node(table, stack, m, &vs, formulas::SIGNAL),
-        formulas::NOT => add_node(table, stack, m, &vs, formulas::NOT),
-        formulas::AND => add_node(table, stack, m, &vs, formulas::AND),
-        formulas::OR => add_node(table, stack, m, &vs, formulas::OR),
-        formulas::BEGIN => add_node(table, stack, m, &vs, formulas::BEGIN),
-        formulas::END => add_node(table, stack, m, &vs, formulas::END),
-        formulas::POINT => add_node(table, stack, m, &vs, formulas::POINT),
-        formulas::HELD => add_node(table, stack, m, &vs, formulas::HELD),
-        formulas::KEPT => add_node(table, stack, m, &vs, formulas::KEPT),
-        formulas::LEN => add_node(table, stack, m, &vs, formulas::LEN),
-        formulas::SUM => add_node(table, stack, m, &vs, formulas::SUM),
-        formulas::AGE => add_node(table, stack, m, &vs, formulas::AGE),
-        formulas::LEAD_END => add_node(table, stack, m, &vs, formulas::LEAD_END),
-        formulas::THEN => add_node(table, stack, m, &vs, formulas::THEN),
-        formulas::WHOLE => add_node(table, stack, m, &vs, formulas::WHOLE),
-        _ => add_node(table, stack, m, &vs, nodes::NONE),
+    add_node(table, stack, m, &vs, d)
+}
+
+// The record at i, and the whole rule's past the last.
+fn record_from(arena: &[u32], i: usize) -> Record
+    requires { ⌜ i ≤ arenaLimit ⌝ }
+    ensures { λ r. ⌜ r ≡ recordFrom (now (arena .entry)) i ⌝ }
+{
+    if i + 4 <= arena.len() {
+        return record_at(arena, i);
+    }
+    Record {
+        kind: formulas::WHOLE,
+        a: 0,
+        b: 0,
+        c: 0,
     }
 }
 
-// All records one after the other, and then the whole rule's node: how many equations there are.
+// All records one after the other, and then the whole rule's: how many equations there are. `enter` has this one
+// caller, so that it is inlined here.
 fn enter_all(arena: &[u32], places: &[u32], table: &mut [u32], next: u32) -> u32
     requires { ⌜ (length (now arena) ≤ arenaLimit) × (next ≤ 2 + signalCount) ⌝ }
     ensures { λ r. ⌜ Ran (now (arena .entry)) (now (places .entry)) (now (table .entry)) next (now (table .exit)) r ⌝ }
 {
+    let nodes = nodes::all_nodes();
     let mut stack = [0u32; STACK];
     let mut m = Place {
         next,
@@ -254,19 +245,15 @@ fn enter_all(arena: &[u32], places: &[u32], table: &mut [u32], next: u32) -> u32
         height: 0,
     };
     let mut i = 0;
-    while i + 4 <= arena.len() {
-        let x = record_at(arena, i);
-        m = enter(table, &mut stack, places, m, x);
+    loop {
+        let x = record_from(arena, i);
+        let d = nodes[nodes::place_of(x.kind)];
+        m = enter(table, &mut stack, places, m, x, d);
+        if arena.len() < i + 4 {
+            return m.next;
+        }
         i += 4;
     }
-    let whole = Record {
-        kind: formulas::WHOLE,
-        a: 0,
-        b: 0,
-        c: 0,
-    };
-    m = enter(table, &mut stack, places, m, whole);
-    m.next
 }
 
 // ---- the named signals
@@ -295,7 +282,7 @@ fn mark_all(arena: &[u32], named: &mut [u32])
 fn settle(table: &mut [u32], named: &mut [u32], j: usize, next: u32) -> u32
     requires { ⌜ (j < signalCount) × (next ≤ equationLimit) ⌝ }
     ensures { λ r. ⌜ headerOf (now (table .exit)) (now (named .exit)) r
-        ≡ settled j (headerOf (now (table .entry)) (now (named .entry)) next) ⌝ }
+        ≡ withSignal j (headerOf (now (table .entry)) (now (named .entry)) next) ⌝ }
 {
     let flag = lists::number_at(named, j);
     store(named, j, next);

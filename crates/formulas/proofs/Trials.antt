@@ -10,7 +10,7 @@ use Rattle.formulas.specs.Tree.{nodes}
 use Rattle.formulas.specs.Raw.{raw}
 use Rattle.formulas.specs.Trials.{Trial, trials, meant}
 
-pub trials-counted : map (λ (r : Trial). nodes (raw (r .formula))) trials ≡ map (λ (r : Trial). r .nodeCount) trials
+pub trials-counted : map (λ (r : Trial). nodes (raw (r .formula))) trials ≡ map (λ (r : Trial). r .nodes) trials
 trials-counted = refl
 
 pub trials-meant : map meant trials ≡ map (λ (r : Trial). r .verdicts) trials

@@ -21,12 +21,12 @@ use Rattle.formulas.specs.Meaning.{verdict}
 pub record Trial : Type 0 where
   pub text : String
   pub formula : Formula
-  pub nodeCount : ℕ
+  pub nodes : ℕ
   pub starts : List ℕ
   pub verdicts : List ℕ
 
 abbrev pub trial : String → Formula → ℕ → List ℕ → List ℕ → Trial
-trial t f n ss vs = record { text = t; formula = f; nodeCount = n; starts = ss; verdicts = vs }
+trial t f n ss vs = record { text = t; formula = f; nodes = n; starts = ss; verdicts = vs }
 
 -- Five numbers, one for each tick.
 abbrev pub five : ℕ → ℕ → ℕ → ℕ → ℕ → List ℕ

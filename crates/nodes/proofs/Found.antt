@@ -1,49 +1,97 @@
 -- The tables of numbers are the nodes, and a row that is looked up is the scheme's equation. Assumes nothing.
 use mathlib.Core.Bool.{Bool, true, false, not, cond, false≢true}
-use mathlib.Core.Path.{_≡_, refl, sym, ap, ap₂, _∙_}
-use Prim.Native.Nat.{ℕ, suc, _≤_, _<_}
+use mathlib.Core.List.{List, [], _∷_, _++_, map}
+use mathlib.Core.Path.{_≡_, refl, sym, ap, _∙_}
+use Prim.Native.Nat.{ℕ, zero, suc, _≤_, _<_, min}
 use native.Mathlib.Omega.{arith}
+use native.Mathlib.Decide.{decLt}
 use lib.Dec.{eqb}
 use lib.ListN.{length, getD, List·getD-eq-default}
 use Rattle.tables.specs.Kind.{COMPARE-LITERAL}
 use Rattle.tables.specs.Table.{all}
 use Rattle.tables.proofs.Tests.{all-at}
 use Rattle.scheme.specs.Scheme.{widest, Name, RowKind, Row as SchemeRow, Node as SchemeNode, noRow, rowAt, nodeList}
-use Rattle.scheme.specs.Scheme.{noNode}
-use Rattle.scheme.specs.Scheme.{nodeCount, nodeOf, Values, valueOf, kindFor, resolved}
+use Rattle.scheme.specs.Scheme.{noNode, nodeCount, nodeOf, Values, valueNamed, kindFor, resolved}
 use Rattle.scheme.specs.Scheme.Name.{Nought, Idle, Start, Last, Previous, Signal, A, C}
 use Rattle.scheme.specs.Scheme.Name.{First, Second, Third, Fourth, Fifth}
 use Rattle.scheme.specs.Scheme.RowKind.{Plain, Comparison}
-use Rattle.nodes.specs.Numbers.{numberOf, nameCount, valueList, kindNumber, kindBy, asRow, asNode, lookedUp}
+use Rattle.scheme.proofs.ByKind.{rows-few}
+use Rattle.nodes.specs.Numbers.{numberOf, nameCount, valueList, kindNumber, kindBy, asRow, fiveOf, asNode}
+use Rattle.nodes.specs.Numbers.{nodeTable, Known, Sized, lookedUp}
+use Rattle.nodes.specs.declared.Node.{Node}
 
--- ---- the tables, by their arms
-
-pub node-known : {k j : ℕ} → k ≡ j → asNode (nodeOf j) ≡ asNode (nodeOf k)
-node-known e = ap (λ (x : ℕ). asNode (nodeOf x)) (sym e)
+-- ---- the table
 
 -- Past the last kind.
 none : (k : ℕ) → nodeCount ≤ k → nodeOf k ≡ noNode
 unfolding nodeOf
 none k h = List·getD-eq-default nodeList noNode h
 
-pub node-beyond : {k : ℕ} → nodeCount ≤ k → asNode noNode ≡ asNode (nodeOf k)
-node-beyond h = ap asNode (sym (none _ h))
+as-at : (l : List SchemeNode) (k : ℕ) (x : Node) → k < length l → getD (map asNode l) k x ≡ asNode (getD l k noNode)
+as-at [] k x h = absurd (omega arith)
+as-at (d ∷ l) zero x h = refl
+as-at (d ∷ l) (suc k) x h = as-at l k x (omega arith)
 
--- Row i of the kind j, past its rows, and past the last kind.
-pub row-known : {k j i n : ℕ} → k ≡ j → i ≡ n → asRow (rowAt (nodeOf j .rows) n) ≡ asRow (rowAt (nodeOf k .rows) i)
-row-known e f = ap₂ (λ (x y : ℕ). asRow (rowAt (nodeOf x .rows) y)) (sym e) (sym f)
+with-none : (l : List SchemeNode) (k : ℕ) → getD (l ++ (noNode ∷ [])) k noNode ≡ getD l k noNode
+with-none [] zero = refl
+with-none [] (suc k) = refl
+with-none (d ∷ l) zero = refl
+with-none (d ∷ l) (suc k) = with-none l k
 
-pub row-past : {k j i : ℕ} → k ≡ j → length (nodeOf j .rows) ≤ i → asRow noRow ≡ asRow (rowAt (nodeOf k .rows) i)
-row-past {k} {j} {i} e h =
-    ap asRow (sym (List·getD-eq-default (nodeOf j .rows) noRow h))
-    ∙ ap (λ (x : ℕ). asRow (rowAt (nodeOf x .rows) i)) (sym e)
+-- The node of the kind k stands at its place.
+pub node-found : (t : List Node) (k i : ℕ) (x : Node) → t ≡ nodeTable → i ≡ min k nodeCount
+    → getD t i x ≡ asNode (nodeOf k)
+unfolding nodeTable nodeOf
+node-found t k i x e-t e-i = elim (decLt k nodeCount) [
+  | yes low ↦
+      let here : i ≡ k = omega arith in
+      rw (e-t, here) (as-at (nodeList ++ (noNode ∷ [])) k x (omega arith) ∙ ap asNode (with-none nodeList k))
+  | no high ↦
+      let here : i ≡ nodeCount = omega arith in
+      rw (e-t, here) (ap asNode (sym (none k (omega arith))))
+]
 
-pub row-beyond : {k : ℕ} (i : ℕ) → nodeCount ≤ k → asRow noRow ≡ asRow (rowAt (nodeOf k .rows) i)
-row-beyond i h = ap (λ (d : SchemeNode). asRow (rowAt (d .rows) i)) (sym (none _ h))
+-- ---- names and rows
+
+named-low : (x : Name) → numberOf x < nameCount
+named-low Nought = omega arith
+named-low Idle = omega arith
+named-low Start = omega arith
+named-low Last = omega arith
+named-low Previous = omega arith
+named-low Signal = omega arith
+named-low A = omega arith
+named-low C = omega arith
+named-low First = omega arith
+named-low Second = omega arith
+named-low Third = omega arith
+named-low Fourth = omega arith
+named-low Fifth = omega arith
+
+row-known : (r : SchemeRow) → Known (asRow r)
+row-known r = record { a = named-low (r .a); b = named-low (r .b); c = named-low (r .c) }
+
+five-known : (rs : List SchemeRow) (i : ℕ) → Known (getD (fiveOf rs) i (asRow noRow))
+five-known rs zero = row-known (rowAt rs 0)
+five-known rs (suc zero) = row-known (rowAt rs 1)
+five-known rs (suc (suc zero)) = row-known (rowAt rs 2)
+five-known rs (suc (suc (suc zero))) = row-known (rowAt rs 3)
+five-known rs (suc (suc (suc (suc zero)))) = row-known (rowAt rs 4)
+five-known rs (suc (suc (suc (suc (suc i))))) = row-known noRow
+
+pub node-sized : (k : ℕ) → Sized (asNode (nodeOf k))
+node-sized k =
+    record {
+      few = rows-few k;
+      room = refl;
+      known = five-known (nodeOf k .rows);
+      result = named-low (nodeOf k .result);
+      idle = named-low (nodeOf k .idle);
+    }
 
 -- ---- looking up
 
-pub named : (v : Values) (x : Name) → getD (valueList v) (numberOf x) 0 ≡ valueOf v x
+pub named : (v : Values) (x : Name) → getD (valueList v) (numberOf x) 0 ≡ valueNamed v x
 named v Nought = refl
 named v Idle = refl
 named v Start = refl
@@ -71,16 +119,20 @@ kind-found v (Plain k) h = go (eqb k COMPARE-LITERAL) h
     go false h = refl
 kind-found v Comparison h = refl
 
-proper-rows : all (λ k. all (λ i. proper (rowAt (nodeOf k .rows) i .kind)) widest) (suc nodeCount) ≡ true
+proper-rows : all (λ k. all (λ i. proper (rowAt (nodeOf k .rows) i .kind)) widest) nodeCount ≡ true
 unfolding all nodeOf
 proper-rows = refl
 
-pub row-looked-up : (v : Values) (k i : ℕ) → k ≤ nodeCount → i < widest
+proper-row : (k i : ℕ) → i < widest → proper (rowAt (nodeOf k .rows) i .kind) ≡ true
+proper-row k i h = elim (decLt k nodeCount) [
+  | yes low ↦
+      let of-kind = all-at (λ k. all (λ i. proper (rowAt (nodeOf k .rows) i .kind)) widest) nodeCount proper-rows k low in
+      all-at (λ i. proper (rowAt (nodeOf k .rows) i .kind)) widest of-kind i h
+  | no high ↦ rw (none k (omega arith))
+]
+
+pub row-looked-up : (v : Values) (k i : ℕ) → i < widest
     → lookedUp (valueList v) (asRow (rowAt (nodeOf k .rows) i)) ≡ resolved v (rowAt (nodeOf k .rows) i)
-row-looked-up v k i h l =
+row-looked-up v k i h =
     let r : SchemeRow = rowAt (nodeOf k .rows) i in
-    let row-tests = all-at (λ k. all (λ i. proper (rowAt (nodeOf k .rows) i .kind)) widest) (suc nodeCount)
-    proper-rows k
-    (omega arith) in
-    let is-proper = all-at (λ i. proper (rowAt (nodeOf k .rows) i .kind)) widest row-tests i l in
-    rw (kind-found v (r .kind) is-proper, named v (r .a), named v (r .b), named v (r .c))
+    rw (kind-found v (r .kind) (proper-row k i h), named v (r .a), named v (r .b), named v (r .c))

@@ -1,13 +1,15 @@
 -- The nodes of the observer scheme (scheme, specs/Scheme.antt) as numbers: a name is its place in a list of values.
 -- Definitions only.
 use mathlib.Core.Bool.{cond}
-use mathlib.Core.List.{List, [], _∷_}
-use Prim.Native.Nat.{ℕ}
+use mathlib.Core.List.{List, [], _∷_, _++_, map}
+use mathlib.Core.Path.{_≡_}
+use Prim.Native.Nat.{ℕ, _≤_, _<_}
 use lib.Dec.{eqb}
 use lib.ListN.{length, getD}
 use Rattle.tables.specs.Kind.{COMPARE-LITERAL}
 use Rattle.tables.specs.Table.{Equation}
-use Rattle.scheme.specs.Scheme.{_⊕_, Name, RowKind, Row as SchemeRow, Node as SchemeNode, Values}
+use Rattle.scheme.specs.Scheme.{_⊕_, Name, RowKind, Row as SchemeRow, Node as SchemeNode, noRow, rowAt, Values}
+use Rattle.scheme.specs.Scheme.{widest, nodeList, noNode}
 use Rattle.tables.specs.Table.{equation}
 use Rattle.scheme.specs.Scheme.Name.{Nought, Idle, Start, Last, Previous, Signal, A, C}
 use Rattle.scheme.specs.Scheme.Name.{First, Second, Third, Fourth, Fifth}
@@ -50,8 +52,37 @@ kindBy comparison k = cond (eqb k COMPARE-LITERAL) comparison k
 abbrev pub asRow : SchemeRow → Row
 asRow r = record { 0 = kindNumber (r .kind); 1 = numberOf (r .a); 2 = numberOf (r .b); 3 = numberOf (r .c) }
 
+-- Five rows, a node's own first.
+abbrev pub fiveOf : List SchemeRow → List Row
+fiveOf rs =
+    asRow (rowAt rs 0) ∷ asRow (rowAt rs 1) ∷ asRow (rowAt rs 2) ∷ asRow (rowAt rs 3) ∷ asRow (rowAt rs 4) ∷ []
+
 abbrev pub asNode : SchemeNode → Node
-asNode d = record { 0 = length (d .rows); 1 = d .takes; 2 = numberOf (d .result); 3 = numberOf (d .idle) }
+asNode d =
+    record {
+      count = length (d .rows);
+      rows = fiveOf (d .rows);
+      takes = d .takes;
+      result = numberOf (d .result);
+      idle = numberOf (d .idle);
+    }
+
+-- Every node, and none past the last kind.
+unfoldable pub nodeTable : List Node
+nodeTable = map asNode (nodeList ++ (noNode ∷ []))
+
+-- What every node has: no more rows than there is room for, and names that stand in a list of values.
+pub record Known (r : Row) : Type 0 where
+  pub a : r .1 < nameCount
+  pub b : r .2 < nameCount
+  pub c : r .3 < nameCount
+
+pub record Sized (d : Node) : Type 0 where
+  pub few : d .count ≤ widest
+  pub room : length (d .rows) ≡ widest
+  pub known : (i : ℕ) → Known (getD (d .rows) i (asRow noRow))
+  pub result : d .result < nameCount
+  pub idle : d .idle < nameCount
 
 -- A row of numbers with its names looked up in a list of values.
 abbrev pub lookedUp : List ℕ → Row → Equation

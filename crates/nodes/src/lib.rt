@@ -1,8 +1,9 @@
 // The nodes of the observer scheme as code (crate scheme, specs/Scheme.antt has them as definitions). A name of a
 // value is a number here, its place in an array of values.
 ghost use mathlib.Core.Path.{_≡_};
-ghost use Rattle.scheme.specs.Scheme.{nodeOf, rowAt, comparisonOf};
-ghost use Rattle.nodes.specs.Numbers.{asRow, asNode, kindBy};
+ghost use Prim.Native.Nat.{min};
+ghost use Rattle.scheme.specs.Scheme.{nodeCount, comparisonOf};
+ghost use Rattle.nodes.specs.Numbers.{nodeTable, kindBy};
 
 // ---- the names
 
@@ -44,14 +45,25 @@ pub const NAMES: usize = 13;
 // The kind of a row that compares as the record asks: no row always compares with a literal.
 const COMPARISON: u32 = tables::COMPARE_LITERAL;
 
-// Past the last kind of record: its node adds nothing.
-pub const NONE: u32 = formulas::WHOLE + 1;
-
 // ---- the tables
+
+// The most rows that a node has.
+const WIDEST: usize = 5;
 
 // A row: the kind of an equation, and the names of its three numbers.
 pub struct Row(pub u32, pub u32, pub u32, pub u32);
 
+// A node: how many rows it has, and these first among five; how many operands it takes off the stack, which value it puts
+// there, and which value is the negated start flow from here on.
+pub struct Node {
+    pub count: u32,
+    pub rows: [Row; WIDEST],
+    pub takes: u32,
+    pub result: u32,
+    pub idle: u32,
+}
+
+// Past a node's last row.
 const NO_ROW: Row = Row(0, NOUGHT, NOUGHT, NOUGHT);
 
 // The rows that `kept` and `held` share.
@@ -61,146 +73,278 @@ const KEPT_2: Row = Row(tables::OR, START, FIRST, NOUGHT);
 
 const KEPT_3: Row = Row(tables::AND, SECOND, LAST, NOUGHT);
 
-// Row i of the node of the kind k, by the kinds of records (formulas); past its last row, and past the last kind, no
-// row. s and n are the start flow and its negation, P the last operand, m a memory. A match, so that no copy of a
-// table is made.
-pub fn row_at(k: u32, i: u32) -> Row
-    ensures { λ r. ⌜ r ≡ asRow (rowAt (nodeOf k .rows) i) ⌝ }
+// The nodes. s and n are the start flow and its negation, P the last operand, m a memory.
+
+// A constant.
+const CONSTANT_NODE: Node = Node {
+    count: 1,
+    rows: [
+        Row(tables::CONSTANT, A, NOUGHT, NOUGHT),
+        NO_ROW,
+        NO_ROW,
+        NO_ROW,
+        NO_ROW,
+    ],
+    takes: 0,
+    result: FIRST,
+    idle: IDLE,
+};
+
+// A signal.
+const SIGNAL_NODE: Node = Node {
+    count: 0,
+    rows: [NO_ROW, NO_ROW, NO_ROW, NO_ROW, NO_ROW],
+    takes: 0,
+    result: SIGNAL,
+    idle: IDLE,
+};
+
+// `!`.
+const NOT_NODE: Node = Node {
+    count: 1,
+    rows: [
+        Row(tables::NOT, LAST, NOUGHT, NOUGHT),
+        NO_ROW,
+        NO_ROW,
+        NO_ROW,
+        NO_ROW,
+    ],
+    takes: 1,
+    result: FIRST,
+    idle: IDLE,
+};
+
+// `&`.
+const AND_NODE: Node = Node {
+    count: 1,
+    rows: [
+        Row(tables::AND, PREVIOUS, LAST, NOUGHT),
+        NO_ROW,
+        NO_ROW,
+        NO_ROW,
+        NO_ROW,
+    ],
+    takes: 2,
+    result: FIRST,
+    idle: IDLE,
+};
+
+// `|`.
+const OR_NODE: Node = Node {
+    count: 1,
+    rows: [
+        Row(tables::OR, PREVIOUS, LAST, NOUGHT),
+        NO_ROW,
+        NO_ROW,
+        NO_ROW,
+        NO_ROW,
+    ],
+    takes: 2,
+    result: FIRST,
+    idle: IDLE,
+};
+
+// `begin`: v = (s and P) or (n and m), m = false -> pre v.
+const BEGIN_NODE: Node = Node {
+    count: 4,
+    rows: [
+        Row(tables::BOOLEAN_PRE, FOURTH, NOUGHT, NOUGHT),
+        Row(tables::AND, START, LAST, NOUGHT),
+        Row(tables::AND, IDLE, FIRST, NOUGHT),
+        Row(tables::OR, SECOND, THIRD, NOUGHT),
+        NO_ROW,
+    ],
+    takes: 1,
+    result: FOURTH,
+    idle: IDLE,
+};
+
+// `end`.
+const END_NODE: Node = Node {
+    count: 0,
+    rows: [NO_ROW, NO_ROW, NO_ROW, NO_ROW, NO_ROW],
+    takes: 1,
+    result: LAST,
+    idle: IDLE,
+};
+
+// `point`: s and P.
+const POINT_NODE: Node = Node {
+    count: 1,
+    rows: [
+        Row(tables::AND, START, LAST, NOUGHT),
+        NO_ROW,
+        NO_ROW,
+        NO_ROW,
+        NO_ROW,
+    ],
+    takes: 1,
+    result: FIRST,
+    idle: IDLE,
+};
+
+// `held`: the rows of `kept`, and n and m.
+const HELD_NODE: Node = Node {
+    count: 4,
+    rows: [
+        KEPT_1,
+        KEPT_2,
+        KEPT_3,
+        Row(tables::AND, IDLE, FIRST, NOUGHT),
+        NO_ROW,
+    ],
+    takes: 1,
+    result: FOURTH,
+    idle: IDLE,
+};
+
+// `kept`: k = s or m, m = false -> pre (k and P).
+const KEPT_NODE: Node = Node {
+    count: 3,
+    rows: [KEPT_1, KEPT_2, KEPT_3, NO_ROW, NO_ROW],
+    takes: 1,
+    result: SECOND,
+    idle: IDLE,
+};
+
+// `len`: c = if n then cap(m, n) else 0, m = 0 -> pre c.
+const LEN_NODE: Node = Node {
+    count: 4,
+    rows: [
+        Row(tables::COUNT_PRE, THIRD, NOUGHT, NOUGHT),
+        Row(tables::CAPPED, FIRST, IDLE, NOUGHT),
+        Row(tables::IF, IDLE, SECOND, NOUGHT),
+        Row(COMPARISON, THIRD, A, C),
+        NO_ROW,
+    ],
+    takes: 0,
+    result: FOURTH,
+    idle: IDLE,
+};
+
+// `sum`: c = if n then m else 0, m = 0 -> pre cap(c, P).
+const SUM_NODE: Node = Node {
+    count: 4,
+    rows: [
+        Row(tables::COUNT_PRE, THIRD, NOUGHT, NOUGHT),
+        Row(tables::IF, IDLE, FIRST, NOUGHT),
+        Row(tables::CAPPED, SECOND, LAST, NOUGHT),
+        Row(COMPARISON, SECOND, A, C),
+        NO_ROW,
+    ],
+    takes: 1,
+    result: FOURTH,
+    idle: IDLE,
+};
+
+// `age`: c = if P then cap(if n then m else 0, P) else 0, m = 0 -> pre c.
+const AGE_NODE: Node = Node {
+    count: 5,
+    rows: [
+        Row(tables::COUNT_PRE, FOURTH, NOUGHT, NOUGHT),
+        Row(tables::IF, IDLE, FIRST, NOUGHT),
+        Row(tables::CAPPED, SECOND, LAST, NOUGHT),
+        Row(tables::IF, LAST, THIRD, NOUGHT),
+        Row(COMPARISON, FOURTH, A, C),
+    ],
+    takes: 1,
+    result: FIFTH,
+    idle: IDLE,
+};
+
+// The end of a lead P: n and pre(P) and not P, and its negation. The present start waits on the stack.
+const LEAD_END_NODE: Node = Node {
+    count: 5,
+    rows: [
+        Row(tables::BOOLEAN_PRE, LAST, NOUGHT, NOUGHT),
+        Row(tables::NOT, LAST, NOUGHT, NOUGHT),
+        Row(tables::AND, IDLE, FIRST, NOUGHT),
+        Row(tables::AND, THIRD, SECOND, NOUGHT),
+        Row(tables::NOT, FOURTH, NOUGHT, NOUGHT),
+    ],
+    takes: 1,
+    result: IDLE,
+    idle: FIFTH,
+};
+
+// `then`: running r = n and (s' or pre r); r and P. The start that waited is back.
+const THEN_NODE: Node = Node {
+    count: 4,
+    rows: [
+        Row(tables::BOOLEAN_PRE, THIRD, NOUGHT, NOUGHT),
+        Row(tables::OR, START, FIRST, NOUGHT),
+        Row(tables::AND, PREVIOUS, SECOND, NOUGHT),
+        Row(tables::AND, THIRD, LAST, NOUGHT),
+        NO_ROW,
+    ],
+    takes: 2,
+    result: FOURTH,
+    idle: PREVIOUS,
+};
+
+// The whole rule: started = s or pre started; verdict = (not started) or P.
+const WHOLE_NODE: Node = Node {
+    count: 4,
+    rows: [
+        Row(tables::BOOLEAN_PRE, SECOND, NOUGHT, NOUGHT),
+        Row(tables::OR, START, FIRST, NOUGHT),
+        Row(tables::NOT, SECOND, NOUGHT, NOUGHT),
+        Row(tables::OR, THIRD, LAST, NOUGHT),
+        NO_ROW,
+    ],
+    takes: 1,
+    result: FOURTH,
+    idle: IDLE,
+};
+
+// Past the last kind.
+const NO_NODE: Node = Node {
+    count: 0,
+    rows: [NO_ROW, NO_ROW, NO_ROW, NO_ROW, NO_ROW],
+    takes: 0,
+    result: NOUGHT,
+    idle: NOUGHT,
+};
+
+// The place past the last kind's, and how many places there are.
+const NONE: usize = formulas::WHOLE as usize + 1;
+
+pub const PLACES: usize = NONE + 1;
+
+// Every node, in the order of the kinds of records (formulas), and none past the last.
+const NODES: [Node; PLACES] = [
+    CONSTANT_NODE,
+    SIGNAL_NODE,
+    NOT_NODE,
+    AND_NODE,
+    OR_NODE,
+    BEGIN_NODE,
+    END_NODE,
+    POINT_NODE,
+    HELD_NODE,
+    KEPT_NODE,
+    LEN_NODE,
+    SUM_NODE,
+    AGE_NODE,
+    LEAD_END_NODE,
+    THEN_NODE,
+    WHOLE_NODE,
+    NO_NODE,
+];
+
+// All of them: a copy, of which a pass takes one.
+pub fn all_nodes() -> [Node; PLACES]
+    ensures { λ r. ⌜ r ≡ nodeTable ⌝ }
 {
-    match k {
-        // A constant.
-        formulas::CONSTANT => match i {
-            0 => Row(tables::CONSTANT, A, NOUGHT, NOUGHT),
-            _ => NO_ROW,
-        },
-        // A signal.
-        formulas::SIGNAL => NO_ROW,
-        // `!`.
-        formulas::NOT => match i {
-            0 => Row(tables::NOT, LAST, NOUGHT, NOUGHT),
-            _ => NO_ROW,
-        },
-        // `&`.
-        formulas::AND => match i {
-            0 => Row(tables::AND, PREVIOUS, LAST, NOUGHT),
-            _ => NO_ROW,
-        },
-        // `|`.
-        formulas::OR => match i {
-            0 => Row(tables::OR, PREVIOUS, LAST, NOUGHT),
-            _ => NO_ROW,
-        },
-        // `begin`: v = (s and P) or (n and m), m = false -> pre v.
-        formulas::BEGIN => match i {
-            0 => Row(tables::BOOLEAN_PRE, FOURTH, NOUGHT, NOUGHT),
-            1 => Row(tables::AND, START, LAST, NOUGHT),
-            2 => Row(tables::AND, IDLE, FIRST, NOUGHT),
-            3 => Row(tables::OR, SECOND, THIRD, NOUGHT),
-            _ => NO_ROW,
-        },
-        // `end`.
-        formulas::END => NO_ROW,
-        // `point`: s and P.
-        formulas::POINT => match i {
-            0 => Row(tables::AND, START, LAST, NOUGHT),
-            _ => NO_ROW,
-        },
-        // `held`: the rows of `kept`, and n and m.
-        formulas::HELD => match i {
-            0 => KEPT_1,
-            1 => KEPT_2,
-            2 => KEPT_3,
-            3 => Row(tables::AND, IDLE, FIRST, NOUGHT),
-            _ => NO_ROW,
-        },
-        // `kept`: k = s or m, m = false -> pre (k and P).
-        formulas::KEPT => match i {
-            0 => KEPT_1,
-            1 => KEPT_2,
-            2 => KEPT_3,
-            _ => NO_ROW,
-        },
-        // `len`: c = if n then cap(m, n) else 0, m = 0 -> pre c.
-        formulas::LEN => match i {
-            0 => Row(tables::COUNT_PRE, THIRD, NOUGHT, NOUGHT),
-            1 => Row(tables::CAPPED, FIRST, IDLE, NOUGHT),
-            2 => Row(tables::IF, IDLE, SECOND, NOUGHT),
-            3 => Row(COMPARISON, THIRD, A, C),
-            _ => NO_ROW,
-        },
-        // `sum`: c = if n then m else 0, m = 0 -> pre cap(c, P).
-        formulas::SUM => match i {
-            0 => Row(tables::COUNT_PRE, THIRD, NOUGHT, NOUGHT),
-            1 => Row(tables::IF, IDLE, FIRST, NOUGHT),
-            2 => Row(tables::CAPPED, SECOND, LAST, NOUGHT),
-            3 => Row(COMPARISON, SECOND, A, C),
-            _ => NO_ROW,
-        },
-        // `age`: c = if P then cap(if n then m else 0, P) else 0, m = 0 -> pre c.
-        formulas::AGE => match i {
-            0 => Row(tables::COUNT_PRE, FOURTH, NOUGHT, NOUGHT),
-            1 => Row(tables::IF, IDLE, FIRST, NOUGHT),
-            2 => Row(tables::CAPPED, SECOND, LAST, NOUGHT),
-            3 => Row(tables::IF, LAST, THIRD, NOUGHT),
-            4 => Row(COMPARISON, FOURTH, A, C),
-            _ => NO_ROW,
-        },
-        // The end of a lead P: n and pre(P) and not P, and its negation.
-        formulas::LEAD_END => match i {
-            0 => Row(tables::BOOLEAN_PRE, LAST, NOUGHT, NOUGHT),
-            1 => Row(tables::NOT, LAST, NOUGHT, NOUGHT),
-            2 => Row(tables::AND, IDLE, FIRST, NOUGHT),
-            3 => Row(tables::AND, THIRD, SECOND, NOUGHT),
-            4 => Row(tables::NOT, FOURTH, NOUGHT, NOUGHT),
-            _ => NO_ROW,
-        },
-        // `then`: running r = n and (s' or pre r); r and P.
-        formulas::THEN => match i {
-            0 => Row(tables::BOOLEAN_PRE, THIRD, NOUGHT, NOUGHT),
-            1 => Row(tables::OR, START, FIRST, NOUGHT),
-            2 => Row(tables::AND, PREVIOUS, SECOND, NOUGHT),
-            3 => Row(tables::AND, THIRD, LAST, NOUGHT),
-            _ => NO_ROW,
-        },
-        // The whole rule: started = s or pre started; verdict = (not started) or P.
-        formulas::WHOLE => match i {
-            0 => Row(tables::BOOLEAN_PRE, SECOND, NOUGHT, NOUGHT),
-            1 => Row(tables::OR, START, FIRST, NOUGHT),
-            2 => Row(tables::NOT, SECOND, NOUGHT, NOUGHT),
-            3 => Row(tables::OR, THIRD, LAST, NOUGHT),
-            _ => NO_ROW,
-        },
-        _ => NO_ROW,
-    }
+    NODES
 }
 
-// What a node does beside its rows: how many they are, how many operands it takes off the stack, which value it puts
-// there, and which value is the negated start flow from here on.
-pub struct Node(pub u32, pub u32, pub u32, pub u32);
-
-// The node of the kind k. The end of a lead leaves the present start on the stack, and `then` takes it back.
-pub fn node_at(k: u32) -> Node
-    ensures { λ r. ⌜ r ≡ asNode (nodeOf k) ⌝ }
+// The place of the node of the kind k.
+pub fn place_of(k: u32) -> usize
+    ensures { λ r. ⌜ r ≡ min k nodeCount ⌝ }
 {
-    match k {
-        formulas::CONSTANT => Node(1, 0, FIRST, IDLE),
-        formulas::SIGNAL => Node(0, 0, SIGNAL, IDLE),
-        formulas::NOT => Node(1, 1, FIRST, IDLE),
-        formulas::AND => Node(1, 2, FIRST, IDLE),
-        formulas::OR => Node(1, 2, FIRST, IDLE),
-        formulas::BEGIN => Node(4, 1, FOURTH, IDLE),
-        formulas::END => Node(0, 1, LAST, IDLE),
-        formulas::POINT => Node(1, 1, FIRST, IDLE),
-        formulas::HELD => Node(4, 1, FOURTH, IDLE),
-        formulas::KEPT => Node(3, 1, SECOND, IDLE),
-        formulas::LEN => Node(4, 0, FOURTH, IDLE),
-        formulas::SUM => Node(4, 1, FOURTH, IDLE),
-        formulas::AGE => Node(5, 1, FIFTH, IDLE),
-        formulas::LEAD_END => Node(5, 1, IDLE, FIFTH),
-        formulas::THEN => Node(4, 2, FOURTH, PREVIOUS),
-        formulas::WHOLE => Node(4, 1, FOURTH, IDLE),
-        _ => Node(0, 0, NOUGHT, NOUGHT),
-    }
+    let i = k as usize;
+    if i < NONE { i } else { NONE }
 }
 
 // ---- kinds

@@ -32,7 +32,7 @@ runs i l =
     record {
       tree = raw (r .formula);
       is-read = row (λ x. ruleOf (bytes (x .text))) (λ x. rule (raw (x .formula))) trials blank trials-read i l;
-      counts = row (λ x. nodes (raw (x .formula))) (λ x. x .nodeCount) trials blank trials-counted i l;
+      counts = row (λ x. nodes (raw (x .formula))) (λ x. x .nodes) trials blank trials-counted i l;
       is-formula = raw-formula (r .formula);
       gives = row meant (λ x. x .verdicts) trials blank trials-meant i l;
     }

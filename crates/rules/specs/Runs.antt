@@ -12,6 +12,6 @@ use Rattle.rules.specs.Reading.Outcome.{rule}
 pub record RowHolds (r : Trial) : Type 0 where
   pub tree : Tree
   pub is-read : ruleOf (bytes (r .text)) ≡ rule tree
-  pub counts : nodes tree ≡ r .nodeCount
+  pub counts : nodes tree ≡ r .nodes
   pub is-formula : formulaOf tree ≡ some (r .formula)
   pub gives : meant r ≡ r .verdicts

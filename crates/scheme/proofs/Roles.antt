@@ -16,7 +16,7 @@ use Rattle.tables.specs.declared.Operand.{Operand}
 use Rattle.tables.specs.declared.Operand.the-variants.{Unused, Earlier, Anywhere, Below}
 use Rattle.tables.specs.declared.Shape.{Shape}
 use Rattle.tables.proofs.Tests.{all-at}
-use Rattle.scheme.specs.Scheme.{_⊕_, rowAt, valueOf, kindFor, resolved, filled}
+use Rattle.scheme.specs.Scheme.{_⊕_, rowAt, valueNamed, kindFor, resolved, filled}
 use Rattle.scheme.specs.Scheme.{Name}
 use Rattle.scheme.specs.Scheme.Name.{Nought, Idle, Start, Last, Previous, Signal, A, C}
 use Rattle.scheme.specs.Scheme.Name.{First, Second, Third, Fourth, Fifth}
@@ -157,7 +157,7 @@ module _ (t : List ℕ) (N o : ℕ) where
   given-fits Boolean i v h l e = later h l
   given-fits Count i v h l e = absurd (false≢true e)
 
-  module _ (v : Values) (roles : Name → Role) (rows : List Row) (play : (x : Name) → Plays (roles x) (valueOf v x))
+  module _ (v : Values) (roles : Name → Role) (rows : List Row) (play : (x : Name) → Plays (roles x) (valueNamed v x))
       (room : o ⊕ length rows ≤ N) (kinds : Each (KindAt t) o (filled v rows)) where
     -- The table has the rows' own kinds.
     own-kind : (j : ℕ) → j < length rows → kindAt t (o ⊕ j) ≡ kindIn v (rowAt rows j)
@@ -182,14 +182,14 @@ module _ (t : List ℕ) (N o : ℕ) where
         rw h (is-flow flow)
 
     operand-fits : (i : ℕ) → i < length rows → (a : Operand) (x : Name) → operandOk v roles rows i a x ≡ true
-        → operandFits t N (o ⊕ i) a (valueOf v x) ≡ true
+        → operandFits t N (o ⊕ i) a (valueNamed v x) ≡ true
     unfolding operandFits
-    operand-fits i h Unused x e = eq-eqb (valueOf v x) 0 (nought-fits (roles x) (valueOf v x) (play x) e)
+    operand-fits i h Unused x e = eq-eqb (valueNamed v x) 0 (nought-fits (roles x) (valueNamed v x) (play x) e)
     operand-fits i h (Earlier s) x e =
-        flow-fits i (o ⊕ i) (omega arith) (omega arith) s (roles x) (valueOf v x) (play x) e
+        flow-fits i (o ⊕ i) (omega arith) (omega arith) s (roles x) (valueNamed v x) (play x) e
     operand-fits i h (Anywhere s) x e =
-        flow-fits (length rows) N (omega arith) room s (roles x) (valueOf v x) (play x) e
-    operand-fits i h (Below k) x e = lt-ltb (valueOf v x) k (below-fits k (roles x) (valueOf v x) (play x) e)
+        flow-fits (length rows) N (omega arith) room s (roles x) (valueNamed v x) (play x) e
+    operand-fits i h (Below k) x e = lt-ltb (valueNamed v x) k (below-fits k (roles x) (valueNamed v x) (play x) e)
 
     row-fits : (i : ℕ) → i < length rows → rowOk v roles rows i ≡ true
         → Fits t N (o ⊕ i) (resolved v (rowAt rows i))

@@ -20,7 +20,7 @@ use Rattle.tables.specs.declared.Sort.the-variants.{Boolean}
 use Rattle.tables.specs.Kind.{CONSTANT, NOT, AND, OR}
 use Rattle.scheme.specs.Scheme.{_⊕_, constantRows, notRows, andRows, orRows, beginRows, pointRows, keptRows}
 use Rattle.scheme.specs.Scheme.{heldRows, lenRows, sumRows, ageRows, leadEndRows, thenRows, wholeRows}
-use Rattle.scheme.specs.Scheme.{valueOf, comparisonOf, filled}
+use Rattle.scheme.specs.Scheme.{valueNamed, comparisonOf, filled}
 use Rattle.scheme.specs.Scheme.{Name}
 use Rattle.scheme.specs.Scheme.Name.{Nought, Idle, Start, Last, Previous, Signal, A, C}
 use Rattle.scheme.specs.Scheme.Name.{First, Second, Third, Fourth, Fifth}
@@ -77,7 +77,7 @@ module _ (t : List ℕ) (N o : ℕ) where
         → Kinded (filled v rows) → rowsOk v (rolesOf rn rs rp rq ba bc) rows ≡ true → Each (Fits t N) o (filled v rows)
     numbers-fit ba bc rows la lc room kinds ok = rows-fit t N o v (rolesOf rn rs rp rq ba bc) rows play room kinds ok
       where
-        play : (x : Name) → Plays t N o (rolesOf rn rs rp rq ba bc x) (valueOf v x)
+        play : (x : Name) → Plays t N o (rolesOf rn rs rp rq ba bc x) (valueNamed v x)
         play Nought = refl
         play Idle = plays gn
         play Start = plays gs

@@ -21,7 +21,7 @@ use Rattle.scheme.specs.Scheme.{_⊕_, constantRows, notRows, andRows, o
 use Rattle.tables.specs.Table.{equation}
 use Rattle.scheme.specs.Scheme.{keptRows, heldRows, lenRows, sumRows, ageRows, leadEndRows, thenRows, wholeRows}
 use Rattle.scheme.specs.Scheme.{Node, constantNode, notNode, andNode, beginNode, pointNode, heldNode}
-use Rattle.scheme.specs.Scheme.{keptNode, lenNode, sumNode, ageNode, leadEndNode, thenNode, valueOf}
+use Rattle.scheme.specs.Scheme.{keptNode, lenNode, sumNode, ageNode, leadEndNode, thenNode, valueNamed}
 use Rattle.scheme.specs.Scheme.{comparisonOf}
 use Rattle.scheme.specs.Scheme.{filled}
 use Rattle.scheme.specs.Scheme.{Name}
@@ -116,7 +116,7 @@ whole-es s o v = filled (flowsAt o 0 s v 0) wholeRows
 
 -- One of a node's own flows, the node's first equation at place o.
 abbrev pub ownFlow : ℕ → Name → ℕ
-ownFlow o x = valueOf (flowsAt o 0 0 0 0) x
+ownFlow o x = valueNamed (flowsAt o 0 0 0 0) x
 
 abbrev pub not-block : ℕ → Block → Block
 not-block o x =

@@ -203,20 +203,20 @@ pub record Values : Type 0 where
   pub comparison : ℕ
   pub c : ℕ
 
-abbrev pub valueOf : Values → Name → ℕ
-valueOf v Nought = 0
-valueOf v Idle = v .idle
-valueOf v Start = v .start
-valueOf v Last = v .last
-valueOf v Previous = v .previous
-valueOf v Signal = v .signal
-valueOf v A = v .a
-valueOf v C = v .c
-valueOf v First = v .place
-valueOf v Second = v .place ⊕ 1
-valueOf v Third = v .place ⊕ 2
-valueOf v Fourth = v .place ⊕ 3
-valueOf v Fifth = v .place ⊕ 4
+abbrev pub valueNamed : Values → Name → ℕ
+valueNamed v Nought = 0
+valueNamed v Idle = v .idle
+valueNamed v Start = v .start
+valueNamed v Last = v .last
+valueNamed v Previous = v .previous
+valueNamed v Signal = v .signal
+valueNamed v A = v .a
+valueNamed v C = v .c
+valueNamed v First = v .place
+valueNamed v Second = v .place ⊕ 1
+valueNamed v Third = v .place ⊕ 2
+valueNamed v Fourth = v .place ⊕ 3
+valueNamed v Fifth = v .place ⊕ 4
 
 abbrev pub kindFor : Values → RowKind → ℕ
 kindFor v (Plain k) = k
@@ -228,7 +228,7 @@ comparisonOf b = cond (eqb b LITERAL) COMPARE-LITERAL COMPARE-PARAMETER
 
 -- A row's equation, and those of rows.
 abbrev pub resolved : Values → Row → Equation
-resolved v r = equation (kindFor v (r .kind)) (valueOf v (r .a)) (valueOf v (r .b)) (valueOf v (r .c))
+resolved v r = equation (kindFor v (r .kind)) (valueNamed v (r .a)) (valueNamed v (r .b)) (valueNamed v (r .c))
 
 abbrev pub filled : Values → List Row → List Equation
 filled v [] = []

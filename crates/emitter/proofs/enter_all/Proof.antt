@@ -1,74 +1,65 @@
--- `emitter::enter_all` meets its contract: `Entering` is its loop's invariant, what is left of the arena its
--- measure.
+-- `emitter::enter_all` meets its contract: `Entering` is its loop's invariant, what is left of the arena its measure.
 use Prim.Native.Nat.{_-_}
 use native.Mathlib.Omega.{arith}
 use mathlib.Core.Path.{refl, sym, _∙_}
+use borrow.Author.Needs.{needs}
 use lib.ListN.{length}
+use Rattle.nodes.proofs.Found.{node-found}
 use Rattle.emitter.proofs.Records.{Entering, entering-none, entering-one, entering-all}
 use Rattle.emitter.proofs.enter_all.Statement.{statement}
 use Rattle.emitter.proofs.enter_all.Tie as tie
 
 abbrev Inv-loop : tie.InvT-loop
-Inv-loop arena places table₀ next stack₀ m₀ i₀ table stack m i = Entering arena places table₀ next table stack m i
+Inv-loop arena places table₀ next nodes stack₀ m₀ i₀ table stack m i =
+    Entering arena places table₀ next table stack m i
 
 abbrev μ-loop : tie.MeasureT-loop
-μ-loop arena places table₀ next stack₀ m₀ i₀ table stack m i = length arena - i
+μ-loop arena places table₀ next nodes stack₀ m₀ i₀ table stack m i = length arena - i
+
+-- The places: a record is entered; its place is known; it is read; the turn begins.
+abbrev entered : tie.After-stack2 Inv-loop μ-loop → tie.After-enter Inv-loop μ-loop
+entered c = c .before .before .before
+
+abbrev placed : tie.After-stack Inv-loop μ-loop → tie.After-place-of Inv-loop μ-loop
+placed c = c .before .before .before
+
+abbrev read : tie.After-place-of Inv-loop μ-loop → tie.After-record-from Inv-loop μ-loop
+read c = c .before
 
 loop-holds : tie.Need-loop-holds Inv-loop μ-loop
 loop-holds c = entering-none refl
 
-add-loop : tie.Need-add-loop Inv-loop μ-loop
-add-loop c = omega arith
-
-record-at-requires : tie.Need-record-at-requires Inv-loop μ-loop
-record-at-requires c κs = omega arith
-
 slice-aggregate-enter : tie.Need-slice-aggregate-enter Inv-loop μ-loop
-slice-aggregate-enter c =
-    let the-loop = c .before .before .before .before .loop in
-    sym (the-loop .inv .room)
+slice-aggregate-enter c = sym (read (placed c) .before .loop .inv .room)
 
+-- There is room for one more node, and the node is the record's.
 enter-requires : tie.Need-enter-requires Inv-loop μ-loop
-enter-requires c κs = record { near = omega arith; low = omega arith }
-
-add-i : tie.Need-add-i Inv-loop μ-loop
-add-i c = omega arith
-
-loop-less : tie.Need-loop-less Inv-loop μ-loop
-loop-less c = omega arith
-
-loop-again : tie.Need-loop-again Inv-loop μ-loop
-loop-again c =
-    let earlier = c .before .before .before .before in
-    let the-loop = earlier .before .before .before .before .loop in
-    let the-loop-test = earlier .before .before .before .loop-test in
-    let the-record-at = earlier .before .before .record-at in
-    let the-enter = c .before .before .before .enter in
-    entering-one (the-loop .inv) (the-loop-test .taken) (the-record-at .ensures) (the-enter .ensures)
-    (the-enter .kept .0) (the-enter .kept .1 .0)
-
-slice-aggregate-enter-2 : tie.Need-slice-aggregate-enter-2 Inv-loop μ-loop
-slice-aggregate-enter-2 c =
-    let the-loop = c .before .before .before .loop in
-    sym (the-loop .inv .room)
-
-enter-requires-2 : tie.Need-enter-requires-2 Inv-loop μ-loop
-enter-requires-2 c κs = record { near = omega arith; low = omega arith }
+enter-requires c κs =
+    let place = placed c in
+    let nodes = read place .before .before .all-nodes in (
+      record { near = omega arith; low = omega arith },
+      node-found _ (read place .record-from .result .kind) (place .place-of .result) _ (nodes .ensures)
+          (place .place-of .ensures),
+    )
 
 same-length : tie.Need-same-length Inv-loop μ-loop
 same-length c =
-    let the-enter2 = c .before .before .before .enter2 in
-    let earlier = c .before .before .before .before in
-    let the-loop = earlier .before .before .before .loop in
-    the-enter2 .kept .0 ∙ the-loop .inv .same
+    let call = entered (c .before) in
+    call .enter .kept .0 ∙ read (placed (call .before)) .before .loop .inv .same
 
 returns : tie.Need-returns Inv-loop μ-loop
 returns c =
-    let earlier = c .before .before .before .before in
-    let the-loop = earlier .before .before .before .loop in
-    let the-loop-test = earlier .before .before .loop-test in
-    let the-enter2 = c .before .before .before .enter2 in
-    entering-all (the-loop .inv) (the-loop-test .left) (the-enter2 .ensures)
+    let call = entered (c .before) in
+    let record-read = read (placed (call .before)) in
+    entering-all (record-read .before .loop .inv) (c .if1 .taken) (record-read .record-from .ensures)
+    (call .enter .ensures)
+
+loop-again : tie.Need-loop-again Inv-loop μ-loop
+loop-again c =
+    let call = entered (c .before) in
+    let record-read = read (placed (call .before)) in
+    entering-one (record-read .before .loop .inv) (c .if1 .left) (record-read .record-from .ensures)
+    (call .enter .ensures) (call .enter .kept .0) (call .enter .kept .1 .0)
 
 pub enter-all-spec : {M : Type 1} → statement M
 enter-all-spec =
@@ -76,15 +67,17 @@ enter-all-spec =
     (tie.spec
     Inv-loop
     μ-loop
+    (λ c κs. search needs)
     loop-holds
-    add-loop
-    record-at-requires
+    (λ c κs. omega arith)
+    (λ c κs. search needs)
+    (λ c. omega (arith, c .place-of .ensures))
+    (λ c. omega (arith, c .place-of .ensures))
     slice-aggregate-enter
     enter-requires
-    add-i
-    loop-less
-    loop-again
-    slice-aggregate-enter-2
-    enter-requires-2
+    (λ c. omega arith)
     same-length
-    returns)
+    returns
+    (λ c. omega arith)
+    (λ c. omega arith)
+    loop-again)

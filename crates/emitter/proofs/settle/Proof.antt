@@ -1,6 +1,6 @@
 -- `emitter::settle` meets its contract.
 use borrow.Author.Needs.{needs}
-use Rattle.emitter.proofs.Header.{settled-named, settled-other}
+use Rattle.emitter.proofs.Header.{signal-named, signal-other}
 use Rattle.emitter.proofs.settle.Statement.{statement}
 use Rattle.emitter.proofs.settle.Tie as tie
 
@@ -12,7 +12,7 @@ returns c =
     let the-at = c .before .before .before .before .before .number-at in
     let the-if1 = c .if1 in
     let the-store = c .before .before .before .store in
-    settled-other (the-args .table .now) (the-args .named .now) (the-args .j) (the-args .next)
+    signal-other (the-args .table .now) (the-args .named .now) (the-args .j) (the-args .next)
     (the-at .ensures) (the-if1 .taken) (the-store .ensures)
 
 returns-2 : tie.Need-returns-2
@@ -24,7 +24,7 @@ returns-2 c =
     let the-if1 = c .before .before .before .before .if1 in
     let the-store = earlier .before .before .before .store in
     let the-put = c .before .before .put in
-    settled-named (the-args .table .now) (the-args .named .now) (the-args .j) (the-args .next) (the-at .result)
+    signal-named (the-args .table .now) (the-args .named .now) (the-args .j) (the-args .next) (the-at .result)
     (the-at .ensures) (the-if1 .left) (the-store .ensures) (the-put .ensures)
 
 number-at-requires : tie.Need-number-at-requires
