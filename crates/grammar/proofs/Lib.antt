@@ -1,12 +1,9 @@
--- The grammar's theorems (Theorems is what people read first), and what the proofs of several functions use.
+-- The grammar's theorems (Theorems is what people read first), and what other crates use of their proofs.
 pub mod Theorems
 pub mod Position
 pub mod Sound
 pub mod Complete
-pub mod Lists
-pub mod Fragment
-pub mod Numbers
-pub mod Stored
-mod Words
-mod Chains
-mod Steps
+pub mod Words
+mod Lists
+mod Fragment
+mod Numbers

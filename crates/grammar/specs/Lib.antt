@@ -1,7 +1,5 @@
--- The grammar of rule texts. `Grammar` is document 01's; `Parse` and `Contract` say what the parse functions compute,
--- and proofs/ shows that it is the grammar.
+-- The grammar of rule texts. `Grammar` is document 01's; `Parse` is its reading as a computation, and proofs/ shows that
+-- the two are the same. `Fragment` says which words have a meaning.
 pub mod Grammar
 pub mod Fragment
-pub mod Facts
 pub mod Parse
-pub mod Contract

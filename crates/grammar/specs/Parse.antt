@@ -1,5 +1,6 @@
--- Reading words as a computation: recursive descent from a position. It is what the parse functions do; that it is
--- document 01's grammar (specs/Grammar.antt) is shown in proofs/. Past the end the word is 0. Definitions only.
+-- Reading words as a computation: recursive descent from a position. It is what the parse functions of crate
+-- parser do; that it is document 01's grammar (specs/Grammar.antt) is shown in proofs/. Past the end the word is 0.
+-- Definitions only.
 use mathlib.Core.Bool.{Bool, true, false, _&&_, cond}
 use mathlib.Core.List.{List}
 use mathlib.Core.Option.{Option, none, some}

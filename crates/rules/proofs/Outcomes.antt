@@ -21,9 +21,9 @@ use Rattle.grammar.specs.Fragment.{beyond}
 use Rattle.grammar.specs.Parse.{Result, read, treeOf, ended}
 use Rattle.grammar.specs.Parse.Result.{no-rule, ok}
 use Rattle.grammar.specs.Parse.Goal.{goF}
-use Rattle.grammar.specs.declared.Facts.{Facts}
 use Rattle.grammar.proofs.Theorems.{tree-rule, rule-size}
-use Rattle.grammar.proofs.Stored.{Took}
+use Rattle.facts.specs.declared.Facts.{Facts}
+use Rattle.parser.proofs.Stored.{Took}
 use Rattle.rules.specs.Limits.{over}
 use Rattle.rules.specs.Reading.{ruleOf, ofWords}
 use Rattle.rules.specs.Reading.Outcome.{refused, rule}

@@ -36,7 +36,7 @@ pub data HasOutcome (text : List ℕ) : Outcome → Type 0 where
   is-rule : {ws : List ℕ} {t : Tree} → splitOf text ≡ made ws
       → over ws ≡ false → Rule ws t → beyond ws ≡ false → leads t ≡ true → HasOutcome text (rule t)
 
--- The same as a computation, by the parser of `grammar`. That the two agree is shown in proofs/Theorems.antt.
+-- The same as a computation, by the parser that `grammar` defines. That the two agree is shown in proofs/Theorems.antt.
 abbrev pub ofTree : List ℕ → Option Tree → Outcome
 ofTree ws none = refused 6
 ofTree ws (some t) = cond (beyond ws) (refused 7) (cond (leads t) (rule t) (refused 8))

@@ -1,5 +1,5 @@
 // Reading a rule (document 01, "Read a rule"): its words, limits, grammar and fragment.
-use grammar::Parsed;
+use parser::Parsed;
 use words::Split;
 ghost use mathlib.Core.Bool.{Bool, not, _&&_, _||_};
 ghost use mathlib.Core.Path.{_≡_};
@@ -141,7 +141,7 @@ fn read_words(ws: &[u32], arena: &mut [u32]) -> Records
     if over {
         return Records::Refused(5);
     }
-    let Parsed::At(next, top, facts) = grammar::parse_f(ws, false, 0, arena, 0) else {
+    let Parsed::At(next, top, facts) = parser::parse_f(ws, false, 0, arena, 0) else {
         return Records::Refused(6);
     };
     if next != ws.len() {

@@ -10,7 +10,7 @@ use borrow.Author.Tests.{not-true, not-false}
 use Rattle.grammar.specs.Fragment.{beyond}
 use Rattle.grammar.specs.Parse.Goal.{goF}
 use Rattle.grammar.proofs.Position.{span}
-use Rattle.grammar.proofs.Stored.{Gave, took, lost}
+use Rattle.parser.proofs.Stored.{Gave, took, lost}
 use Rattle.rules.specs.Limits.{over}
 use Rattle.rules.proofs.Decided.{over-words, tree-words}
 use Rattle.rules.proofs.Laid.{laid-refused}

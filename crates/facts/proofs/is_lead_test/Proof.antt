@@ -1,0 +1,22 @@
+-- `facts::is_lead_test` meets its contract: of the tests it is the first and the last. Assumes nothing.
+use mathlib.Core.Bool.{Bool, _||_}
+use mathlib.Core.Path.{sym, ap, _∙_}
+use borrow.Author.Tests.{eq-eqb, ne-eqb}
+use lib.Dec.{eqb}
+use Rattle.words.specs.Word.{BEGIN, KEPT}
+use Rattle.grammar.proofs.Words.{test-lead}
+use Rattle.facts.proofs.is_lead_test.Statement.{statement}
+use Rattle.facts.proofs.is_lead_test.Tie as tie
+
+returns : tie.Need-returns
+returns c =
+    let k = c .before .args .k in
+    ap (λ (b : Bool). b || eqb k KEPT) (sym (eq-eqb k BEGIN (c .if1 .taken))) ∙ test-lead k (c .before .pre)
+
+returns-2 : tie.Need-returns-2
+returns-2 c =
+    let k = c .before .args .k in
+    ap (λ (b : Bool). b || eqb k KEPT) (sym (ne-eqb k BEGIN (c .if1 .left))) ∙ test-lead k (c .before .pre)
+
+pub is-lead-test-spec : {M : Type 1} → statement M
+is-lead-test-spec = tie.close (tie.spec returns returns-2)

@@ -1,0 +1,2 @@
+-- What the parser tells of a tree besides its records.
+pub mod Facts

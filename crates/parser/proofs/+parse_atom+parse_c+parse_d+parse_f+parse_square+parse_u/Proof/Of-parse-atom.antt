@@ -1,0 +1,248 @@
+-- The answers of the member `parse_atom`: a test, `len`, or a count. Assumes nothing.
+use mathlib.Core.Bool.{true}
+use mathlib.Core.Path.{_≡_, sym, ap, _∙_}
+use Prim.Native.Nat.{ℕ, _+_, _≤_}
+use borrow.Author.Needs.{needs}
+use borrow.Fn.Kinds.{In, Out}
+use native.Mathlib.Omega.{arith}
+use Rattle.words.specs.Word
+use Rattle.words.specs.Word.{isTest, isCount}
+use Rattle.grammar.specs.Parse.{word}
+use Rattle.grammar.specs.Parse.Goal.{goB}
+use Rattle.grammar.proofs.Position.{span, test-pos, count-pos}
+use Rattle.grammar.proofs.Words.{test-high, count-high}
+use Rattle.facts.specs.Facts.{atomFacts}
+use Rattle.parser.proofs.Steps
+use Rattle.parser.proofs.Stored.{Gave, Space, took, lost, room, past-first, past-tree, fits-push, fits-tree}
+use Rattle.parser.proofs.parse_atom.Kinds.{ps, r}
+use Rattle.parser.proofs.parse_atom.Reads as reads
+use Rattle.parser.proofs.+parse_atom+parse_c+parse_d+parse_f+parse_square+parse_u.Lts-parse_atom as lts
+use Rattle.parser.proofs.+parse_atom+parse_c+parse_d+parse_f+parse_square+parse_u.Proof.Frame.{
+  calls-parse-atom,
+  parse-atom-at,
+}
+
+module _ (t : ℕ) where
+  -- A place or a need of the member, where its measure is t.
+  abbrev Here : (lts.Claims → In 2 ps → Out 2 ps r → Type 0) → Type 0
+  Here place = place (calls-parse-atom t) (parse-atom-at t) reads.Post
+
+  -- The places: the start; the word, where it is a test; the call of `parse_square`, and its tree;
+  abbrev start : Here lts.After-number-at → Here lts.Start
+  start c = c .before .before .before
+
+  abbrev test-looked : Here lts.Then1 → Here lts.After-number-at
+  test-looked c = c .before .before
+
+  abbrev at-test : Here lts.After-parse-square → Here lts.Then1
+  at-test c = c .before .before
+
+  abbrev test-call : Here lts.After-known-told → Here lts.After-parse-square
+  test-call c = c .before .before .before .before .before
+
+  -- the word, where it is `len`;
+  abbrev len-looked : Here lts.Then2 → Here lts.After-number-at
+  len-looked c = c .before .before .before
+
+  -- the word, where it is a count; the call of `parse_square`, and its tree.
+  abbrev count-looked : Here lts.Then3 → Here lts.After-number-at
+  count-looked c = c .before .before .before .before .before
+
+  abbrev at-count : Here lts.After-parse-square2 → Here lts.Then3
+  at-count c = c .before .before
+
+  abbrev count-call : Here lts.After-known-told2 → Here lts.After-parse-square2
+  count-call c = c .before .before .before .before .before
+
+  -- The word that was looked at is the first, and where it is one, it leaves room.
+  looked-space : (c : Here lts.After-number-at) → 1 ≤ c .number-at .result →
+      let args = start c .args in
+      Space 8 (args .ws .now) (args .at + 1) (args .arena .now) (args .top)
+  looked-space c l = past-first (start c .pre .1) (sym (c .number-at .ensures)) l
+
+  -- A test,
+  is-test : (c : Here lts.Then1) → isTest (test-looked c .number-at .result) ≡ true
+  is-test c = sym (c .before .is-test .ensures) ∙ c .if1 .taken
+
+  test-word : (c : Here lts.Then1) →
+      let args = start (test-looked c) .args in
+      isTest (word (args .ws .now) (args .at)) ≡ true
+  test-word c = ap isTest (sym (test-looked c .number-at .ensures)) ∙ is-test c
+
+  test-space : (c : Here lts.Then1) →
+      let args = start (test-looked c) .args in
+      Space 8 (args .ws .now) (args .at + 1) (args .arena .now) (args .top)
+  test-space c =
+      let w = test-pos (test-looked c .number-at .result) (is-test c) in
+      looked-space (test-looked c) (omega arith)
+
+  add-parse-square : Here lts.Need-add-parse-square
+  add-parse-square c = let s = test-space c in omega arith
+
+  parse-square-requires : Here lts.Need-parse-square-requires
+  parse-square-requires c κs =
+      let here = c .before in
+      let s = test-space here in
+      (omega (arith, start (test-looked here) .pre .0), room s)
+
+  same-length : Here lts.Need-same-length
+  same-length c = c .before .before .before .before .parse-square .kept .1 .1 .0
+
+  returns : Here lts.Need-returns
+  returns c =
+      let call = c .before .before .before .before in
+      Steps.test-no (test-word (at-test call)) (lost (call .parse-square .ensures) (c .enum-told .given .1))
+
+  -- and its P in square brackets.
+  test-tree : (c : Here lts.After-known-told) →
+      let args = start (test-looked (at-test (test-call c))) .args in
+      Gave goB (args .ws .now) (args .at + 1) (args .arena .now) (args .top)
+      (c .before .j .given .0) (test-call c .parse-square .last .1 .1 .0)
+  test-tree c = took (test-call c .parse-square .ensures) (λ a m h. span h) (c .before .j .given .1)
+
+  sub-push : Here lts.Need-sub-push
+  sub-push c =
+      let here = at-test (test-call (c .before)) in
+      test-pos (test-looked here .number-at .result) (is-test here)
+
+  add-push : Here lts.Need-add-push
+  add-push c =
+      let here = at-test (test-call (c .before)) in
+      omega (arith, test-high (test-looked here .number-at .result) (is-test here))
+
+  push-requires : Here lts.Need-push-requires
+  push-requires c κs =
+      let tree = c .before in
+      fits-tree 4 (test-space (at-test (test-call tree))) (test-tree tree .part)
+
+  is-lead-test-requires : Here lts.Need-is-lead-test-requires
+  is-lead-test-requires c κs = is-test (at-test (test-call (c .before .before .before .before)))
+
+  same-length-2 : Here lts.Need-same-length-2
+  same-length-2 c =
+      let after-push = c .before .before .before .before in
+      after-push .push .kept .0 ∙ test-call (after-push .before .before) .parse-square .kept .1 .1 .0
+
+  returns-2 : Here lts.Need-returns-2
+  returns-2 c =
+      let after-push = c .before .before .before .before in
+      let tree = after-push .before .before in
+      let here = at-test (test-call tree) in
+      Steps.A-test (test-word here) (test-tree tree) (test-looked here .number-at .ensures) (after-push .push .ensures)
+      (c .atom-facts .ensures ∙ ap atomFacts (c .before .is-lead-test .ensures))
+
+  -- `len`, and op n.
+  len-word : (c : Here lts.Then2) →
+      let args = start (len-looked c) .args in
+      word (args .ws .now) (args .at) ≡ Word.LEN
+  len-word c = sym (len-looked c .number-at .ensures) ∙ c .if2 .taken
+
+  len-space : (c : Here lts.Then2) →
+      let args = start (len-looked c) .args in
+      Space 8 (args .ws .now) (args .at + 1) (args .arena .now) (args .top)
+  len-space c = past-first (start (len-looked c) .pre .1) (len-word c) (omega arith)
+
+  add-comparison : Here lts.Need-add-comparison
+  add-comparison c = let s = len-space c in omega arith
+
+  comparison-requires : Here lts.Need-comparison-requires
+  comparison-requires c κs = let s = len-space (c .before) in (omega arith, fits-push 4 s)
+
+  same-length-3 : Here lts.Need-same-length-3
+  same-length-3 c = c .before .before .comparison .kept .1 .1 .0
+
+  returns-3 : Here lts.Need-returns-3
+  returns-3 c = Steps.A-len (len-word (c .before .before .before .before)) (c .before .before .comparison .ensures)
+
+  -- A count,
+  is-count : (c : Here lts.Then3) → isCount (count-looked c .number-at .result) ≡ true
+  is-count c = sym (c .before .is-count .ensures) ∙ c .if3 .taken
+
+  count-word : (c : Here lts.Then3) →
+      let args = start (count-looked c) .args in
+      isCount (word (args .ws .now) (args .at)) ≡ true
+  count-word c = ap isCount (sym (count-looked c .number-at .ensures)) ∙ is-count c
+
+  count-space : (c : Here lts.Then3) →
+      let args = start (count-looked c) .args in
+      Space 8 (args .ws .now) (args .at + 1) (args .arena .now) (args .top)
+  count-space c =
+      let w = count-pos (count-looked c .number-at .result) (is-count c) in
+      looked-space (count-looked c) (omega arith)
+
+  add-parse-square-2 : Here lts.Need-add-parse-square-2
+  add-parse-square-2 c = let s = count-space c in omega arith
+
+  parse-square-requires-2 : Here lts.Need-parse-square-requires-2
+  parse-square-requires-2 c κs =
+      let here = c .before in
+      let s = count-space here in
+      (omega (arith, start (count-looked here) .pre .0), room s)
+
+  same-length-4 : Here lts.Need-same-length-4
+  same-length-4 c = c .before .before .before .before .parse-square2 .kept .1 .1 .0
+
+  returns-4 : Here lts.Need-returns-4
+  returns-4 c =
+      let call = c .before .before .before .before in
+      Steps.count-no (count-word (at-count call)) (lost (call .parse-square2 .ensures) (c .enum-told2 .given .1))
+
+  -- its P in square brackets, and op n.
+  count-tree : (c : Here lts.After-known-told2) →
+      let args = start (count-looked (at-count (count-call c))) .args in
+      Gave goB (args .ws .now) (args .at + 1) (args .arena .now) (args .top)
+      (c .before .j2 .given .0) (count-call c .parse-square2 .last .1 .1 .0)
+  count-tree c = took (count-call c .parse-square2 .ensures) (λ a m h. span h) (c .before .j2 .given .1)
+
+  sub-comparison : Here lts.Need-sub-comparison
+  sub-comparison c =
+      let here = at-count (count-call (c .before)) in
+      count-pos (count-looked here .number-at .result) (is-count here)
+
+  add-comparison-2 : Here lts.Need-add-comparison-2
+  add-comparison-2 c =
+      let here = at-count (count-call (c .before)) in
+      omega (arith, count-high (count-looked here .number-at .result) (is-count here))
+
+  is-lead-count-requires : Here lts.Need-is-lead-count-requires
+  is-lead-count-requires c κs = is-count (at-count (count-call (c .before)))
+
+  comparison-requires-2 : Here lts.Need-comparison-requires-2
+  comparison-requires-2 c κs =
+      let tree = c .before .before in
+      let s = past-tree (count-space (at-count (count-call tree))) (count-tree tree .part) in
+      (omega arith, fits-push 4 s)
+
+  same-length-5 : Here lts.Need-same-length-5
+  same-length-5 c =
+      let tree = c .before .before .before .before .before in
+      c .before .before .comparison2 .kept .1 .1 .0 ∙ count-call tree .parse-square2 .kept .1 .1 .0
+
+  returns-5 : Here lts.Need-returns-5
+  returns-5 c =
+      let tree = c .before .before .before .before .before in
+      let here = at-count (count-call tree) in
+      Steps.A-count (count-word here) (count-tree tree) (count-looked here .number-at .ensures)
+      (c .before .before .before .is-lead-count .ensures) (c .before .before .comparison2 .ensures)
+
+  -- Any other word.
+  returns-6 : Here lts.Need-returns-6
+  returns-6 c =
+      let no-len = c .before .before in
+      let no-test = no-len .before in
+      let looked = no-test .before .before in
+      let w = sym (looked .number-at .ensures) in
+      Steps.A-none (ap isTest w ∙ sym (no-test .before .is-test .ensures) ∙ no-test .if1 .left)
+      (λ e. no-len .if2 .left (looked .number-at .ensures ∙ e))
+      (ap isCount w ∙ sym (c .before .is-count .ensures) ∙ c .if3 .left)
+
+  -- So the member meets its contract, if the calls with lower measures do.
+  pub met : {M : Type 1} → lts.Closed (calls-parse-atom t) (parse-atom-at t) reads.Post M
+  met =
+      lts.spec (calls-parse-atom t) (parse-atom-at t) reads.Post
+      (λ c κs. search needs) (λ c κs. search needs) add-parse-square parse-square-requires (λ c. search needs)
+      (λ c. search needs) same-length returns sub-push add-push push-requires is-lead-test-requires
+      (λ c κs. search needs) same-length-2 returns-2 add-comparison comparison-requires same-length-3 returns-3
+      (λ c κs. search needs) add-parse-square-2 parse-square-requires-2 (λ c. search needs) (λ c. search needs)
+      same-length-4 returns-4 sub-comparison add-comparison-2 is-lead-count-requires comparison-requires-2
+      same-length-5 returns-5 returns-6

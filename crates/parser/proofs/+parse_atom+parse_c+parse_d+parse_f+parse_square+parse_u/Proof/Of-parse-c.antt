@@ -1,0 +1,171 @@
+-- The answers of the member `parse_c`: U joined by `&`. What they share with `parse_d` is in Chains. Assumes nothing.
+use mathlib.Core.List.{List}
+use mathlib.Core.Path.{_≡_, sym, _∙_}
+use Prim.Native.Nat.{ℕ, _+_, _-_}
+use borrow.Author.Needs.{needs}
+use borrow.Fn.Kinds.{In, Out}
+use native.Mathlib.Omega.{arith}
+use lib.ListN.{length}
+use Rattle.words.specs.Word
+use Rattle.grammar.specs.Parse.{word}
+use Rattle.grammar.specs.Parse.Goal.{goC, goCs, goU}
+use Rattle.grammar.proofs.Position.{span}
+use Rattle.parser.proofs.Stored.{Gave, Turn, Space, took, lost, few-nodes, same-size, room, fits-tree}
+use Rattle.parser.proofs.Chains
+use Rattle.parser.proofs.Chains.{chain-C}
+use Rattle.parser.proofs.parse_c.Kinds.{ps, r}
+use Rattle.parser.proofs.parse_c.Reads as reads
+use Rattle.parser.proofs.+parse_atom+parse_c+parse_d+parse_f+parse_square+parse_u.Lts-parse_c as lts
+use Rattle.parser.proofs.+parse_atom+parse_c+parse_d+parse_f+parse_square+parse_u.Proof.Frame.{
+  calls-parse-c,
+  parse-c-at,
+}
+
+-- Whatever arena it was that the first part went into, the parts so far stand there.
+abbrev Inv-loop : lts.InvT-loop
+Inv-loop ws inside at arena₀ top first low j₀ t₀ facts₀ arena j t facts =
+    (o : List ℕ) → Turn (goC inside) (goCs inside) ws at o top j₀ t₀ facts₀ arena₀ →
+    Turn (goC inside) (goCs inside) ws at o top j t facts arena
+
+-- The words left.
+abbrev μ-loop : lts.MeasureT-loop
+μ-loop ws inside at arena₀ top first low j₀ t₀ facts₀ arena j t facts = length ws - j
+
+module _ (t : ℕ) where
+  -- A place or a need of the member, where its measure is t.
+  abbrev Here : (lts.Claims → In 2 ps → Out 2 ps r → lts.InvT-loop → lts.MeasureT-loop → Type 0) → Type 0
+  Here place = place (calls-parse-c t) (parse-c-at t) reads.Post Inv-loop μ-loop
+
+  -- The places: the start; the first call of `parse_u`; the loop's head; the word that joins; the second call.
+  abbrev start : Here lts.After-parse-u → Here lts.Start
+  start c = c .before .before .before .before
+
+  abbrev call : Here lts.After-known-told → Here lts.After-parse-u
+  call c = c .before .before .before .before .before
+
+  abbrev begun : Here lts.At-loop → Here lts.Start
+  begun c = start (call (c .before))
+
+  abbrev head : Here lts.Then1 → Here lts.At-loop
+  head c = c .before .before
+
+  abbrev joining : Here lts.After-parse-u2 → Here lts.Then1
+  joining c = c .before .before
+
+  abbrev call-2 : Here lts.After-known-told2 → Here lts.After-parse-u2
+  call-2 c = c .before .before .before .before .before
+
+  -- The first part, if there is one,
+  parse-u-requires : Here lts.Need-parse-u-requires
+  parse-u-requires c κs =
+      let pre = c .before .before .before .pre in
+      (omega (arith, pre .0), pre .1)
+
+  same-length : Here lts.Need-same-length
+  same-length c = c .before .before .before .before .parse-u .kept .1 .1 .1 .0
+
+  returns : Here lts.Need-returns
+  returns c =
+      let at-call = c .before .before .before .before in
+      Chains.none (chain-C (start at-call .args .inside)) (lost (at-call .parse-u .ensures) (c .enum-told .given .1))
+
+  first : (c : Here lts.After-known-told) →
+      let args = start (call c) .args in
+      let part = c .before .first .given .0 in
+      Turn (goC (args .inside)) (goCs (args .inside)) (args .ws .now) (args .at) (args .arena .now) (args .top)
+      (part .0) (part .1 .0) (part .1 .1 .0) (call c .parse-u .last .1 .1 .1 .0)
+  first c =
+      Chains.first (chain-C (start (call c) .args .inside))
+      (took (call c .parse-u .ensures) (λ a m h. span h) (c .before .first .given .1))
+
+  loop-holds : Here lts.Need-loop-holds
+  loop-holds c = λ o h. h
+
+  -- the parts so far,
+  parts : (c : Here lts.At-loop) →
+      let args = begun c .args in
+      let loop = c .loop in
+      Turn (goC (args .inside)) (goCs (args .inside)) (args .ws .now) (args .at) (args .arena .now) (args .top)
+      (loop .j) (loop .t) (loop .facts) (loop .arena)
+  parts c = c .loop .inv (begun c .args .arena .now) (first (c .before))
+
+  -- the word that joins them to one more, and the room that it leaves.
+  join-word : (c : Here lts.Then1) →
+      word (begun (head c) .args .ws .now) (head c .loop .j) ≡ Word.AND
+  join-word c = sym (c .before .number-at .ensures) ∙ c .if1 .taken
+
+  join-space : (c : Here lts.Then1) →
+      let loop = head c .loop in
+      Space 8 (begun (head c) .args .ws .now) (loop .j + 1) (loop .arena) (loop .t)
+  join-space c =
+      Chains.joined (chain-C (begun (head c) .args .inside)) (begun (head c) .pre .1) (parts (head c)) (join-word c)
+
+  add-parse-u : Here lts.Need-add-parse-u
+  add-parse-u c = let s = join-space c in omega arith
+
+  parse-u-requires-2 : Here lts.Need-parse-u-requires-2
+  parse-u-requires-2 c κs =
+      let s = join-space (c .before) in
+      let p = parts (head (c .before)) .part .spans in
+      (omega (arith, begun (head (c .before)) .pre .0), room s)
+
+  same-length-2 : Here lts.Need-same-length-2
+  same-length-2 c =
+      let at-call = c .before .before .before .before in
+      at-call .parse-u2 .kept .1 .1 .1 .0 ∙ same-size (parts (head (joining at-call)) .part)
+
+  returns-2 : Here lts.Need-returns-2
+  returns-2 c =
+      let at-call = c .before .before .before .before in
+      let here = joining at-call in
+      Chains.missing (chain-C (begun (head here) .args .inside)) (parts (head here)) (join-word here)
+      (lost (at-call .parse-u2 .ensures) (c .enum-told2 .given .1))
+
+  -- One part more.
+  more : (c : Here lts.After-known-told2) →
+      let here = head (joining (call-2 c)) in
+      let args = begun here .args in
+      Gave (goU (args .inside)) (args .ws .now) (here .loop .j + 1) (here .loop .arena) (here .loop .t)
+      (c .before .m .given .0) (call-2 c .parse-u2 .last .1 .1 .1 .0)
+  more c = took (call-2 c .parse-u2 .ensures) (λ a m h. span h) (c .before .m .given .1)
+
+  push-requires : Here lts.Need-push-requires
+  push-requires c κs =
+      let told = c .before in
+      fits-tree 4 (join-space (joining (call-2 told))) (more told .part)
+
+  join-facts-requires : Here lts.Need-join-facts-requires
+  join-facts-requires c κs =
+      let told = c .before .before .before .before in
+      let here = head (joining (call-2 told)) in
+      let few = begun here .pre .1 .few in
+      (few-nodes few (parts here .part), few-nodes few (more told .part))
+
+  loop-less : Here lts.Need-loop-less
+  loop-less c = let s = more (c .before .before .before .before .before) .part .spans in omega arith
+
+  loop-again : Here lts.Need-loop-again
+  loop-again c =
+      let told = c .before .before .before .before .before in
+      let here = joining (call-2 told) in
+      λ o h.
+      Chains.more (chain-C (begun (head here) .args .inside)) (head here .loop .inv o h) (join-word here) (more told)
+      (c .before .before .before .push .ensures) (c .join-facts .ensures)
+
+  -- No part more.
+  same-length-3 : Here lts.Need-same-length-3
+  same-length-3 c = same-size (parts (c .before .before) .part)
+
+  returns-3 : Here lts.Need-returns-3
+  returns-3 c =
+      let here = c .before .before in
+      Chains.done (chain-C (begun here .args .inside)) (parts here)
+      (λ e. c .if1 .left (c .before .number-at .ensures ∙ e))
+
+  -- So the member meets its contract, if the calls with lower measures do.
+  pub met : {M : Type 1} → lts.Closed (calls-parse-c t) (parse-c-at t) reads.Post M
+  met =
+      lts.spec (calls-parse-c t) (parse-c-at t) reads.Post Inv-loop μ-loop
+      parse-u-requires (λ c. search needs) (λ c. search needs) same-length returns loop-holds
+      (λ c κs. search needs) add-parse-u parse-u-requires-2 (λ c. search needs) (λ c. search needs) same-length-2
+      returns-2 push-requires join-facts-requires loop-less loop-again same-length-3 returns-3

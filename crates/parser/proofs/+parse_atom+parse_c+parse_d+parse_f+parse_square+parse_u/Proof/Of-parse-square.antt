@@ -1,0 +1,109 @@
+-- The answers of the member `parse_square`: a P in square brackets. Assumes nothing.
+use mathlib.Core.Bool.{true}
+use mathlib.Core.Path.{_≡_, sym, _∙_}
+use Prim.Native.Nat.{ℕ, _+_}
+use borrow.Author.Needs.{needs}
+use borrow.Fn.Kinds.{In, Out}
+use native.Mathlib.Omega.{arith}
+use Rattle.words.specs.Word
+use Rattle.grammar.specs.Parse.{word}
+use Rattle.grammar.specs.Parse.Goal.{goF}
+use Rattle.grammar.proofs.Position.{span}
+use Rattle.parser.proofs.Steps
+use Rattle.parser.proofs.Steps.{square}
+use Rattle.parser.proofs.Stored.{Gave, Space, took, lost, past-first, room}
+use Rattle.parser.proofs.parse_square.Kinds.{ps, r}
+use Rattle.parser.proofs.parse_square.Reads as reads
+use Rattle.parser.proofs.+parse_atom+parse_c+parse_d+parse_f+parse_square+parse_u.Lts-parse_square as lts
+use Rattle.parser.proofs.+parse_atom+parse_c+parse_d+parse_f+parse_square+parse_u.Proof.Frame.{
+  calls-parse-square,
+  parse-square-at,
+}
+
+module _ (t : ℕ) where
+  -- A place or a need of the member, where its measure is t.
+  abbrev Here : (lts.Claims → In 2 ps → Out 2 ps r → Type 0) → Type 0
+  Here place = place (calls-parse-square t) (parse-square-at t) reads.Post
+
+  -- The places: the start; the bracket that opens; the call of `parse_f`, and its tree.
+  abbrev start : Here lts.Else1 → Here lts.Start
+  start c = c .before .before .before .before
+
+  abbrev opening : Here lts.After-parse-f → Here lts.Else1
+  opening c = c .before .before
+
+  abbrev call : Here lts.After-known-told → Here lts.After-parse-f
+  call c = c .before .before .before .before .before
+
+  -- The word is a square bracket,
+  open-word : (c : Here lts.Else1) →
+      let args = start c .args in
+      word (args .ws .now) (args .at) ≡ Word.SQUARE
+  open-word c = sym (c .before .number-at .ensures) ∙ c .if1 .left
+
+  -- which leaves room.
+  open-space : (c : Here lts.Else1) →
+      let args = start c .args in
+      Space 8 (args .ws .now) (args .at + 1) (args .arena .now) (args .top)
+  open-space c = past-first (start c .pre .1) (open-word c) (omega arith)
+
+  -- What stands in the brackets.
+  one : (c : Here lts.After-known-told) →
+      let args = start (opening (call c)) .args in
+      Gave (goF true) (args .ws .now) (args .at + 1) (args .arena .now) (args .top)
+      (c .before .j .given .0) (call c .parse-f .last .1 .1 .1 .0)
+  one c = took (call c .parse-f .ensures) (λ a m h. span h) (c .before .j .given .1)
+
+  -- No bracket opens;
+  returns : Here lts.Need-returns
+  returns c = Steps.B-no (λ e. c .if1 .taken (c .before .number-at .ensures ∙ e))
+
+  add-parse-f : Here lts.Need-add-parse-f
+  add-parse-f c = let s = open-space c in omega arith
+
+  parse-f-requires : Here lts.Need-parse-f-requires
+  parse-f-requires c κs =
+      let s = open-space (c .before) in
+      (omega (arith, start (c .before) .pre .0), room s)
+
+  -- no P stands in it;
+  same-length : Here lts.Need-same-length
+  same-length c = c .before .before .before .before .parse-f .kept .1 .1 .1 .0
+
+  returns-2 : Here lts.Need-returns-2
+  returns-2 c =
+      let at-call = c .before .before .before .before in
+      Steps.bracket-no square (open-word (opening at-call)) (lost (at-call .parse-f .ensures) (c .enum-told .given .1))
+
+  -- it stays open;
+  same-length-2 : Here lts.Need-same-length-2
+  same-length-2 c = call (c .before .before) .parse-f .kept .1 .1 .1 .0
+
+  returns-3 : Here lts.Need-returns-3
+  returns-3 c =
+      let told = c .before .before in
+      Steps.bracket-open square (open-word (opening (call told))) (one told)
+      (λ e. c .if2 .taken (c .before .number-at2 .ensures ∙ e))
+
+  -- it closes.
+  add-t11 : Here lts.Need-add-t11
+  add-t11 c =
+      let told = c .before .before in
+      let s = one told .part .spans in
+      omega (arith, start (opening (call told)) .pre .1 .few)
+
+  same-length-3 : Here lts.Need-same-length-3
+  same-length-3 c = call (c .before .before) .parse-f .kept .1 .1 .1 .0
+
+  returns-4 : Here lts.Need-returns-4
+  returns-4 c =
+      let told = c .before .before in
+      Steps.bracket-closed square (open-word (opening (call told))) (one told)
+      (sym (c .before .number-at2 .ensures) ∙ c .if2 .left)
+
+  -- So the member meets its contract, if the calls with lower measures do.
+  pub met : {M : Type 1} → lts.Closed (calls-parse-square t) (parse-square-at t) reads.Post M
+  met =
+      lts.spec (calls-parse-square t) (parse-square-at t) reads.Post
+      (λ c κs. search needs) returns add-parse-f parse-f-requires (λ c. search needs) (λ c. search needs)
+      same-length returns-2 (λ c κs. search needs) same-length-2 returns-3 add-t11 same-length-3 returns-4

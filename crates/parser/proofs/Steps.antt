@@ -1,0 +1,248 @@
+-- F, brackets, U and atoms: one lemma for each turn of the code of the parse functions. Assumes nothing.
+use mathlib.Core.Bool.{Bool, true, false, _&&_, cond}
+use mathlib.Core.List.{List, _++_}
+use mathlib.Core.Path.{_≡_, refl, sym, ap, ap₂, _∙_, subst}
+use Prim.Native.Nat.{ℕ, _+_, _-_}
+use lib.Seq.{sets}
+use borrow.Author.Tests.{ne-eqb}
+use Rattle.traces.specs.Compare.{Op, opNumber}
+use Rattle.formulas.specs.Formula.{Num}
+use Rattle.formulas.specs.Tree.{Tree, upper, leadTest, leadCount}
+use Rattle.formulas.specs.Tree.Tree.{neg, then, chop, exists, test, len, count}
+use Rattle.formulas.specs.Arena
+use Rattle.formulas.specs.Arena.{row, flat, numKind, numValue}
+use Rattle.words.specs.Word
+use Rattle.words.specs.Word.{isSignal, isTest, isCount}
+use Rattle.grammar.specs.Grammar.{signalWord, opWord, numWord, testWord, countWord}
+use Rattle.grammar.specs.Parse.{Goal, word, read, bind, joinOf, unitOf}
+use Rattle.grammar.specs.Parse.{stepB, stepExists, comparisonAt, compared, closed}
+use Rattle.grammar.specs.Parse.Result.{no-rule, ok}
+use Rattle.grammar.specs.Parse.Goal.{goF, goD, goU, goA, goB}
+use Rattle.grammar.specs.Parse.Join.{join-then, join-chop, join-none}
+use Rattle.grammar.specs.Parse.Unit.{unit-not, unit-round, unit-leaf, unit-exists, unit-atom}
+use Rattle.grammar.specs.Parse.Atom.{atom-test, atom-len, atom-count, atom-none}
+use Rattle.grammar.proofs.Sound.{read-eq}
+use Rattle.grammar.proofs.Complete.{then-on, U-at, A-at, B-at, F-at, closed-at}
+use Rattle.grammar.proofs.Complete.{test-atom, len-atom, count-atom}
+use Rattle.grammar.proofs.Words.{test-number, count-number}
+use Rattle.facts.specs.Facts.{factsOf, atomFacts, negFacts, thenFacts, chopFacts, existsFacts}
+use Rattle.facts.specs.declared.Facts.{Facts}
+use Rattle.parser.specs.Contract.{comparisonRow, Parses, Pushed, ParsesLeaf, ParsesComparison}
+use Rattle.parser.specs.declared.Parsed.{Parsed}
+use Rattle.parser.specs.declared.Parsed.the-variants.{At, No}
+use Rattle.parser.proofs.Stored.{Stored, Took, stored-none, pushed, stored-as, stored-on}
+use Rattle.parser.proofs.Stored.{said-as, parses, says, says-no, fails}
+
+-- ---- reading by the word at hand
+
+module _ (ws : List ℕ) where
+  -- A D before `then` or `chop`, outside square brackets,
+  then-is : {l : Bool} (i : ℕ) {a : Tree} {n : ℕ} → read ws (goD l) i ≡ ok a n → l ≡ false → word ws n ≡ Word.THEN →
+      read ws (goF l) i ≡ bind (read ws (goF false) (n + 1)) (λ b m. ok (then a b) m)
+  then-is {l} i h out w = F-at ws l i join-then h (ap₂ joinOf out w)
+
+  chop-is : {l : Bool} (i : ℕ) {a : Tree} {n : ℕ} → read ws (goD l) i ≡ ok a n → l ≡ false → word ws n ≡ Word.CHOP →
+      read ws (goF l) i ≡ bind (read ws (goF false) (n + 1)) (λ b m. ok (chop a b) m)
+  chop-is {l} i h out w = F-at ws l i join-chop h (ap₂ joinOf out w)
+
+  -- a U that begins with `!` or `exists`,
+  not-is : (l : Bool) (i : ℕ) → word ws i ≡ Word.NOT →
+      read ws (goU l) i ≡ bind (read ws (goU l) (i + 1)) (λ t j. ok (neg t) j)
+  not-is l i w = U-at ws l i unit-not (ap (unitOf l) w)
+
+  exists-is : {l : Bool} (i : ℕ) {b : Bool} → l ≡ false → word ws i ≡ Word.EXISTS → isSignal (word ws (i + 1)) ≡ b →
+      read ws (goU l) i ≡ stepExists ws (read ws) b i
+  exists-is {l} i out w s =
+      U-at ws l i unit-exists (ap₂ unitOf out w) ∙ ap (λ (x : Bool). stepExists ws (read ws) x i) s
+
+  -- an atom with square brackets,
+  test-is : (i : ℕ) → isTest (word ws i) ≡ true →
+      read ws goA i ≡ bind (read ws goB (i + 1)) (λ p j. ok (test (testWord (word ws i)) p) j)
+  test-is i k = A-at ws i atom-test (test-atom (word ws i) k)
+
+  count-is : (i : ℕ) → isCount (word ws i) ≡ true →
+      read ws goA i ≡ bind (read ws goB (i + 1)) (λ p j. compared ws (count (countWord (word ws i)) p) j)
+  count-is i k = A-at ws i atom-count (count-atom (word ws i) k)
+
+  -- and a bracket that is not closed.
+  not-closed : (w : ℕ) (t : Tree) (j : ℕ) → (word ws j ≡ w → ⊥) → closed ws w t j ≡ no-rule
+  not-closed w t j e = ap (λ (x : Bool). cond x (ok t (j + 1)) no-rule) (ne-eqb _ _ e)
+
+-- ---- F: D, or D `then` F, or D `chop` F
+
+module _ {l : Bool} {ws : List ℕ} {i : ℕ} {before : List ℕ} {top : ℕ} {after : List ℕ} where
+  pub F-no : read ws (goD l) i ≡ no-rule → Parses (goF l) ws i before top No after
+  F-no e = fails _ (read-eq ws (goF l) i) e
+
+  pub F-one : {n e : ℕ} {f : Facts} → Took (goD l) ws i before top n e f after → joinOf l (word ws n) ≡ join-none →
+      Parses (goF l) ws i before top (At n e f) after
+  F-one h w = let a = h .part in says (a .tree) (F-at ws l i join-none (h .is) w) (a .stored) (a .known)
+
+  module _ {n e : ℕ} {f : Facts} {mid : List ℕ} (h : Took (goD l) ws i before top n e f mid) (out : l ≡ false) where
+    pub then-no : word ws n ≡ Word.THEN → read ws (goF false) (n + 1) ≡ no-rule →
+        Parses (goF l) ws i before top No after
+    then-no w e = fails _ (then-is ws i (h .is) out w) e
+
+    pub chop-no : word ws n ≡ Word.CHOP → read ws (goF false) (n + 1) ≡ no-rule →
+        Parses (goF l) ws i before top No after
+    chop-no w e = fails _ (chop-is ws i (h .is) out w) e
+
+    module _ {m e′ p : ℕ} {f′ f″ : Facts} {mid′ : List ℕ} where
+      pub F-then : {mark : ℕ} {marked : List ℕ} → word ws n ≡ Word.THEN →
+          Pushed mid e Arena.LEAD-END 0 0 0 mark marked →
+          Took (goF false) ws (n + 1) marked mark m e′ f′ mid′ → Pushed mid′ e′ Arena.THEN 0 0 0 p after →
+          f″ ≡ thenFacts f f′ → Parses (goF l) ws i before top (At m p f″) after
+      F-then w u h′ v facts =
+          let a = h .part in
+          let b = h′ .part in
+          says (then (a .tree) (b .tree)) (then-is ws i (h .is) out w ∙ then-on _ (h′ .is))
+          (stored-on (a .stored) (stored-on (pushed u) (stored-on (b .stored) (pushed v))))
+          (facts ∙ ap₂ thenFacts (a .known) (b .known))
+
+      pub F-chop : word ws n ≡ Word.CHOP → Took (goF false) ws (n + 1) mid e m e′ f′ mid′ →
+          Pushed mid′ e′ Arena.CHOP 0 0 0 p after → f″ ≡ chopFacts f f′ →
+          Parses (goF l) ws i before top (At m p f″) after
+      F-chop w h′ v facts =
+          let a = h .part in
+          let b = h′ .part in
+          says (chop (a .tree) (b .tree)) (chop-is ws i (h .is) out w ∙ then-on _ (h′ .is))
+          (stored-on (a .stored) (stored-on (b .stored) (pushed v)))
+          (facts ∙ ap₂ chopFacts (a .known) (b .known))
+
+-- ---- brackets
+
+-- What stands between the words left and right is read as the goal `sub`.
+pub record Bracket (g sub : Goal) (left right : ℕ) : Type 0 where
+  pub opens : (ws : List ℕ) (i : ℕ) → word ws i ≡ left → read ws g i ≡ bind (read ws sub (i + 1)) (closed ws right)
+
+pub round : (l : Bool) → Bracket (goU l) (goF l) Word.ROUND Word.ROUND-END
+round l = record { opens = λ ws i w. U-at ws l i unit-round (ap (unitOf l) w) }
+
+pub square : Bracket goB (goF true) Word.SQUARE Word.SQUARE-END
+square = record { opens = λ ws i w. B-at ws i w }
+
+module _ {g sub : Goal} {left right : ℕ} (z : Bracket g sub left right) where
+  module _ {ws : List ℕ} {i : ℕ} {before : List ℕ} {top : ℕ} {after : List ℕ} (w : word ws i ≡ left) where
+    pub bracket-no : read ws sub (i + 1) ≡ no-rule → Parses g ws i before top No after
+    bracket-no e = fails _ (z .opens ws i w) e
+
+    module _ {n e : ℕ} {f : Facts} (h : Took sub ws (i + 1) before top n e f after) where
+      pub bracket-open : (word ws n ≡ right → ⊥) → Parses g ws i before top No after
+      bracket-open v = says-no (z .opens ws i w ∙ then-on _ (h .is) ∙ not-closed ws right (h .part .tree) n v)
+
+      pub bracket-closed : word ws n ≡ right → Parses g ws i before top (At (n + 1) e f) after
+      bracket-closed v =
+          let a = h .part in
+          says (a .tree) (z .opens ws i w ∙ then-on _ (h .is) ∙ closed-at ws right (a .tree) n v)
+          (a .stored) (a .known)
+
+-- No square bracket.
+pub B-no : {ws : List ℕ} {i : ℕ} {before : List ℕ} {top : ℕ} {after : List ℕ} →
+    (word ws i ≡ Word.SQUARE → ⊥) → Parses goB ws i before top No after
+B-no {ws} {i} w = says-no (read-eq ws goB i ∙ ap (λ (x : Bool). stepB ws (read ws) x i) (ne-eqb _ _ w))
+
+-- ---- U: `!` U, or `exists` signal U, or a leaf or an atom
+
+module _ {l : Bool} {ws : List ℕ} {i : ℕ} {before : List ℕ} {top : ℕ} {after : List ℕ} where
+  module _ (w : word ws i ≡ Word.NOT) where
+    pub not-no : read ws (goU l) (i + 1) ≡ no-rule → Parses (goU l) ws i before top No after
+    not-no e = fails _ (not-is ws l i w) e
+
+    pub U-not : {n e p : ℕ} {f f′ : Facts} {mid : List ℕ} → Took (goU l) ws (i + 1) before top n e f mid →
+        Pushed mid e Arena.NOT 0 0 0 p after → f′ ≡ negFacts f → Parses (goU l) ws i before top (At n p f′) after
+    U-not h u facts =
+        let a = h .part in
+        says (neg (a .tree)) (not-is ws l i w ∙ then-on _ (h .is)) (stored-on (a .stored) (pushed u))
+        (facts ∙ ap negFacts (a .known))
+
+  module _ (out : l ≡ false) (w : word ws i ≡ Word.EXISTS) where
+    pub no-signal : isSignal (word ws (i + 1)) ≡ false → Parses (goU l) ws i before top No after
+    no-signal s = says-no (exists-is ws i out w s)
+
+    module _ (s : isSignal (word ws (i + 1)) ≡ true) where
+      pub exists-no : read ws (goU false) (i + 2) ≡ no-rule → Parses (goU l) ws i before top No after
+      exists-no e = fails _ (exists-is ws i out w s) e
+
+      pub U-exists : {n e p x : ℕ} {f f′ : Facts} {mid : List ℕ} → Took (goU false) ws (i + 2) before top n e f mid →
+          x ≡ word ws (i + 1) → Pushed mid e Arena.EXISTS (x - Word.SIGNAL) 0 0 p after → f′ ≡ existsFacts f →
+          Parses (goU l) ws i before top (At n p f′) after
+      U-exists h v u facts =
+          let a = h .part in
+          let last = stored-as (ap (λ (y : ℕ). row Arena.EXISTS (signalWord y) 0 0) v) (pushed u) in
+          says (exists (signalWord (word ws (i + 1))) (a .tree)) (exists-is ws i out w s ∙ then-on _ (h .is))
+          (stored-on (a .stored) last) (facts ∙ ap existsFacts (a .known))
+
+  module _ (no-not : word ws i ≡ Word.NOT → ⊥) (no-round : word ws i ≡ Word.ROUND → ⊥) where
+    pub U-leaf : {r : Parsed} → l ≡ true → ParsesLeaf ws i before top r after → Parses (goU l) ws i before top r after
+    U-leaf ins h =
+        parses (said-as (U-at ws l i unit-leaf (simp (ne-eqb _ _ no-not, ne-eqb _ _ no-round, ins)))
+        (record { result = h .result; filled = h .filled }))
+
+    pub U-atom : {r : Parsed} → l ≡ false → (word ws i ≡ Word.EXISTS → ⊥) → Parses goA ws i before top r after →
+        Parses (goU l) ws i before top r after
+    U-atom out no-exists h =
+        let class : unitOf l (word ws i) ≡ unit-atom =
+        simp (ne-eqb _ _ no-not, ne-eqb _ _ no-round, out, ne-eqb _ _ no-exists) in
+        parses (said-as (U-at ws l i unit-atom class) (record { result = h .result; filled = h .filled }))
+
+-- ---- atoms
+
+module _ {ws : List ℕ} {i : ℕ} {before : List ℕ} {top : ℕ} {after : List ℕ} where
+  module _ (k : isTest (word ws i) ≡ true) where
+    pub test-no : read ws goB (i + 1) ≡ no-rule → Parses goA ws i before top No after
+    test-no e = fails _ (test-is ws i k) e
+
+    pub A-test : {n e p x : ℕ} {f f′ : Facts} {mid : List ℕ} → Took goB ws (i + 1) before top n e f mid →
+        x ≡ word ws i → Pushed mid e (Arena.TEST + (x - Word.BEGIN)) 0 0 0 p after →
+        f′ ≡ atomFacts (leadTest (testWord x)) → Parses goA ws i before top (At n p f′) after
+    A-test h v u facts =
+        let a = h .part in
+        let kind = ap (λ (y : ℕ). y - Word.BEGIN) v ∙ sym (test-number (word ws i) k) in
+        let last = stored-as (ap (λ (y : ℕ). row (Arena.TEST + y) 0 0 0) kind) (pushed u) in
+        says (test (testWord (word ws i)) (a .tree)) (test-is ws i k ∙ then-on _ (h .is))
+        (stored-on (a .stored) last) (facts ∙ ap (λ (y : ℕ). atomFacts (leadTest (testWord y))) v)
+
+  -- op n ends an atom whose numbers so far are xs.
+  A-compared : {xs : List ℕ} {j e k : ℕ} {r : Parsed} {mid : List ℕ} {lead : Bool} (tree : Op → Num → Tree) →
+      read ws goA i ≡ compared ws tree j → Stored before top xs e mid → ParsesComparison ws j mid e k lead r after →
+      ((o : Op) (n : Num) → flat (tree o n) ≡ xs ++ comparisonRow k o n) →
+      ((o : Op) (n : Num) → factsOf (tree o n) ≡ atomFacts (lead && upper o)) → Parses goA ws i before top r after
+  A-compared {xs} {j} {e} {k} {r} {mid} {lead} tree is stored h flats facts =
+      go (opWord (word ws j)) (numWord (word ws (j + 1))) (comparisonAt ws j) is (h .result) (h .filled)
+    where
+      go : (o : Op) (n : Num) (x : Bool) → read ws goA i ≡ cond x (ok (tree o n) (j + 2)) no-rule →
+          r ≡ cond x (At (j + 2) (e + 4) (atomFacts (lead && upper o))) No →
+          (x ≡ true → after ≡ sets mid e (comparisonRow k o n)) →
+          Parses goA ws i before top r after
+      go o n true is given filled =
+          let last : Stored mid e (comparisonRow k o n) (e + 4) after =
+          record { end = refl; filled = filled refl } in
+          subst (λ (y : Parsed). Parses goA ws i before top y after) (sym given)
+          (says (tree o n) is (stored-as (sym (flats o n)) (stored-on stored last)) (sym (facts o n)))
+      go o n false is given filled =
+          subst (λ (y : Parsed). Parses goA ws i before top y after) (sym given) (says-no is)
+
+  pub A-len : {r : Parsed} → word ws i ≡ Word.LEN → ParsesComparison ws (i + 1) before top Arena.LEN true r after →
+      Parses goA ws i before top r after
+  A-len w h =
+      A-compared len (A-at ws i atom-len (len-atom (word ws i) w)) stored-none h (λ o n. refl) (λ o n. refl)
+
+  module _ (k : isCount (word ws i) ≡ true) where
+    pub count-no : read ws goB (i + 1) ≡ no-rule → Parses goA ws i before top No after
+    count-no e = fails _ (count-is ws i k) e
+
+    pub A-count : {n e x : ℕ} {f : Facts} {r : Parsed} {mid : List ℕ} {lead : Bool} →
+        Took goB ws (i + 1) before top n e f mid → x ≡ word ws i → lead ≡ leadCount (countWord x) →
+        ParsesComparison ws n mid e (Arena.COUNT + (x - Word.SUM)) lead r after → Parses goA ws i before top r after
+    A-count h v led c =
+        let p = h .part .tree in
+        let kind = ap (λ (y : ℕ). y - Word.SUM) v ∙ sym (count-number (word ws i) k) in
+        let led′ = led ∙ ap (λ (y : ℕ). leadCount (countWord y)) v in
+        A-compared (count (countWord (word ws i)) p) (count-is ws i k ∙ then-on _ (h .is)) (h .part .stored) c
+        (λ o n. ap (λ (y : ℕ). flat p ++ row (Arena.COUNT + y) (opNumber o) (numKind n) (numValue n)) (sym kind))
+        (λ o n. ap (λ (y : Bool). atomFacts (y && upper o)) (sym led′))
+
+  -- Any other word.
+  pub A-none : isTest (word ws i) ≡ false → (word ws i ≡ Word.LEN → ⊥) → isCount (word ws i) ≡ false →
+      Parses goA ws i before top No after
+  A-none a b c = says-no (A-at ws i atom-none (simp (a, ne-eqb _ _ b, c)))

@@ -1,0 +1,57 @@
+-- What the parse functions answer and leave in the arena. Definitions only.
+use mathlib.Core.Bool.{Bool, true, _&&_, cond}
+use mathlib.Core.Path.{_≡_}
+use mathlib.Core.List.{List}
+use Prim.Native.Nat.{ℕ, _+_, _-_, _*_, _≤_}
+use lib.ListN.{length}
+use lib.Seq.{sets}
+use Rattle.limits.specs.Limits.{wordLimit}
+use Rattle.traces.specs.Compare.{Op, opNumber}
+use Rattle.formulas.specs.Formula.{Num}
+use Rattle.formulas.specs.Tree.{Tree, upper}
+use Rattle.formulas.specs.Arena.{row, flat, numKind, numValue}
+use Rattle.grammar.specs.Grammar.{opWord, numWord}
+use Rattle.grammar.specs.Parse.{Result, Goal, read, word, leafAt, comparisonAt}
+use Rattle.grammar.specs.Parse.Result.{no-rule, ok}
+use Rattle.facts.specs.Facts.{factsOf, atomFacts}
+use Rattle.parser.specs.declared.Parsed.{Parsed}
+use Rattle.parser.specs.declared.Parsed.the-variants.{At, No}
+
+-- The enum of a result, with the tree's records from `top` on.
+abbrev pub parsedOf : Result → ℕ → Parsed
+parsedOf no-rule top = No
+parsedOf (ok t j) top = At j (top + length (flat t)) (factsOf t)
+
+-- A parse function reads goal g from position i: the answer r, and the arena before and after. Where a tree was read,
+-- its records stand from `top` on and all else is kept; where none was, nothing is said of the arena.
+pub record Parses (g : Goal) (ws : List ℕ) (i : ℕ) (before : List ℕ) (top : ℕ) (r : Parsed) (after : List ℕ) :
+    Type 0 where
+  pub result : r ≡ parsedOf (read ws g i) top
+  pub filled : (t : Tree) (j : ℕ) → read ws g i ≡ ok t j → after ≡ sets before top (flat t)
+
+-- What a parse function is lent: few words, a position among them, and room for two records a word.
+pub record Room (ws : List ℕ) (i : ℕ) (arena : List ℕ) (top : ℕ) : Type 0 where
+  pub few : length ws ≤ wordLimit
+  pub within : i ≤ length ws
+  pub fits : top + 8 * (length ws - i) ≤ length arena
+
+-- One record stored at `top`.
+pub record Pushed (before : List ℕ) (top k a b c : ℕ) (r : ℕ) (after : List ℕ) : Type 0 where
+  pub end : r ≡ top + 4
+  pub filled : after ≡ sets before top (row k a b c)
+
+-- `0`, `1` or a signal at position i.
+pub record ParsesLeaf (ws : List ℕ) (i : ℕ) (before : List ℕ) (top : ℕ) (r : Parsed) (after : List ℕ) : Type 0 where
+  pub result : r ≡ parsedOf (leafAt ws i) top
+  pub filled : (t : Tree) (j : ℕ) → leafAt ws i ≡ ok t j → after ≡ sets before top (flat t)
+
+-- The record of kind k that ends with the comparison o and the number n.
+abbrev pub comparisonRow : ℕ → Op → Num → List ℕ
+comparisonRow k o n = row k (opNumber o) (numKind n) (numValue n)
+
+-- op n at position j as the end of an atom's record of kind k; lead says whether the atom is one with `<=` or `<`.
+pub record ParsesComparison (ws : List ℕ) (j : ℕ) (before : List ℕ) (top k : ℕ) (lead : Bool) (r : Parsed)
+    (after : List ℕ) : Type 0 where
+  pub result : r ≡ cond (comparisonAt ws j) (At (j + 2) (top + 4) (atomFacts (lead && upper (opWord (word ws j))))) No
+  pub filled : comparisonAt ws j ≡ true →
+      after ≡ sets before top (comparisonRow k (opWord (word ws j)) (numWord (word ws (j + 1))))

@@ -1,0 +1,2 @@
+-- What the parse functions answer and leave in the arena.
+pub mod Contract

@@ -1,0 +1,233 @@
+// Reading a rule's words by recursive descent (document 01, "Grammar"): F, D, C and U call each other, and the words
+// left fall. A tree is written as records into a lent arena (formulas, specs/Arena.antt).
+use facts::Facts;
+ghost use Prim.Native.Nat.{_+_, _≤_};
+ghost use lib.ListN.{length};
+ghost use Rattle.limits.specs.Limits.{wordLimit};
+ghost use Rattle.grammar.specs.Parse.Goal.{goF, goD, goC, goU, goA, goB};
+ghost use Rattle.parser.specs.Contract.{Parses, Room, Pushed, ParsesLeaf, ParsesComparison};
+
+// A tree that was read: the position after its words, the place after its records, and its facts; or none.
+pub enum Parsed {
+    At(usize, usize, Facts),
+    No,
+}
+
+// One record at `top`; the place after it.
+fn push(arena: &mut [u32], top: usize, k: u32, a: u32, b: u32, c: u32) -> usize
+    requires { ⌜ top + 4 ≤ length (now arena) ⌝ }
+    ensures { λ r. ⌜ Pushed (now (arena .entry)) top k a b c r (now (arena .exit)) ⌝ }
+{
+    arena[top] = k;
+    arena[top + 1] = a;
+    arena[top + 2] = b;
+    arena[top + 3] = c;
+    top + 4
+}
+
+// `0`, `1` or a signal, the word at a position inside square brackets.
+fn leaf(ws: &[u32], at: usize, arena: &mut [u32], top: usize) -> Parsed
+    requires { ⌜ Room (now ws) at (now arena) top ⌝ }
+    ensures { λ r. ⌜ ParsesLeaf (now (ws .entry)) at (now (arena .entry)) top r (now (arena .exit)) ⌝ }
+{
+    let w = lists::number_at(ws, at);
+    if words::is_signal(w) {
+        let end = push(arena, top, formulas::SIGNAL, w - words::SIGNAL, 0, 0);
+        return Parsed::At(at + 1, end, facts::leaf_facts());
+    }
+    if words::is_bit(w) {
+        let end = push(arena, top, formulas::CONSTANT, w - words::LITERAL, 0, 0);
+        return Parsed::At(at + 1, end, facts::leaf_facts());
+    }
+    Parsed::No
+}
+
+// op n at a position: the end of an atom, whose record of kind k is written.
+fn comparison(ws: &[u32], at: usize, arena: &mut [u32], top: usize, k: u32, lead: bool) -> Parsed
+    requires { ⌜ (at ≤ wordLimit) × (top + 4 ≤ length (now arena)) ⌝ }
+    ensures { λ r. ⌜ ParsesComparison (now (ws .entry)) at (now (arena .entry)) top k lead r (now (arena .exit)) ⌝ }
+{
+    let o = lists::number_at(ws, at);
+    let n = lists::number_at(ws, at + 1);
+    if !words::is_op(o) {
+        return Parsed::No;
+    }
+    if !words::is_num(n) {
+        return Parsed::No;
+    }
+    let end = push(
+        arena,
+        top,
+        k,
+        o - words::LE,
+        facts::num_kind(n),
+        facts::num_value(n),
+    );
+    Parsed::At(
+        at + 2,
+        end,
+        facts::atom_facts(facts::both(lead, facts::is_upper(o))),
+    )
+}
+
+// "F: D, or D `then` F, or D `chop` F."
+pub fn parse_f(ws: &[u32], inside: bool, at: usize, arena: &mut [u32], top: usize) -> Parsed
+    requires { ⌜ Room (now ws) at (now arena) top ⌝ }
+    ensures { λ r. ⌜ Parses (goF inside) (now (ws .entry)) at (now (arena .entry)) top r (now (arena .exit)) ⌝ }
+{
+    let Parsed::At(j, t, a) = parse_d(ws, inside, at, arena, top) else {
+        return Parsed::No;
+    };
+    if inside {
+        return Parsed::At(j, t, a);
+    }
+    let k = lists::number_at(ws, j);
+    if k == words::THEN {
+        let mark = push(arena, t, formulas::LEAD_END, 0, 0, 0);
+        let Parsed::At(m, e, b) = parse_f(ws, false, j + 1, arena, mark) else {
+            return Parsed::No;
+        };
+        let end = push(arena, e, formulas::THEN, 0, 0, 0);
+        return Parsed::At(m, end, facts::then_facts(a, b));
+    }
+    if k == words::CHOP {
+        let Parsed::At(m, e, b) = parse_f(ws, false, j + 1, arena, t) else {
+            return Parsed::No;
+        };
+        let end = push(arena, e, formulas::CHOP, 0, 0, 0);
+        return Parsed::At(m, end, facts::chop_facts(a, b));
+    }
+    Parsed::At(j, t, a)
+}
+
+// "D: one or more C joined by `|`, grouped from the left."
+fn parse_d(ws: &[u32], inside: bool, at: usize, arena: &mut [u32], top: usize) -> Parsed
+    requires { ⌜ Room (now ws) at (now arena) top ⌝ }
+    ensures { λ r. ⌜ Parses (goD inside) (now (ws .entry)) at (now (arena .entry)) top r (now (arena .exit)) ⌝ }
+{
+    let Parsed::At(first, low, a) = parse_c(ws, inside, at, arena, top) else {
+        return Parsed::No;
+    };
+    let mut j = first;
+    let mut t = low;
+    let mut facts = a;
+    while lists::number_at(ws, j) == words::OR {
+        let Parsed::At(m, e, b) = parse_c(ws, inside, j + 1, arena, t) else {
+            return Parsed::No;
+        };
+        t = push(arena, e, formulas::OR, 0, 0, 0);
+        j = m;
+        facts = facts::join_facts(facts, b);
+    }
+    Parsed::At(j, t, facts)
+}
+
+// "C: likewise U joined by `&`."
+fn parse_c(ws: &[u32], inside: bool, at: usize, arena: &mut [u32], top: usize) -> Parsed
+    requires { ⌜ Room (now ws) at (now arena) top ⌝ }
+    ensures { λ r. ⌜ Parses (goC inside) (now (ws .entry)) at (now (arena .entry)) top r (now (arena .exit)) ⌝ }
+{
+    let Parsed::At(first, low, a) = parse_u(ws, inside, at, arena, top) else {
+        return Parsed::No;
+    };
+    let mut j = first;
+    let mut t = low;
+    let mut facts = a;
+    while lists::number_at(ws, j) == words::AND {
+        let Parsed::At(m, e, b) = parse_u(ws, inside, j + 1, arena, t) else {
+            return Parsed::No;
+        };
+        t = push(arena, e, formulas::AND, 0, 0, 0);
+        j = m;
+        facts = facts::join_facts(facts, b);
+    }
+    Parsed::At(j, t, facts)
+}
+
+// "U: `!` U, or `exists` signal U, or `(` F `)`, or an atom."
+fn parse_u(ws: &[u32], inside: bool, at: usize, arena: &mut [u32], top: usize) -> Parsed
+    requires { ⌜ Room (now ws) at (now arena) top ⌝ }
+    ensures { λ r. ⌜ Parses (goU inside) (now (ws .entry)) at (now (arena .entry)) top r (now (arena .exit)) ⌝ }
+{
+    let k = lists::number_at(ws, at);
+    if k == words::NOT {
+        let Parsed::At(j, t, a) = parse_u(ws, inside, at + 1, arena, top) else {
+            return Parsed::No;
+        };
+        let end = push(arena, t, formulas::NOT, 0, 0, 0);
+        return Parsed::At(j, end, facts::not_facts(a));
+    }
+    if k == words::ROUND {
+        let Parsed::At(j, t, a) = parse_f(ws, inside, at + 1, arena, top) else {
+            return Parsed::No;
+        };
+        if lists::number_at(ws, j) != words::ROUND_END {
+            return Parsed::No;
+        }
+        return Parsed::At(j + 1, t, a);
+    }
+    if inside {
+        return leaf(ws, at, arena, top);
+    }
+    if k == words::EXISTS {
+        let w = lists::number_at(ws, at + 1);
+        if !words::is_signal(w) {
+            return Parsed::No;
+        }
+        let Parsed::At(j, t, a) = parse_u(ws, false, at + 2, arena, top) else {
+            return Parsed::No;
+        };
+        let end = push(arena, t, formulas::EXISTS, w - words::SIGNAL, 0, 0);
+        return Parsed::At(j, end, facts::exists_facts(a));
+    }
+    parse_atom(ws, at, arena, top)
+}
+
+// "Atoms: `begin[P]`, `end[P]`, `point[P]`, `held[P]`, `kept[P]`, `len` op n, `sum[P]` op n, `age[P]` op n."
+fn parse_atom(ws: &[u32], at: usize, arena: &mut [u32], top: usize) -> Parsed
+    requires { ⌜ Room (now ws) at (now arena) top ⌝ }
+    ensures { λ r. ⌜ Parses goA (now (ws .entry)) at (now (arena .entry)) top r (now (arena .exit)) ⌝ }
+{
+    let k = lists::number_at(ws, at);
+    if words::is_test(k) {
+        let Parsed::At(j, t, _) = parse_square(ws, at + 1, arena, top) else {
+            return Parsed::No;
+        };
+        let end = push(arena, t, formulas::TEST + (k - words::BEGIN), 0, 0, 0);
+        return Parsed::At(j, end, facts::atom_facts(facts::is_lead_test(k)));
+    }
+    if k == words::LEN {
+        return comparison(ws, at + 1, arena, top, formulas::LEN, true);
+    }
+    if words::is_count(k) {
+        let Parsed::At(j, t, _) = parse_square(ws, at + 1, arena, top) else {
+            return Parsed::No;
+        };
+        return comparison(
+            ws,
+            j,
+            arena,
+            t,
+            formulas::COUNT + (k - words::SUM),
+            facts::is_lead_count(k),
+        );
+    }
+    Parsed::No
+}
+
+// A P in square brackets.
+fn parse_square(ws: &[u32], at: usize, arena: &mut [u32], top: usize) -> Parsed
+    requires { ⌜ Room (now ws) at (now arena) top ⌝ }
+    ensures { λ r. ⌜ Parses goB (now (ws .entry)) at (now (arena .entry)) top r (now (arena .exit)) ⌝ }
+{
+    if lists::number_at(ws, at) != words::SQUARE {
+        return Parsed::No;
+    }
+    let Parsed::At(j, t, a) = parse_f(ws, true, at + 1, arena, top) else {
+        return Parsed::No;
+    };
+    if lists::number_at(ws, j) != words::SQUARE_END {
+        return Parsed::No;
+    }
+    Parsed::At(j + 1, t, a)
+}
