@@ -42,23 +42,23 @@ not-within lo hi w h = ap (λ (x : Bool). leb lo w && x) (lt-leb w hi h) ∙ go 
     go false = refl
 
 -- Words that are not `!` nor a round bracket: a leaf's inside square brackets,
-pub signal-leaf : (w : ℕ) → isSignal w ≡ true → unitOf true w ≡ unit-leaf
+signal-leaf : (w : ℕ) → isSignal w ≡ true → unitOf true w ≡ unit-leaf
 signal-leaf w h =
     let p = signal-pos w h in
     simp (ne-eqb w NOT (λ e. omega arith), ne-eqb w ROUND (λ e. omega arith))
 
-pub bit-leaf : (w : ℕ) → isBit w ≡ true → unitOf true w ≡ unit-leaf
+bit-leaf : (w : ℕ) → isBit w ≡ true → unitOf true w ≡ unit-leaf
 bit-leaf w h =
     let p = bit-pos w h in
     simp (ne-eqb w NOT (λ e. omega arith), ne-eqb w ROUND (λ e. omega arith))
 
 -- and an atom's outside, which are not `exists` either.
-pub unit-of-atom : (w : ℕ) → BEGIN ≤ w → w ≤ AGE → unitOf false w ≡ unit-atom
+unit-of-atom : (w : ℕ) → BEGIN ≤ w → w ≤ AGE → unitOf false w ≡ unit-atom
 unit-of-atom w p q =
     simp (ne-eqb w NOT (λ e. omega arith), ne-eqb w ROUND (λ e. omega arith), ne-eqb w EXISTS (λ e. omega arith))
 
 -- Which atom it is: a test,
-pub test-unit : (w : ℕ) → isTest w ≡ true → unitOf false w ≡ unit-atom
+test-unit : (w : ℕ) → isTest w ≡ true → unitOf false w ≡ unit-atom
 unfolding isTest
 test-unit w h = unit-of-atom w (test-pos w h) (omega (arith, within-high BEGIN KEPT w h))
 
@@ -71,7 +71,7 @@ unfolding isTest
 len-atom w e = ap atomOf e
 
 -- a count.
-pub count-unit : (w : ℕ) → isCount w ≡ true → unitOf false w ≡ unit-atom
+count-unit : (w : ℕ) → isCount w ≡ true → unitOf false w ≡ unit-atom
 unfolding isCount
 count-unit w h = unit-of-atom w (omega (arith, count-pos w h)) (within-high SUM AGE w h)
 
@@ -82,7 +82,7 @@ count-atom w h =
     simp (not-within BEGIN KEPT w (omega arith), ne-eqb w LEN (λ e. omega arith), h)
 
 -- A bit is no signal.
-pub bit-signal : (w : ℕ) → isBit w ≡ true → isSignal w ≡ false
+bit-signal : (w : ℕ) → isBit w ≡ true → isSignal w ≡ false
 unfolding isSignal
 bit-signal w h = not-within SIGNAL _ w (omega (arith, bit-pos w h))
 
@@ -96,14 +96,14 @@ pub then-on : {r : Result} {t : Tree} {j : ℕ} (f : Tree → ℕ → Result) �
 then-on f e = ap (λ (x : Result). bind x f) e
 
 -- The word after ends an F.
-pub record Ends (w : ℕ) : Type 0 where
-  pub no-and : w ≡ AND → ⊥
-  pub no-or : w ≡ OR → ⊥
-  pub no-then : w ≡ THEN → ⊥
-  pub no-chop : w ≡ CHOP → ⊥
+record Ends (w : ℕ) : Type 0 where
+  no-and : w ≡ AND → ⊥
+  no-or : w ≡ OR → ⊥
+  no-then : w ≡ THEN → ⊥
+  no-chop : w ≡ CHOP → ⊥
 
 -- So do a closing bracket and the end of the words.
-pub ends-at : (w n : ℕ) → w ≡ n → n ≤ SQUARE-END → Ends w
+ends-at : (w n : ℕ) → w ≡ n → n ≤ SQUARE-END → Ends w
 ends-at w n e l =
     record {
       no-and = λ x. omega arith;
@@ -149,30 +149,30 @@ module _ (ws : List ℕ) where
   pub closed-at : (w : ℕ) (t : Tree) (j : ℕ) → word ws j ≡ w → closed ws w t j ≡ ok t (j + 1)
   closed-at w t j e = ap (λ (x : Bool). cond x (ok t (j + 1)) no-rule) (eq-eqb _ _ e)
 
-  pub compared-at : (f : Op → Num → Tree) (j : ℕ) → isOp (word ws j) ≡ true → isNum (word ws (j + 1)) ≡ true →
+  compared-at : (f : Op → Num → Tree) (j : ℕ) → isOp (word ws j) ≡ true → isNum (word ws (j + 1)) ≡ true →
       compared ws f j ≡ ok (f (opWord (word ws j)) (numWord (word ws (j + 1)))) (j + 2)
   compared-at f j p q =
       let r : Result = ok (f (opWord (word ws j)) (numWord (word ws (j + 1)))) (j + 2) in
       ap (λ (x : Bool). cond (x && isNum (word ws (j + 1))) r no-rule) p ∙ ap (λ (x : Bool). cond x r no-rule) q
 
-  pub signal-at : (i : ℕ) → isSignal (word ws i) ≡ true → leafAt ws i ≡ ok (signal (signalWord (word ws i))) (i + 1)
+  signal-at : (i : ℕ) → isSignal (word ws i) ≡ true → leafAt ws i ≡ ok (signal (signalWord (word ws i))) (i + 1)
   signal-at i h = rw h
 
-  pub bit-at : (i : ℕ) → isBit (word ws i) ≡ true → leafAt ws i ≡ ok (constant (bitWord (word ws i))) (i + 1)
+  bit-at : (i : ℕ) → isBit (word ws i) ≡ true → leafAt ws i ≡ ok (constant (bitWord (word ws i))) (i + 1)
   bit-at i h = rw (bit-signal (word ws i) h, h)
 
   -- ---- completeness
 
   -- What reading gives where the grammar has an X from i up to j with tree t. An F is read to its end where the next
   -- word ends it; a D or a C is read as a part of the longest one.
-  abbrev pub Full : Bool → Symbol → ℕ → Tree → ℕ → Type 0
+  abbrev Full : Bool → Symbol → ℕ → Tree → ℕ → Type 0
   Full l F i t j = Ends (word ws j) → read ws (goF l) i ≡ ok t j
   Full l D i t j = (word ws j ≡ AND → ⊥) → read ws (goD l) i ≡ read ws (goDs l t) j
   Full l C i t j = read ws (goC l) i ≡ read ws (goCs l t) j
   Full l U i t j = read ws (goU l) i ≡ ok t j
   Full l B i t j = read ws goB i ≡ ok t j
 
-  pub complete : {l : Bool} {c : Symbol} {i j : ℕ} {t : Tree} → DerivesAt ws l c i t j → Full l c i t j
+  complete : {l : Bool} {c : Symbol} {i j : ℕ} {t : Tree} → DerivesAt ws l c i t j → Full l c i t j
   complete (f-one {l} {i} {j} {t} r) = λ n.
       F-at l i join-none (complete r (n .no-and) ∙ stopD l t j (n .no-or)) (stop-join l _ (n .no-then) (n .no-chop))
   complete (f-then {i} {m} {j} {a} {b} r e s) = λ n.

@@ -74,7 +74,7 @@ module _ (ws : List ℕ) where
       ∙ ap (λ (x : List ℕ). slice (i + 1) j ws ++ x) (pair j q))
 
 -- A reading over positions is one of the words between them.
-pub to-list : {ws : List ℕ} {l : Bool} {c : Symbol} {i j : ℕ} {t : Tree} →
+to-list : {ws : List ℕ} {l : Bool} {c : Symbol} {i j : ℕ} {t : Tree} →
     DerivesAt ws l c i t j → Derives l c (slice i j ws) t
 to-list (f-one r) = F-one (to-list r)
 to-list {ws} (f-then {i} {m} {j} r e s) =
@@ -114,12 +114,12 @@ to-list {ws} (b-square {i} {j} e r f) =
 -- ---- from lists to positions
 
 -- The words s stand in ws from i up to j.
-pub record Stands (ws s : List ℕ) (i j : ℕ) : Type 0 where
-  pub front : List ℕ
-  pub back : List ℕ
-  pub whole : ws ≡ front ++ s ++ back
-  pub start : i ≡ length front
-  pub end : j ≡ i + length s
+record Stands (ws s : List ℕ) (i j : ℕ) : Type 0 where
+  front : List ℕ
+  back : List ℕ
+  whole : ws ≡ front ++ s ++ back
+  start : i ≡ length front
+  end : j ≡ i + length s
 
 -- So do a first part of them,
 left : {ws : List ℕ} {i j : ℕ} (s u : List ℕ) → Stands ws (s ++ u) i j → Stands ws s i (i + length s)
@@ -166,7 +166,7 @@ next : {ws : List ℕ} {w i j : ℕ} → Stands ws (w ∷ []) i j → j ≡ i + 
 next x = omega arith
 
 -- A reading of words is one over the positions where they stand.
-pub to-position : {l : Bool} {c : Symbol} {s : List ℕ} {t : Tree} {ws : List ℕ} {i j : ℕ} →
+to-position : {l : Bool} {c : Symbol} {s : List ℕ} {t : Tree} {ws : List ℕ} {i j : ℕ} →
     Derives l c s t → Stands ws s i j → DerivesAt ws l c i t j
 to-position (F-one g) x = f-one (to-position g x)
 to-position (F-then {s} {u} g h) x =

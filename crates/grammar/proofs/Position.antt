@@ -66,7 +66,7 @@ inside ws i h = elim (decLt i (length ws)) [ yes l ↦ l | no l ↦ absurd (past
     past l = let e : word ws i ≡ 0 = List·getD-eq-default ws 0 (omega arith) in omega arith
 
 -- and a word between two bounds is at least the lower and at most the upper.
-pub within-low : (lo hi w : ℕ) → within lo hi w ≡ true → lo ≤ w
+within-low : (lo hi w : ℕ) → within lo hi w ≡ true → lo ≤ w
 within-low lo hi w e = leb-true lo w (and-eq-true-iff (leb lo w) (leb w hi) .0 e .0)
 
 pub within-high : (lo hi w : ℕ) → within lo hi w ≡ true → w ≤ hi

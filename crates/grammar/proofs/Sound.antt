@@ -33,11 +33,11 @@ use Rattle.grammar.proofs.Position.DerivesAt.{u-test, u-len, u-count, b
 -- ---- results
 
 -- What is so of the tree and the end, if there are any.
-pub data All (P : Tree → ℕ → Type 0) : Result → Type 0 where
+data All (P : Tree → ℕ → Type 0) : Result → Type 0 where
   fails : All P no-rule
   gives : {t : Tree} {j : ℕ} → P t j → All P (ok t j)
 
-pub all-ok : {P : Tree → ℕ → Type 0} {t : Tree} {j : ℕ} → All P (ok t j) → P t j
+all-ok : {P : Tree → ℕ → Type 0} {t : Tree} {j : ℕ} → All P (ok t j) → P t j
 all-ok (gives p) = p
 
 -- One reading after another,
@@ -63,12 +63,12 @@ bind-cong {P} r r′ f f′ e p h = go r p ∙ ap (λ (x : Result). bind x f′)
 -- ---- classes of words
 
 -- What a word is that joins a D to an F,
-abbrev pub Joins : Bool → ℕ → Join → Type 0
+abbrev Joins : Bool → ℕ → Join → Type 0
 Joins l w join-then = (l ≡ false) × (w ≡ THEN)
 Joins l w join-chop = (l ≡ false) × (w ≡ CHOP)
 Joins l w join-none = Unit {0}
 
-pub joined : (l : Bool) (w : ℕ) → Joins l w (joinOf l w)
+joined : (l : Bool) (w : ℕ) → Joins l w (joinOf l w)
 joined true w = tt
 joined false w = go (eqb w THEN) (eqb w CHOP) refl refl
   where
@@ -79,14 +79,14 @@ joined false w = go (eqb w THEN) (eqb w CHOP) refl refl
     go false false p q = tt
 
 -- that a U begins with,
-abbrev pub Begins : Bool → ℕ → First → Type 0
+abbrev Begins : Bool → ℕ → First → Type 0
 Begins l w unit-not = w ≡ NOT
 Begins l w unit-round = w ≡ ROUND
 Begins l w unit-leaf = l ≡ true
 Begins l w unit-exists = (l ≡ false) × (w ≡ EXISTS)
 Begins l w unit-atom = l ≡ false
 
-pub begun : (l : Bool) (w : ℕ) → Begins l w (unitOf l w)
+begun : (l : Bool) (w : ℕ) → Begins l w (unitOf l w)
 begun l w = go (eqb w NOT) (eqb w ROUND) l (eqb w EXISTS) refl refl refl refl
   where
     go : (a b c d : Bool) → eqb w NOT ≡ a → eqb w ROUND ≡ b → l ≡ c → eqb w EXISTS ≡ d →
@@ -98,13 +98,13 @@ begun l w = go (eqb w NOT) (eqb w ROUND) l (eqb w EXISTS) refl refl refl refl
     go false false false false p q r s = r
 
 -- and that an atom begins with.
-abbrev pub Names : ℕ → Atom → Type 0
+abbrev Names : ℕ → Atom → Type 0
 Names w atom-test = isTest w ≡ true
 Names w atom-len = w ≡ LEN
 Names w atom-count = isCount w ≡ true
 Names w atom-none = Unit {0}
 
-pub named : (w : ℕ) → Names w (atomOf w)
+named : (w : ℕ) → Names w (atomOf w)
 named w = go (isTest w) (eqb w LEN) (isCount w) refl refl refl
   where
     go : (a b c : Bool) → isTest w ≡ a → eqb w LEN ≡ b → isCount w ≡ c →
@@ -129,7 +129,7 @@ module _ (ws : List ℕ) where
   Holds goB i t j = DerivesAt ws false B i t j
 
   -- Readings whose every answer is so.
-  abbrev pub Sound : (Goal → ℕ → Result) → Type 0
+  abbrev Sound : (Goal → ℕ → Result) → Type 0
   Sound rec = (g : Goal) (i : ℕ) → All (Holds g i) (rec g i)
 
   -- A reading inside or outside square brackets, where it is known which.
@@ -247,7 +247,7 @@ module _ (ws : List ℕ) where
   parse-sound (suc k) g i = step-sound (parse ws k) (parse-sound k) g i
 
   -- Reading is sound.
-  pub read-sound : (g : Goal) (i : ℕ) → All (Holds g i) (read ws g i)
+  read-sound : (g : Goal) (i : ℕ) → All (Holds g i) (read ws g i)
   unfolding read
   read-sound g i = parse-sound (depth ws g i) g i
 
@@ -259,13 +259,13 @@ module _ (ws : List ℕ) where
 
 module _ (ws : List ℕ) where
   -- A word of a class that leads on stands before the end.
-  pub signal-inside : (i : ℕ) → isSignal (word ws i) ≡ true → i < length ws
+  signal-inside : (i : ℕ) → isSignal (word ws i) ≡ true → i < length ws
   signal-inside i e = inside ws i (omega (arith, signal-pos (word ws i) e))
 
-  pub test-inside : (i : ℕ) → isTest (word ws i) ≡ true → i < length ws
+  test-inside : (i : ℕ) → isTest (word ws i) ≡ true → i < length ws
   test-inside i e = inside ws i (omega (arith, test-pos (word ws i) e))
 
-  pub count-inside : (i : ℕ) → isCount (word ws i) ≡ true → i < length ws
+  count-inside : (i : ℕ) → isCount (word ws i) ≡ true → i < length ws
   count-inside i e = inside ws i (omega (arith, count-pos (word ws i) e))
 
   -- Two readings agree on goals that need less depth than n.

@@ -1,4 +1,4 @@
--- The grammar of rule texts. `Grammar` is document 01's; `Parse` is its reading as a computation, and proofs/ shows that
+-- The grammar of rule texts. `Grammar` is document 01's; `Parse` is reading as a computation, and proofs/ shows that
 -- the two are the same. `Fragment` says which words have a meaning.
 pub mod Grammar
 pub mod Fragment

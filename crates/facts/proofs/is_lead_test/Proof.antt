@@ -8,15 +8,15 @@ use Rattle.grammar.proofs.Words.{test-lead}
 use Rattle.facts.proofs.is_lead_test.Statement.{statement}
 use Rattle.facts.proofs.is_lead_test.Tie as tie
 
-returns : tie.Need-returns
-returns c =
+is-begin : tie.Need-returns
+is-begin c =
     let k = c .before .args .k in
     ap (λ (b : Bool). b || eqb k KEPT) (sym (eq-eqb k BEGIN (c .if1 .taken))) ∙ test-lead k (c .before .pre)
 
-returns-2 : tie.Need-returns-2
-returns-2 c =
+no-begin : tie.Need-returns-2
+no-begin c =
     let k = c .before .args .k in
     ap (λ (b : Bool). b || eqb k KEPT) (sym (ne-eqb k BEGIN (c .if1 .left))) ∙ test-lead k (c .before .pre)
 
 pub is-lead-test-spec : {M : Type 1} → statement M
-is-lead-test-spec = tie.close (tie.spec returns returns-2)
+is-lead-test-spec = tie.close (tie.spec is-begin no-begin)

@@ -4,11 +4,11 @@ use Rattle.words.specs.Word.{LITERAL}
 use Rattle.facts.proofs.num_kind.Statement.{statement}
 use Rattle.facts.proofs.num_kind.Tie as tie
 
-returns : tie.Need-returns
-returns c = simp (lt-leb LITERAL (c .before .args .n) (c .if1 .taken))
+parameter : tie.Need-returns
+parameter c = simp (lt-leb LITERAL (c .before .args .n) (c .if1 .taken))
 
-returns-2 : tie.Need-returns-2
-returns-2 c = simp (le-leb LITERAL (c .before .args .n) (c .if1 .left))
+literal : tie.Need-returns-2
+literal c = simp (le-leb LITERAL (c .before .args .n) (c .if1 .left))
 
 pub num-kind-spec : {M : Type 1} → statement M
-num-kind-spec = tie.close (tie.spec returns returns-2)
+num-kind-spec = tie.close (tie.spec parameter literal)

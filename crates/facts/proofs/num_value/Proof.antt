@@ -6,14 +6,14 @@ use Rattle.grammar.proofs.Position.{num-pos}
 use Rattle.facts.proofs.num_value.Statement.{statement}
 use Rattle.facts.proofs.num_value.Tie as tie
 
-sub-result : tie.Need-sub-result
-sub-result c = omega (arith, num-pos (c .before .args .n) (c .before .pre))
+sub-parameter : tie.Need-sub-result
+sub-parameter c = omega (arith, num-pos (c .before .args .n) (c .before .pre))
 
-returns : tie.Need-returns
-returns c = simp (lt-leb LITERAL (c .before .args .n) (c .if1 .taken))
+parameter : tie.Need-returns
+parameter c = simp (lt-leb LITERAL (c .before .args .n) (c .if1 .taken))
 
-returns-2 : tie.Need-returns-2
-returns-2 c = simp (le-leb LITERAL (c .before .args .n) (c .if1 .left))
+literal : tie.Need-returns-2
+literal c = simp (le-leb LITERAL (c .before .args .n) (c .if1 .left))
 
 pub num-value-spec : {M : Type 1} → statement M
-num-value-spec = tie.close (tie.spec sub-result returns returns-2)
+num-value-spec = tie.close (tie.spec sub-parameter parameter literal)

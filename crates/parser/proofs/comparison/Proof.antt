@@ -76,8 +76,8 @@ op-word : (c : tie.Else1) →
     isOp (word (args .ws .now) (args .at)) ≡ true
 op-word c = ap isOp (sym (op-looked c .number-at .ensures)) ∙ is-op c
 
-returns : tie.Need-returns
-returns c =
+no-op : tie.Need-returns
+no-op c =
     let test = c .before .is-op in
     let first = c .before .before .before in
     let args = start first .args in
@@ -91,8 +91,8 @@ is-num c =
     let test = c .before .is-num in
     sym (test .ensures) ∙ not-false (test .result) (c .if2 .left)
 
-returns-2 : tie.Need-returns-2
-returns-2 c =
+no-num : tie.Need-returns-2
+no-num c =
     let test = c .before .is-num in
     let here = c .before .before in
     let no = sym (test .ensures) ∙ not-true (test .result) (c .if2 .taken) in
@@ -104,8 +104,8 @@ are-both : (c : tie.Else2) →
     comparisonAt (args .ws .now) (args .at) ≡ true
 are-both c = ap₂ _&&_ (op-word (at-op c)) (ap isNum (sym (num-looked c .number-at2 .ensures)) ∙ is-num c)
 
-sub-push : tie.Need-sub-push
-sub-push c =
+sub-op : tie.Need-sub-push
+sub-op c =
     let here = at-op (c .before) in
     op-pos (op-looked here .number-at .result) (is-op here)
 
@@ -115,8 +115,8 @@ num-value-requires c κs = is-num (c .before .before)
 is-upper-requires : tie.Need-is-upper-requires
 is-upper-requires c κs = is-op (at-op (at-num (c .before .before)))
 
-returns-3 : tie.Need-returns-3
-returns-3 c =
+op-num : tie.Need-returns-3
+op-num c =
     let after-push = c .before .before .before .before .before in
     let both = at-num after-push in
     let first = op-looked (at-op both) in
@@ -134,7 +134,7 @@ pub comparison-spec : {M : Type 1} → statement M
 comparison-spec =
     tie.close
     (tie.spec
-    (λ c κs. search needs) (λ c. search needs) (λ c κs. search needs) (λ c κs. search needs) returns
-    (λ c κs. search needs) returns-2 sub-push (λ c κs. search needs) num-value-requires (λ c κs. search needs)
+    (λ c κs. search needs) (λ c. search needs) (λ c κs. search needs) (λ c κs. search needs) no-op
+    (λ c κs. search needs) no-num sub-op (λ c κs. search needs) num-value-requires (λ c κs. search needs)
     (λ c. search needs) is-upper-requires (λ c κs. search needs) (λ c κs. search needs) (λ c. search needs)
-    returns-3)
+    op-num)

@@ -59,14 +59,14 @@ record-room c l = fits-push 4 (past-first (start c .pre) (sym (c .number-at .ens
 is-signal : (c : tie.Then1) → isSignal (signal-looked c .number-at .result) ≡ true
 is-signal c = sym (c .before .is-signal .ensures) ∙ c .if1 .taken
 
-sub-push : tie.Need-sub-push
-sub-push c = signal-pos (signal-looked (c .before) .number-at .result) (is-signal (c .before))
+sub-signal : tie.Need-sub-push
+sub-signal c = signal-pos (signal-looked (c .before) .number-at .result) (is-signal (c .before))
 
-push-requires : tie.Need-push-requires
-push-requires c κs = let w = sub-push c in record-room (signal-looked (c .before)) (omega arith)
+signal-fits : tie.Need-push-requires
+signal-fits c κs = let w = sub-signal c in record-room (signal-looked (c .before)) (omega arith)
 
-returns : tie.Need-returns
-returns c =
+a-signal : tie.Need-returns
+a-signal c =
     let here = c .before .before .before .before .before in
     let looked = signal-looked here in
     let args = start looked .args in
@@ -80,14 +80,14 @@ returns c =
 is-bit : (c : tie.Then2) → isBit (bit-looked c .number-at .result) ≡ true
 is-bit c = sym (c .before .is-bit .ensures) ∙ c .if2 .taken
 
-sub-push-2 : tie.Need-sub-push-2
-sub-push-2 c = bit-pos (bit-looked (c .before) .number-at .result) (is-bit (c .before))
+sub-bit : tie.Need-sub-push-2
+sub-bit c = bit-pos (bit-looked (c .before) .number-at .result) (is-bit (c .before))
 
-push-requires-2 : tie.Need-push-requires-2
-push-requires-2 c κs = let w = sub-push-2 c in record-room (bit-looked (c .before)) (omega arith)
+bit-fits : tie.Need-push-requires-2
+bit-fits c κs = let w = sub-bit c in record-room (bit-looked (c .before)) (omega arith)
 
-returns-2 : tie.Need-returns-2
-returns-2 c =
+a-bit : tie.Need-returns-2
+a-bit c =
     let here = c .before .before .before .before .before in
     let looked = bit-looked here in
     let args = start looked .args in
@@ -100,8 +100,8 @@ returns-2 c =
     (ap (λ (x : ℕ). row CONSTANT x 0 0) same) (c .before .before .before .push2 .ensures) (c .leaf-facts2 .ensures)
 
 -- Neither.
-returns-3 : tie.Need-returns-3
-returns-3 c =
+neither : tie.Need-returns-3
+neither c =
     let no-signal = c .before .before in
     let w = sym (no-signal .before .before .number-at .ensures) in
     no-leaf (ap isSignal w ∙ sym (no-signal .before .is-signal .ensures) ∙ no-signal .if1 .left)
@@ -111,6 +111,6 @@ pub leaf-spec : {M : Type 1} → statement M
 leaf-spec =
     tie.close
     (tie.spec
-    (λ c κs. search needs) (λ c κs. search needs) sub-push push-requires (λ c. search needs)
-    (λ c κs. search needs) (λ c. search needs) returns (λ c κs. search needs) sub-push-2 push-requires-2
-    (λ c. search needs) (λ c κs. search needs) (λ c. search needs) returns-2 returns-3)
+    (λ c κs. search needs) (λ c κs. search needs) sub-signal signal-fits (λ c. search needs)
+    (λ c κs. search needs) (λ c. search needs) a-signal (λ c κs. search needs) sub-bit bit-fits
+    (λ c. search needs) (λ c κs. search needs) (λ c. search needs) a-bit neither)

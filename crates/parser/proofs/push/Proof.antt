@@ -7,22 +7,22 @@ use borrow.Author.Needs.{needs}
 use Rattle.parser.proofs.push.Statement.{statement}
 use Rattle.parser.proofs.push.Tie as tie
 
-slice-write-arena-2 : tie.Need-slice-write-arena-2
-slice-write-arena-2 c = simp length-set (omega arith)
+second-fits : tie.Need-slice-write-arena-2
+second-fits c = simp length-set (omega arith)
 
-slice-write-arena-3 : tie.Need-slice-write-arena-3
-slice-write-arena-3 c = simp length-set (omega arith)
+third-fits : tie.Need-slice-write-arena-3
+third-fits c = simp length-set (omega arith)
 
-slice-write-arena-4 : tie.Need-slice-write-arena-4
-slice-write-arena-4 c = simp length-set (omega arith)
+fourth-fits : tie.Need-slice-write-arena-4
+fourth-fits c = simp length-set (omega arith)
 
-returns : tie.Need-returns
-returns c = record { end = refl; filled = simp towards-suc }
+stored : tie.Need-returns
+stored c = record { end = refl; filled = simp towards-suc }
 
 pub push-spec : {M : Type 1} → statement M
 push-spec =
     tie.close
     (tie.spec
-    (λ c. search needs) (λ c. search needs) (λ c. search needs) (λ c. search needs) slice-write-arena-2
-    (λ c. search needs) (λ c. search needs) slice-write-arena-3 (λ c. search needs) (λ c. search needs)
-    slice-write-arena-4 (λ c. search needs) (λ c. search needs) returns)
+    (λ c. search needs) (λ c. search needs) (λ c. search needs) (λ c. search needs) second-fits
+    (λ c. search needs) (λ c. search needs) third-fits (λ c. search needs) (λ c. search needs)
+    fourth-fits (λ c. search needs) (λ c. search needs) stored)

@@ -34,8 +34,8 @@ abbrev text : tie.After-parse-f → List ℕ
 text c = start (passed c) .args .ws .now
 
 -- Over the limits.
-returns : tie.Need-returns
-returns c =
+over-limits : tie.Need-returns
+over-limits c =
     let pass = c .before in
     laid-refused 5 (over-words (start pass .args .ws .now) (sym (pass .limits-of .ensures .0) ∙ c .if1 .taken))
 
@@ -44,8 +44,8 @@ within : (c : tie.After-parse-f) → over (text c) ≡ false
 within c = sym (passed c .limits-of .ensures .0) ∙ c .before .before .if1 .left
 
 -- no tree;
-returns-2 : tie.Need-returns-2
-returns-2 c =
+no-tree : tie.Need-returns-2
+no-tree c =
     let at-call = c .before .before .before .before in
     laid-refused 6
     (tree-words (text at-call) (within at-call)
@@ -61,30 +61,30 @@ fragment : (c : tie.After-known-told) → beyond (text (call c)) ≡ passed (cal
 fragment c = beyond-told _ (within (call c)) (passed (call c) .limits-of .ensures .1)
 
 -- a tree of some of the words only;
-returns-3 : tie.Need-returns-3
-returns-3 c =
+part-only : tie.Need-returns-3
+part-only c =
     let told = c .before in
     let ws = text (call told) in
     laid-refused 6 (tree-words ws (within (call told)) (part-tree ws (tree told .is) (c .if2 .taken)))
 
 -- one of all, outside the fragment;
-returns-4 : tie.Need-returns-4
-returns-4 c =
+outside : tie.Need-returns-4
+outside c =
     let told = c .before .before in
     laid-refused 7
     (beyond-words (tree told) (omega arith) (within (call told)) (c .before .if2 .left) (fragment told ∙ c .if3 .taken))
 
 -- inside it, without and with its leads.
-returns-5 : tie.Need-returns-5
-returns-5 c =
+no-lead : tie.Need-returns-5
+no-lead c =
     let told = c .before .before .before in
     let inside = fragment told ∙ c .before .if3 .left in
     laid-refused 8
     (no-lead-words (tree told) (omega arith) (within (call told)) (c .before .before .if2 .left) inside
     (not-true _ (c .if4 .taken)))
 
-returns-6 : tie.Need-returns-6
-returns-6 c =
+a-rule : tie.Need-returns-6
+a-rule c =
     let told = c .before .before .before in
     let inside = fragment told ∙ c .before .if3 .left in
     laid-rule (tree told) (omega arith) (within (call told)) (c .before .before .if2 .left) inside
@@ -94,6 +94,6 @@ pub read-words-spec : {M : Type 1} → statement M
 read-words-spec =
     tie.close
     (tie.spec
-    (λ c κs. search needs) returns (λ c κs. search needs) (λ c. search needs) (λ c. search needs)
-    (λ c. search needs) returns-2 (λ c. search needs) returns-3 (λ c. search needs) returns-4
-    (λ c. search needs) returns-5 (λ c. search needs) returns-6)
+    (λ c κs. search needs) over-limits (λ c κs. search needs) (λ c. search needs) (λ c. search needs)
+    (λ c. search needs) no-tree (λ c. search needs) part-only (λ c. search needs) outside
+    (λ c. search needs) no-lead (λ c. search needs) a-rule)

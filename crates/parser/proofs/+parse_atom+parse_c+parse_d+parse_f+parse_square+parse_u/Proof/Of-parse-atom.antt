@@ -76,20 +76,20 @@ module _ (t : ℕ) where
       let w = test-pos (test-looked c .number-at .result) (is-test c) in
       looked-space (test-looked c) (omega arith)
 
-  add-parse-square : Here lts.Need-add-parse-square
-  add-parse-square c = let s = test-space c in omega arith
+  add-test : Here lts.Need-add-parse-square
+  add-test c = let s = test-space c in omega arith
 
-  parse-square-requires : Here lts.Need-parse-square-requires
-  parse-square-requires c κs =
+  test-requires : Here lts.Need-parse-square-requires
+  test-requires c κs =
       let here = c .before in
       let s = test-space here in
       (omega (arith, start (test-looked here) .pre .0), room s)
 
-  same-length : Here lts.Need-same-length
-  same-length c = c .before .before .before .before .parse-square .kept .1 .1 .0
+  test-no-p-length : Here lts.Need-same-length
+  test-no-p-length c = c .before .before .before .before .parse-square .kept .1 .1 .0
 
-  returns : Here lts.Need-returns
-  returns c =
+  test-no-p : Here lts.Need-returns
+  test-no-p c =
       let call = c .before .before .before .before in
       Steps.test-no (test-word (at-test call)) (lost (call .parse-square .ensures) (c .enum-told .given .1))
 
@@ -100,31 +100,31 @@ module _ (t : ℕ) where
       (c .before .j .given .0) (test-call c .parse-square .last .1 .1 .0)
   test-tree c = took (test-call c .parse-square .ensures) (λ a m h. span h) (c .before .j .given .1)
 
-  sub-push : Here lts.Need-sub-push
-  sub-push c =
+  sub-test : Here lts.Need-sub-push
+  sub-test c =
       let here = at-test (test-call (c .before)) in
       test-pos (test-looked here .number-at .result) (is-test here)
 
-  add-push : Here lts.Need-add-push
-  add-push c =
+  add-test-kind : Here lts.Need-add-push
+  add-test-kind c =
       let here = at-test (test-call (c .before)) in
       omega (arith, test-high (test-looked here .number-at .result) (is-test here))
 
-  push-requires : Here lts.Need-push-requires
-  push-requires c κs =
+  test-fits : Here lts.Need-push-requires
+  test-fits c κs =
       let tree = c .before in
       fits-tree 4 (test-space (at-test (test-call tree))) (test-tree tree .part)
 
   is-lead-test-requires : Here lts.Need-is-lead-test-requires
   is-lead-test-requires c κs = is-test (at-test (test-call (c .before .before .before .before)))
 
-  same-length-2 : Here lts.Need-same-length-2
-  same-length-2 c =
+  test-p-length : Here lts.Need-same-length-2
+  test-p-length c =
       let after-push = c .before .before .before .before in
       after-push .push .kept .0 ∙ test-call (after-push .before .before) .parse-square .kept .1 .1 .0
 
-  returns-2 : Here lts.Need-returns-2
-  returns-2 c =
+  test-p : Here lts.Need-returns-2
+  test-p c =
       let after-push = c .before .before .before .before in
       let tree = after-push .before .before in
       let here = at-test (test-call tree) in
@@ -142,17 +142,17 @@ module _ (t : ℕ) where
       Space 8 (args .ws .now) (args .at + 1) (args .arena .now) (args .top)
   len-space c = past-first (start (len-looked c) .pre .1) (len-word c) (omega arith)
 
-  add-comparison : Here lts.Need-add-comparison
-  add-comparison c = let s = len-space c in omega arith
+  add-len : Here lts.Need-add-comparison
+  add-len c = let s = len-space c in omega arith
 
-  comparison-requires : Here lts.Need-comparison-requires
-  comparison-requires c κs = let s = len-space (c .before) in (omega arith, fits-push 4 s)
+  len-requires : Here lts.Need-comparison-requires
+  len-requires c κs = let s = len-space (c .before) in (omega arith, fits-push 4 s)
 
-  same-length-3 : Here lts.Need-same-length-3
-  same-length-3 c = c .before .before .comparison .kept .1 .1 .0
+  a-len-length : Here lts.Need-same-length-3
+  a-len-length c = c .before .before .comparison .kept .1 .1 .0
 
-  returns-3 : Here lts.Need-returns-3
-  returns-3 c = Steps.A-len (len-word (c .before .before .before .before)) (c .before .before .comparison .ensures)
+  a-len : Here lts.Need-returns-3
+  a-len c = Steps.A-len (len-word (c .before .before .before .before)) (c .before .before .comparison .ensures)
 
   -- A count,
   is-count : (c : Here lts.Then3) → isCount (count-looked c .number-at .result) ≡ true
@@ -170,20 +170,20 @@ module _ (t : ℕ) where
       let w = count-pos (count-looked c .number-at .result) (is-count c) in
       looked-space (count-looked c) (omega arith)
 
-  add-parse-square-2 : Here lts.Need-add-parse-square-2
-  add-parse-square-2 c = let s = count-space c in omega arith
+  add-count : Here lts.Need-add-parse-square-2
+  add-count c = let s = count-space c in omega arith
 
-  parse-square-requires-2 : Here lts.Need-parse-square-requires-2
-  parse-square-requires-2 c κs =
+  count-requires : Here lts.Need-parse-square-requires-2
+  count-requires c κs =
       let here = c .before in
       let s = count-space here in
       (omega (arith, start (count-looked here) .pre .0), room s)
 
-  same-length-4 : Here lts.Need-same-length-4
-  same-length-4 c = c .before .before .before .before .parse-square2 .kept .1 .1 .0
+  count-no-p-length : Here lts.Need-same-length-4
+  count-no-p-length c = c .before .before .before .before .parse-square2 .kept .1 .1 .0
 
-  returns-4 : Here lts.Need-returns-4
-  returns-4 c =
+  count-no-p : Here lts.Need-returns-4
+  count-no-p c =
       let call = c .before .before .before .before in
       Steps.count-no (count-word (at-count call)) (lost (call .parse-square2 .ensures) (c .enum-told2 .given .1))
 
@@ -194,40 +194,40 @@ module _ (t : ℕ) where
       (c .before .j2 .given .0) (count-call c .parse-square2 .last .1 .1 .0)
   count-tree c = took (count-call c .parse-square2 .ensures) (λ a m h. span h) (c .before .j2 .given .1)
 
-  sub-comparison : Here lts.Need-sub-comparison
-  sub-comparison c =
+  sub-count : Here lts.Need-sub-comparison
+  sub-count c =
       let here = at-count (count-call (c .before)) in
       count-pos (count-looked here .number-at .result) (is-count here)
 
-  add-comparison-2 : Here lts.Need-add-comparison-2
-  add-comparison-2 c =
+  add-count-kind : Here lts.Need-add-comparison-2
+  add-count-kind c =
       let here = at-count (count-call (c .before)) in
       omega (arith, count-high (count-looked here .number-at .result) (is-count here))
 
   is-lead-count-requires : Here lts.Need-is-lead-count-requires
   is-lead-count-requires c κs = is-count (at-count (count-call (c .before)))
 
-  comparison-requires-2 : Here lts.Need-comparison-requires-2
-  comparison-requires-2 c κs =
+  count-compared : Here lts.Need-comparison-requires-2
+  count-compared c κs =
       let tree = c .before .before in
       let s = past-tree (count-space (at-count (count-call tree))) (count-tree tree .part) in
       (omega arith, fits-push 4 s)
 
-  same-length-5 : Here lts.Need-same-length-5
-  same-length-5 c =
+  count-p-length : Here lts.Need-same-length-5
+  count-p-length c =
       let tree = c .before .before .before .before .before in
       c .before .before .comparison2 .kept .1 .1 .0 ∙ count-call tree .parse-square2 .kept .1 .1 .0
 
-  returns-5 : Here lts.Need-returns-5
-  returns-5 c =
+  count-p : Here lts.Need-returns-5
+  count-p c =
       let tree = c .before .before .before .before .before in
       let here = at-count (count-call tree) in
       Steps.A-count (count-word here) (count-tree tree) (count-looked here .number-at .ensures)
       (c .before .before .before .is-lead-count .ensures) (c .before .before .comparison2 .ensures)
 
   -- Any other word.
-  returns-6 : Here lts.Need-returns-6
-  returns-6 c =
+  no-atom : Here lts.Need-returns-6
+  no-atom c =
       let no-len = c .before .before in
       let no-test = no-len .before in
       let looked = no-test .before .before in
@@ -240,9 +240,9 @@ module _ (t : ℕ) where
   pub met : {M : Type 1} → lts.Closed (calls-parse-atom t) (parse-atom-at t) reads.Post M
   met =
       lts.spec (calls-parse-atom t) (parse-atom-at t) reads.Post
-      (λ c κs. search needs) (λ c κs. search needs) add-parse-square parse-square-requires (λ c. search needs)
-      (λ c. search needs) same-length returns sub-push add-push push-requires is-lead-test-requires
-      (λ c κs. search needs) same-length-2 returns-2 add-comparison comparison-requires same-length-3 returns-3
-      (λ c κs. search needs) add-parse-square-2 parse-square-requires-2 (λ c. search needs) (λ c. search needs)
-      same-length-4 returns-4 sub-comparison add-comparison-2 is-lead-count-requires comparison-requires-2
-      same-length-5 returns-5 returns-6
+      (λ c κs. search needs) (λ c κs. search needs) add-test test-requires (λ c. search needs)
+      (λ c. search needs) test-no-p-length test-no-p sub-test add-test-kind test-fits is-lead-test-requires
+      (λ c κs. search needs) test-p-length test-p add-len len-requires a-len-length a-len
+      (λ c κs. search needs) add-count count-requires (λ c. search needs) (λ c. search needs)
+      count-no-p-length count-no-p sub-count add-count-kind is-lead-count-requires count-compared
+      count-p-length count-p no-atom

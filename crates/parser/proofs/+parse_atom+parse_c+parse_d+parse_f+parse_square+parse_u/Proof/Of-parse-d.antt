@@ -40,11 +40,11 @@ module _ (t : ℕ) where
   abbrev start : Here lts.After-parse-c → Here lts.Start
   start c = c .before .before .before .before
 
-  abbrev call : Here lts.After-known-told → Here lts.After-parse-c
-  call c = c .before .before .before .before .before
+  abbrev first-call : Here lts.After-known-told → Here lts.After-parse-c
+  first-call c = c .before .before .before .before .before
 
   abbrev begun : Here lts.At-loop → Here lts.Start
-  begun c = start (call (c .before))
+  begun c = start (first-call (c .before))
 
   abbrev head : Here lts.Then1 → Here lts.At-loop
   head c = c .before .before
@@ -52,31 +52,31 @@ module _ (t : ℕ) where
   abbrev joining : Here lts.After-parse-c2 → Here lts.Then1
   joining c = c .before .before
 
-  abbrev call-2 : Here lts.After-known-told2 → Here lts.After-parse-c2
-  call-2 c = c .before .before .before .before .before
+  abbrev more-call : Here lts.After-known-told2 → Here lts.After-parse-c2
+  more-call c = c .before .before .before .before .before
 
   -- The first part, if there is one,
-  parse-c-requires : Here lts.Need-parse-c-requires
-  parse-c-requires c κs =
+  first-requires : Here lts.Need-parse-c-requires
+  first-requires c κs =
       let pre = c .before .before .before .pre in
       (omega (arith, pre .0), pre .1)
 
-  same-length : Here lts.Need-same-length
-  same-length c = c .before .before .before .before .parse-c .kept .1 .1 .1 .0
+  none-length : Here lts.Need-same-length
+  none-length c = c .before .before .before .before .parse-c .kept .1 .1 .1 .0
 
-  returns : Here lts.Need-returns
-  returns c =
+  none : Here lts.Need-returns
+  none c =
       let at-call = c .before .before .before .before in
       Chains.none (chain-D (start at-call .args .inside)) (lost (at-call .parse-c .ensures) (c .enum-told .given .1))
 
   first : (c : Here lts.After-known-told) →
-      let args = start (call c) .args in
+      let args = start (first-call c) .args in
       let part = c .before .first .given .0 in
       Turn (goD (args .inside)) (goDs (args .inside)) (args .ws .now) (args .at) (args .arena .now) (args .top)
-      (part .0) (part .1 .0) (part .1 .1 .0) (call c .parse-c .last .1 .1 .1 .0)
+      (part .0) (part .1 .0) (part .1 .1 .0) (first-call c .parse-c .last .1 .1 .1 .0)
   first c =
-      Chains.first (chain-D (start (call c) .args .inside))
-      (took (call c .parse-c .ensures) (λ a m h. span h) (c .before .first .given .1))
+      Chains.first (chain-D (start (first-call c) .args .inside))
+      (took (first-call c .parse-c .ensures) (λ a m h. span h) (c .before .first .given .1))
 
   loop-holds : Here lts.Need-loop-holds
   loop-holds c = λ o h. h
@@ -100,22 +100,22 @@ module _ (t : ℕ) where
   join-space c =
       Chains.joined (chain-D (begun (head c) .args .inside)) (begun (head c) .pre .1) (parts (head c)) (join-word c)
 
-  add-parse-c : Here lts.Need-add-parse-c
-  add-parse-c c = let s = join-space c in omega arith
+  add-more : Here lts.Need-add-parse-c
+  add-more c = let s = join-space c in omega arith
 
-  parse-c-requires-2 : Here lts.Need-parse-c-requires-2
-  parse-c-requires-2 c κs =
+  more-requires : Here lts.Need-parse-c-requires-2
+  more-requires c κs =
       let s = join-space (c .before) in
       let p = parts (head (c .before)) .part .spans in
       (omega (arith, begun (head (c .before)) .pre .0), room s)
 
-  same-length-2 : Here lts.Need-same-length-2
-  same-length-2 c =
+  missing-length : Here lts.Need-same-length-2
+  missing-length c =
       let at-call = c .before .before .before .before in
       at-call .parse-c2 .kept .1 .1 .1 .0 ∙ same-size (parts (head (joining at-call)) .part)
 
-  returns-2 : Here lts.Need-returns-2
-  returns-2 c =
+  missing : Here lts.Need-returns-2
+  missing c =
       let at-call = c .before .before .before .before in
       let here = joining at-call in
       Chains.missing (chain-D (begun (head here) .args .inside)) (parts (head here)) (join-word here)
@@ -123,21 +123,21 @@ module _ (t : ℕ) where
 
   -- One part more.
   more : (c : Here lts.After-known-told2) →
-      let here = head (joining (call-2 c)) in
+      let here = head (joining (more-call c)) in
       let args = begun here .args in
       Gave (goC (args .inside)) (args .ws .now) (here .loop .j + 1) (here .loop .arena) (here .loop .t)
-      (c .before .m .given .0) (call-2 c .parse-c2 .last .1 .1 .1 .0)
-  more c = took (call-2 c .parse-c2 .ensures) (λ a m h. span h) (c .before .m .given .1)
+      (c .before .m .given .0) (more-call c .parse-c2 .last .1 .1 .1 .0)
+  more c = took (more-call c .parse-c2 .ensures) (λ a m h. span h) (c .before .m .given .1)
 
-  push-requires : Here lts.Need-push-requires
-  push-requires c κs =
+  more-fits : Here lts.Need-push-requires
+  more-fits c κs =
       let told = c .before in
-      fits-tree 4 (join-space (joining (call-2 told))) (more told .part)
+      fits-tree 4 (join-space (joining (more-call told))) (more told .part)
 
   join-facts-requires : Here lts.Need-join-facts-requires
   join-facts-requires c κs =
       let told = c .before .before .before .before in
-      let here = head (joining (call-2 told)) in
+      let here = head (joining (more-call told)) in
       let few = begun here .pre .1 .few in
       (few-nodes few (parts here .part), few-nodes few (more told .part))
 
@@ -147,17 +147,17 @@ module _ (t : ℕ) where
   loop-again : Here lts.Need-loop-again
   loop-again c =
       let told = c .before .before .before .before .before in
-      let here = joining (call-2 told) in
+      let here = joining (more-call told) in
       λ o h.
       Chains.more (chain-D (begun (head here) .args .inside)) (head here .loop .inv o h) (join-word here) (more told)
       (c .before .before .before .push .ensures) (c .join-facts .ensures)
 
   -- No part more.
-  same-length-3 : Here lts.Need-same-length-3
-  same-length-3 c = same-size (parts (c .before .before) .part)
+  done-length : Here lts.Need-same-length-3
+  done-length c = same-size (parts (c .before .before) .part)
 
-  returns-3 : Here lts.Need-returns-3
-  returns-3 c =
+  done : Here lts.Need-returns-3
+  done c =
       let here = c .before .before in
       Chains.done (chain-D (begun here .args .inside)) (parts here)
       (λ e. c .if1 .left (c .before .number-at .ensures ∙ e))
@@ -166,6 +166,6 @@ module _ (t : ℕ) where
   pub met : {M : Type 1} → lts.Closed (calls-parse-d t) (parse-d-at t) reads.Post M
   met =
       lts.spec (calls-parse-d t) (parse-d-at t) reads.Post Inv-loop μ-loop
-      parse-c-requires (λ c. search needs) (λ c. search needs) same-length returns loop-holds
-      (λ c κs. search needs) add-parse-c parse-c-requires-2 (λ c. search needs) (λ c. search needs) same-length-2
-      returns-2 push-requires join-facts-requires loop-less loop-again same-length-3 returns-3
+      first-requires (λ c. search needs) (λ c. search needs) none-length none loop-holds
+      (λ c κs. search needs) add-more more-requires (λ c. search needs) (λ c. search needs) missing-length
+      missing more-fits join-facts-requires loop-less loop-again done-length done

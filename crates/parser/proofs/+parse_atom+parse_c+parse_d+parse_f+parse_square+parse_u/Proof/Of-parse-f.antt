@@ -76,11 +76,11 @@ module _ (t : ℕ) where
       let pre = c .before .before .before .pre in
       (omega (arith, pre .0), pre .1)
 
-  same-length : Here lts.Need-same-length
-  same-length c = c .before .before .before .before .parse-d .kept .1 .1 .1 .0
+  no-d-length : Here lts.Need-same-length
+  no-d-length c = c .before .before .before .before .parse-d .kept .1 .1 .1 .0
 
-  returns : Here lts.Need-returns
-  returns c = Steps.F-no (lost (c .before .before .before .before .parse-d .ensures) (c .enum-told .given .1))
+  no-d : Here lts.Need-returns
+  no-d c = Steps.F-no (lost (c .before .before .before .before .parse-d .ensures) (c .enum-told .given .1))
 
   -- A D, and the room after it.
   d-tree : (c : Here lts.After-known-told) →
@@ -91,11 +91,11 @@ module _ (t : ℕ) where
   d-space : (c : Here lts.After-known-told) → Space 0 (text c) (next c) (arena c) (end c)
   d-space c = past-tree (space (start (d-call c) .pre .1)) (d-tree c .part)
 
-  same-length-2 : Here lts.Need-same-length-2
-  same-length-2 c = d-call (c .before) .parse-d .kept .1 .1 .1 .0
+  d-inside-length : Here lts.Need-same-length-2
+  d-inside-length c = d-call (c .before) .parse-d .kept .1 .1 .1 .0
 
-  returns-2 : Here lts.Need-returns-2
-  returns-2 c =
+  d-inside : Here lts.Need-returns-2
+  d-inside c =
       let here = c .before in
       Steps.F-one (d-tree here) (ap (λ (x : Bool). joinOf x (word (text here) (next here))) (c .if1 .taken))
 
@@ -110,8 +110,8 @@ module _ (t : ℕ) where
       let d = then-d c in
       past-word (d-space d) (inside (text d) (next d) (omega (arith, then-word c)))
 
-  push-requires : Here lts.Need-push-requires
-  push-requires c κs = fits-push 4 (then-space (c .before))
+  mark-fits : Here lts.Need-push-requires
+  mark-fits c κs = fits-push 4 (then-space (c .before))
 
   -- and for one after the mark;
   mark-space : (c : Here lts.After-push) →
@@ -119,26 +119,26 @@ module _ (t : ℕ) where
       Space 4 (text d) (next d + 1) (c .push .last .0) (c .push .result)
   mark-space c = past-push 4 (then-space (mark-then c)) (c .push .ensures)
 
-  add-parse-f : Here lts.Need-add-parse-f
-  add-parse-f c = let s = then-space (c .before .before .before .before) in omega arith
+  add-then : Here lts.Need-add-parse-f
+  add-then c = let s = then-space (c .before .before .before .before) in omega arith
 
-  parse-f-requires : Here lts.Need-parse-f-requires
-  parse-f-requires c κs =
+  then-requires : Here lts.Need-parse-f-requires
+  then-requires c κs =
       let mark = c .before .before .before in
       let d = then-d (mark-then mark) in
       let s = mark-space mark in
       let p = d-tree d .part .spans in
       (omega (arith, start (d-call d) .pre .0), room s)
 
-  same-length-3 : Here lts.Need-same-length-3
-  same-length-3 c =
+  then-no-f-length : Here lts.Need-same-length-3
+  then-no-f-length c =
       let call = c .before .before .before .before in
       let mark = call-mark call in
       let d = then-d (mark-then mark) in
       call .parse-f .kept .1 .1 .1 .0 ∙ mark .push .kept .0 ∙ d-call d .parse-d .kept .1 .1 .1 .0
 
-  returns-3 : Here lts.Need-returns-3
-  returns-3 c =
+  then-no-f : Here lts.Need-returns-3
+  then-no-f c =
       let call = c .before .before .before .before in
       let here = mark-then (call-mark call) in
       Steps.then-no (d-tree (then-d here)) (here .before .before .if1 .left) (then-word here)
@@ -152,8 +152,8 @@ module _ (t : ℕ) where
       (c .before .m .given .0) (then-call c .parse-f .last .1 .1 .1 .0)
   then-tree c = took (then-call c .parse-f .ensures) (λ a m h. span h) (c .before .m .given .1)
 
-  push-requires-2 : Here lts.Need-push-requires-2
-  push-requires-2 c κs =
+  then-fits : Here lts.Need-push-requires-2
+  then-fits c κs =
       let tree = c .before in
       fits-tree 0 (mark-space (call-mark (then-call tree))) (then-tree tree .part)
 
@@ -164,16 +164,16 @@ module _ (t : ℕ) where
       let few = start (d-call d) .pre .1 .few in
       (few-nodes few (d-tree d .part), few-nodes few (then-tree tree .part))
 
-  same-length-4 : Here lts.Need-same-length-4
-  same-length-4 c =
+  then-f-length : Here lts.Need-same-length-4
+  then-f-length c =
       let tree = c .before .before .before .before .before in
       let mark = call-mark (then-call tree) in
       let d = then-d (mark-then mark) in
       c .before .before .before .push2 .kept .0 ∙ then-call tree .parse-f .kept .1 .1 .1 .0
       ∙ mark .push .kept .0 ∙ d-call d .parse-d .kept .1 .1 .1 .0
 
-  returns-4 : Here lts.Need-returns-4
-  returns-4 c =
+  then-f : Here lts.Need-returns-4
+  then-f c =
       let tree = c .before .before .before .before .before in
       let mark = call-mark (then-call tree) in
       let here = mark-then mark in
@@ -191,23 +191,23 @@ module _ (t : ℕ) where
       let d = chop-d c in
       past-word (d-space d) (inside (text d) (next d) (omega (arith, chop-word c)))
 
-  add-parse-f-2 : Here lts.Need-add-parse-f-2
-  add-parse-f-2 c = let s = chop-space c in omega arith
+  add-chop : Here lts.Need-add-parse-f-2
+  add-chop c = let s = chop-space c in omega arith
 
-  parse-f-requires-2 : Here lts.Need-parse-f-requires-2
-  parse-f-requires-2 c κs =
+  chop-requires : Here lts.Need-parse-f-requires-2
+  chop-requires c κs =
       let d = chop-d (c .before) in
       let s = chop-space (c .before) in
       let p = d-tree d .part .spans in
       (omega (arith, start (d-call d) .pre .0), room s)
 
-  same-length-5 : Here lts.Need-same-length-5
-  same-length-5 c =
+  chop-no-f-length : Here lts.Need-same-length-5
+  chop-no-f-length c =
       let call = c .before .before .before .before in
       call .parse-f2 .kept .1 .1 .1 .0 ∙ d-call (chop-d (call-chop call)) .parse-d .kept .1 .1 .1 .0
 
-  returns-5 : Here lts.Need-returns-5
-  returns-5 c =
+  chop-no-f : Here lts.Need-returns-5
+  chop-no-f c =
       let call = c .before .before .before .before in
       let here = call-chop call in
       Steps.chop-no (d-tree (chop-d here)) (here .before .before .before .if1 .left) (chop-word here)
@@ -219,8 +219,8 @@ module _ (t : ℕ) where
       (c .before .m2 .given .0) (chop-call c .parse-f2 .last .1 .1 .1 .0)
   chop-tree c = took (chop-call c .parse-f2 .ensures) (λ a m h. span h) (c .before .m2 .given .1)
 
-  push-requires-3 : Here lts.Need-push-requires-3
-  push-requires-3 c κs =
+  chop-fits : Here lts.Need-push-requires-3
+  chop-fits c κs =
       let tree = c .before in
       fits-tree 4 (chop-space (call-chop (chop-call tree))) (chop-tree tree .part)
 
@@ -231,26 +231,26 @@ module _ (t : ℕ) where
       let few = start (d-call d) .pre .1 .few in
       (few-nodes few (d-tree d .part), few-nodes few (chop-tree tree .part))
 
-  same-length-6 : Here lts.Need-same-length-6
-  same-length-6 c =
+  chop-f-length : Here lts.Need-same-length-6
+  chop-f-length c =
       let tree = c .before .before .before .before .before in
       let d = chop-d (call-chop (chop-call tree)) in
       c .before .before .before .push3 .kept .0 ∙ chop-call tree .parse-f2 .kept .1 .1 .1 .0
       ∙ d-call d .parse-d .kept .1 .1 .1 .0
 
-  returns-6 : Here lts.Need-returns-6
-  returns-6 c =
+  chop-f : Here lts.Need-returns-6
+  chop-f c =
       let tree = c .before .before .before .before .before in
       let here = call-chop (chop-call tree) in
       Steps.F-chop (d-tree (chop-d here)) (here .before .before .before .if1 .left) (chop-word here) (chop-tree tree)
       (c .before .before .before .push3 .ensures) (c .chop-facts .ensures)
 
   -- Neither: the D alone.
-  same-length-7 : Here lts.Need-same-length-7
-  same-length-7 c = d-call (c .before .before .before .before) .parse-d .kept .1 .1 .1 .0
+  d-alone-length : Here lts.Need-same-length-7
+  d-alone-length c = d-call (c .before .before .before .before) .parse-d .kept .1 .1 .1 .0
 
-  returns-7 : Here lts.Need-returns-7
-  returns-7 c =
+  d-alone : Here lts.Need-returns-7
+  d-alone c =
       let looked = c .before .before in
       let d = looked .before .before in
       Steps.F-one (d-tree d)
@@ -261,8 +261,8 @@ module _ (t : ℕ) where
   pub met : {M : Type 1} → lts.Closed (calls-parse-f t) (parse-f-at t) reads.Post M
   met =
       lts.spec (calls-parse-f t) (parse-f-at t) reads.Post
-      parse-d-requires (λ c. search needs) (λ c. search needs) same-length returns same-length-2 returns-2
-      (λ c κs. search needs) push-requires add-parse-f parse-f-requires (λ c. search needs) (λ c. search needs)
-      same-length-3 returns-3 push-requires-2 then-facts-requires same-length-4 returns-4 add-parse-f-2
-      parse-f-requires-2 (λ c. search needs) (λ c. search needs) same-length-5 returns-5 push-requires-3
-      chop-facts-requires same-length-6 returns-6 same-length-7 returns-7
+      parse-d-requires (λ c. search needs) (λ c. search needs) no-d-length no-d d-inside-length d-inside
+      (λ c κs. search needs) mark-fits add-then then-requires (λ c. search needs) (λ c. search needs)
+      then-no-f-length then-no-f then-fits then-facts-requires then-f-length then-f add-chop
+      chop-requires (λ c. search needs) (λ c. search needs) chop-no-f-length chop-no-f chop-fits
+      chop-facts-requires chop-f-length chop-f d-alone-length d-alone

@@ -48,62 +48,62 @@ module _ (t : ℕ) where
   open-space c = past-first (start c .pre .1) (open-word c) (omega arith)
 
   -- What stands in the brackets.
-  one : (c : Here lts.After-known-told) →
+  contents : (c : Here lts.After-known-told) →
       let args = start (opening (call c)) .args in
       Gave (goF true) (args .ws .now) (args .at + 1) (args .arena .now) (args .top)
       (c .before .j .given .0) (call c .parse-f .last .1 .1 .1 .0)
-  one c = took (call c .parse-f .ensures) (λ a m h. span h) (c .before .j .given .1)
+  contents c = took (call c .parse-f .ensures) (λ a m h. span h) (c .before .j .given .1)
 
   -- No bracket opens;
-  returns : Here lts.Need-returns
-  returns c = Steps.B-no (λ e. c .if1 .taken (c .before .number-at .ensures ∙ e))
+  unopened : Here lts.Need-returns
+  unopened c = Steps.B-no (λ e. c .if1 .taken (c .before .number-at .ensures ∙ e))
 
   add-parse-f : Here lts.Need-add-parse-f
   add-parse-f c = let s = open-space c in omega arith
 
-  parse-f-requires : Here lts.Need-parse-f-requires
-  parse-f-requires c κs =
+  contents-requires : Here lts.Need-parse-f-requires
+  contents-requires c κs =
       let s = open-space (c .before) in
       (omega (arith, start (c .before) .pre .0), room s)
 
   -- no P stands in it;
-  same-length : Here lts.Need-same-length
-  same-length c = c .before .before .before .before .parse-f .kept .1 .1 .1 .0
+  empty-length : Here lts.Need-same-length
+  empty-length c = c .before .before .before .before .parse-f .kept .1 .1 .1 .0
 
-  returns-2 : Here lts.Need-returns-2
-  returns-2 c =
+  empty : Here lts.Need-returns-2
+  empty c =
       let at-call = c .before .before .before .before in
       Steps.bracket-no square (open-word (opening at-call)) (lost (at-call .parse-f .ensures) (c .enum-told .given .1))
 
   -- it stays open;
-  same-length-2 : Here lts.Need-same-length-2
-  same-length-2 c = call (c .before .before) .parse-f .kept .1 .1 .1 .0
+  unclosed-length : Here lts.Need-same-length-2
+  unclosed-length c = call (c .before .before) .parse-f .kept .1 .1 .1 .0
 
-  returns-3 : Here lts.Need-returns-3
-  returns-3 c =
+  unclosed : Here lts.Need-returns-3
+  unclosed c =
       let told = c .before .before in
-      Steps.bracket-open square (open-word (opening (call told))) (one told)
+      Steps.bracket-open square (open-word (opening (call told))) (contents told)
       (λ e. c .if2 .taken (c .before .number-at2 .ensures ∙ e))
 
   -- it closes.
-  add-t11 : Here lts.Need-add-t11
-  add-t11 c =
+  add-end : Here lts.Need-add-t11
+  add-end c =
       let told = c .before .before in
-      let s = one told .part .spans in
+      let s = contents told .part .spans in
       omega (arith, start (opening (call told)) .pre .1 .few)
 
-  same-length-3 : Here lts.Need-same-length-3
-  same-length-3 c = call (c .before .before) .parse-f .kept .1 .1 .1 .0
+  closed-length : Here lts.Need-same-length-3
+  closed-length c = call (c .before .before) .parse-f .kept .1 .1 .1 .0
 
-  returns-4 : Here lts.Need-returns-4
-  returns-4 c =
+  closed : Here lts.Need-returns-4
+  closed c =
       let told = c .before .before in
-      Steps.bracket-closed square (open-word (opening (call told))) (one told)
+      Steps.bracket-closed square (open-word (opening (call told))) (contents told)
       (sym (c .before .number-at2 .ensures) ∙ c .if2 .left)
 
   -- So the member meets its contract, if the calls with lower measures do.
   pub met : {M : Type 1} → lts.Closed (calls-parse-square t) (parse-square-at t) reads.Post M
   met =
       lts.spec (calls-parse-square t) (parse-square-at t) reads.Post
-      (λ c κs. search needs) returns add-parse-f parse-f-requires (λ c. search needs) (λ c. search needs)
-      same-length returns-2 (λ c κs. search needs) same-length-2 returns-3 add-t11 same-length-3 returns-4
+      (λ c κs. search needs) unopened add-parse-f contents-requires (λ c. search needs) (λ c. search needs)
+      empty-length empty (λ c κs. search needs) unclosed-length unclosed add-end closed-length closed

@@ -74,19 +74,19 @@ module _ (t : ℕ) where
       Space 8 (args .ws .now) (args .at + 1) (args .arena .now) (args .top)
   not-space c = past-first (start (c .before) .pre .1) (not-word c) (omega arith)
 
-  add-parse-u : Here lts.Need-add-parse-u
-  add-parse-u c = let s = not-space c in omega arith
+  add-not : Here lts.Need-add-parse-u
+  add-not c = let s = not-space c in omega arith
 
-  parse-u-requires : Here lts.Need-parse-u-requires
-  parse-u-requires c κs =
+  not-requires : Here lts.Need-parse-u-requires
+  not-requires c κs =
       let s = not-space (c .before) in
       (omega (arith, start (c .before .before) .pre .0), room s)
 
-  same-length : Here lts.Need-same-length
-  same-length c = c .before .before .before .before .parse-u .kept .1 .1 .1 .0
+  not-no-u-length : Here lts.Need-same-length
+  not-no-u-length c = c .before .before .before .before .parse-u .kept .1 .1 .1 .0
 
-  returns : Here lts.Need-returns
-  returns c =
+  not-no-u : Here lts.Need-returns
+  not-no-u c =
       let call = c .before .before .before .before in
       Steps.not-no (not-word (at-not call)) (lost (call .parse-u .ensures) (c .enum-told .given .1))
 
@@ -97,8 +97,8 @@ module _ (t : ℕ) where
       (c .before .j .given .0) (not-call c .parse-u .last .1 .1 .1 .0)
   not-tree c = took (not-call c .parse-u .ensures) (λ a m h. span h) (c .before .j .given .1)
 
-  push-requires : Here lts.Need-push-requires
-  push-requires c κs =
+  not-fits : Here lts.Need-push-requires
+  not-fits c κs =
       let tree = c .before in
       fits-tree 4 (not-space (at-not (not-call tree))) (not-tree tree .part)
 
@@ -107,13 +107,13 @@ module _ (t : ℕ) where
       let tree = c .before .before .before .before in
       few-nodes (start (at-not (not-call tree) .before) .pre .1 .few) (not-tree tree .part)
 
-  same-length-2 : Here lts.Need-same-length-2
-  same-length-2 c =
+  not-u-length : Here lts.Need-same-length-2
+  not-u-length c =
       let tree = c .before .before .before .before .before in
       c .before .before .before .push .kept .0 ∙ not-call tree .parse-u .kept .1 .1 .1 .0
 
-  returns-2 : Here lts.Need-returns-2
-  returns-2 c =
+  not-u : Here lts.Need-returns-2
+  not-u c =
       let tree = c .before .before .before .before .before in
       Steps.U-not (not-word (at-not (not-call tree))) (not-tree tree)
       (c .before .before .before .push .ensures) (c .not-facts .ensures)
@@ -129,19 +129,19 @@ module _ (t : ℕ) where
       Space 8 (args .ws .now) (args .at + 1) (args .arena .now) (args .top)
   round-space c = past-first (round-start c .pre .1) (round-word c) (omega arith)
 
-  add-parse-f : Here lts.Need-add-parse-f
-  add-parse-f c = let s = round-space c in omega arith
+  add-round : Here lts.Need-add-parse-f
+  add-round c = let s = round-space c in omega arith
 
-  parse-f-requires : Here lts.Need-parse-f-requires
-  parse-f-requires c κs =
+  round-requires : Here lts.Need-parse-f-requires
+  round-requires c κs =
       let s = round-space (c .before) in
       (omega (arith, round-start (c .before) .pre .0), room s)
 
-  same-length-3 : Here lts.Need-same-length-3
-  same-length-3 c = c .before .before .before .before .parse-f .kept .1 .1 .1 .0
+  round-no-f-length : Here lts.Need-same-length-3
+  round-no-f-length c = c .before .before .before .before .parse-f .kept .1 .1 .1 .0
 
-  returns-3 : Here lts.Need-returns-3
-  returns-3 c =
+  round-no-f : Here lts.Need-returns-3
+  round-no-f c =
       let call = c .before .before .before .before in
       let here = at-round call in
       Steps.bracket-no (round (round-start here .args .inside)) (round-word here)
@@ -155,27 +155,27 @@ module _ (t : ℕ) where
   round-tree c = took (round-call c .parse-f .ensures) (λ a m h. span h) (c .before .j2 .given .1)
 
   -- and the bracket stays open or closes.
-  same-length-4 : Here lts.Need-same-length-4
-  same-length-4 c = round-call (c .before .before) .parse-f .kept .1 .1 .1 .0
+  unclosed-length : Here lts.Need-same-length-4
+  unclosed-length c = round-call (c .before .before) .parse-f .kept .1 .1 .1 .0
 
-  returns-4 : Here lts.Need-returns-4
-  returns-4 c =
+  unclosed : Here lts.Need-returns-4
+  unclosed c =
       let tree = c .before .before in
       let here = at-round (round-call tree) in
       Steps.bracket-open (round (round-start here .args .inside)) (round-word here) (round-tree tree)
       (λ e. c .if3 .taken (c .before .number-at2 .ensures ∙ e))
 
-  add-t28 : Here lts.Need-add-t28
-  add-t28 c =
+  add-end : Here lts.Need-add-t28
+  add-end c =
       let tree = c .before .before in
       let s = round-tree tree .part .spans in
       omega (arith, round-start (at-round (round-call tree)) .pre .1 .few)
 
-  same-length-5 : Here lts.Need-same-length-5
-  same-length-5 c = round-call (c .before .before) .parse-f .kept .1 .1 .1 .0
+  closed-length : Here lts.Need-same-length-5
+  closed-length c = round-call (c .before .before) .parse-f .kept .1 .1 .1 .0
 
-  returns-5 : Here lts.Need-returns-5
-  returns-5 c =
+  closed : Here lts.Need-returns-5
+  closed c =
       let tree = c .before .before in
       let here = at-round (round-call tree) in
       Steps.bracket-closed (round (round-start here .args .inside)) (round-word here) (round-tree tree)
@@ -196,11 +196,11 @@ module _ (t : ℕ) where
   leaf-requires : Here lts.Need-leaf-requires
   leaf-requires c κs = other-start (c .before .before) .pre .1
 
-  same-length-6 : Here lts.Need-same-length-6
-  same-length-6 c = c .before .before .leaf .kept .1 .1 .0
+  a-leaf-length : Here lts.Need-same-length-6
+  a-leaf-length c = c .before .before .leaf .kept .1 .1 .0
 
-  returns-6 : Here lts.Need-returns-6
-  returns-6 c =
+  a-leaf : Here lts.Need-returns-6
+  a-leaf c =
       let leaf = c .before .before in
       let here = leaf .before .before .before in
       Steps.U-leaf (no-not here) (no-round here) (leaf .before .before .if4 .taken) (leaf .leaf .ensures)
@@ -216,11 +216,11 @@ module _ (t : ℕ) where
       Space 8 (args .ws .now) (args .at + 1) (args .arena .now) (args .top)
   exists-space c = past-first (exists-start c .pre .1) (exists-word c) (omega arith)
 
-  add-number-at : Here lts.Need-add-number-at
-  add-number-at c = let s = exists-space c in omega arith
+  add-exists : Here lts.Need-add-number-at
+  add-exists c = let s = exists-space c in omega arith
 
-  returns-7 : Here lts.Need-returns-7
-  returns-7 c =
+  no-signal : Here lts.Need-returns-7
+  no-signal c =
       let test = c .before .is-signal in
       let here = c .before .before .before in
       let no = sym (test .ensures) ∙ not-true (test .result) (c .if6 .taken) in
@@ -248,20 +248,20 @@ module _ (t : ℕ) where
       let l = inside (args .ws .now) (args .at + 1) (omega (arith, signal .ensures)) in
       skip (exists-space (at-exists c)) (omega arith) (omega arith)
 
-  add-parse-u-2 : Here lts.Need-add-parse-u-2
-  add-parse-u-2 c = let s = signal-space c in omega arith
+  add-signal : Here lts.Need-add-parse-u-2
+  add-signal c = let s = signal-space c in omega arith
 
-  parse-u-requires-2 : Here lts.Need-parse-u-requires-2
-  parse-u-requires-2 c κs =
+  exists-requires : Here lts.Need-parse-u-requires-2
+  exists-requires c κs =
       let here = c .before in
       let s = signal-space here in
       (omega (arith, exists-start (at-exists here) .pre .0), room s)
 
-  same-length-7 : Here lts.Need-same-length-7
-  same-length-7 c = c .before .before .before .before .parse-u2 .kept .1 .1 .1 .0
+  exists-no-u-length : Here lts.Need-same-length-7
+  exists-no-u-length c = c .before .before .before .before .parse-u2 .kept .1 .1 .1 .0
 
-  returns-8 : Here lts.Need-returns-8
-  returns-8 c =
+  exists-no-u : Here lts.Need-returns-8
+  exists-no-u c =
       let call = c .before .before .before .before in
       let signal = at-signal call in
       let here = at-exists signal in
@@ -275,23 +275,23 @@ module _ (t : ℕ) where
       (c .before .j3 .given .0) (exists-call c .parse-u2 .last .1 .1 .1 .0)
   exists-tree c = took (exists-call c .parse-u2 .ensures) (λ a m h. span h) (c .before .j3 .given .1)
 
-  sub-push : Here lts.Need-sub-push
-  sub-push c =
+  sub-signal : Here lts.Need-sub-push
+  sub-signal c =
       let signal = at-signal (exists-call (c .before)) in
       signal-pos (signal .before .before .number-at3 .result) (is-signal signal)
 
-  push-requires-2 : Here lts.Need-push-requires-2
-  push-requires-2 c κs =
+  exists-fits : Here lts.Need-push-requires-2
+  exists-fits c κs =
       let tree = c .before in
       fits-tree 4 (signal-space (at-signal (exists-call tree))) (exists-tree tree .part)
 
-  same-length-8 : Here lts.Need-same-length-8
-  same-length-8 c =
+  exists-u-length : Here lts.Need-same-length-8
+  exists-u-length c =
       let tree = c .before .before .before .before .before in
       c .before .before .before .push2 .kept .0 ∙ exists-call tree .parse-u2 .kept .1 .1 .1 .0
 
-  returns-9 : Here lts.Need-returns-9
-  returns-9 c =
+  exists-u : Here lts.Need-returns-9
+  exists-u c =
       let tree = c .before .before .before .before .before in
       let signal = at-signal (exists-call tree) in
       let here = at-exists signal in
@@ -305,11 +305,11 @@ module _ (t : ℕ) where
       let pre = other-start (c .before .before .before) .pre in
       (omega (arith, pre .0), pre .1)
 
-  same-length-9 : Here lts.Need-same-length-9
-  same-length-9 c = c .before .before .parse-atom .kept .1 .1 .0
+  an-atom-length : Here lts.Need-same-length-9
+  an-atom-length c = c .before .before .parse-atom .kept .1 .1 .0
 
-  returns-10 : Here lts.Need-returns-10
-  returns-10 c =
+  an-atom : Here lts.Need-returns-10
+  an-atom c =
       let call = c .before .before in
       let no-exists = call .before .before in
       let outside = no-exists .before in
@@ -321,10 +321,10 @@ module _ (t : ℕ) where
   pub met : {M : Type 1} → lts.Closed (calls-parse-u t) (parse-u-at t) reads.Post M
   met =
       lts.spec (calls-parse-u t) (parse-u-at t) reads.Post
-      (λ c κs. search needs) add-parse-u parse-u-requires (λ c. search needs) (λ c. search needs) same-length
-      returns push-requires not-facts-requires same-length-2 returns-2 add-parse-f parse-f-requires
-      (λ c. search needs) (λ c. search needs) same-length-3 returns-3 (λ c κs. search needs) same-length-4 returns-4
-      add-t28 same-length-5 returns-5 leaf-requires same-length-6 returns-6 add-number-at (λ c κs. search needs)
-      (λ c κs. search needs) returns-7 add-parse-u-2 parse-u-requires-2 (λ c. search needs) (λ c. search needs)
-      same-length-7 returns-8 sub-push push-requires-2 (λ c κs. search needs) same-length-8 returns-9
-      parse-atom-requires same-length-9 returns-10
+      (λ c κs. search needs) add-not not-requires (λ c. search needs) (λ c. search needs) not-no-u-length not-no-u
+      not-fits not-facts-requires not-u-length not-u add-round round-requires (λ c. search needs)
+      (λ c. search needs) round-no-f-length round-no-f (λ c κs. search needs) unclosed-length unclosed add-end
+      closed-length closed leaf-requires a-leaf-length a-leaf add-exists (λ c κs. search needs)
+      (λ c κs. search needs) no-signal add-signal exists-requires (λ c. search needs) (λ c. search needs)
+      exists-no-u-length exists-no-u sub-signal exists-fits (λ c κs. search needs) exists-u-length exists-u
+      parse-atom-requires an-atom-length an-atom
