@@ -1,7 +1,7 @@
 // Reading a rule (document 01, "Read a rule"): its words, limits, grammar and fragment.
 use parser::Parsed;
 use words::Split;
-ghost use mathlib.Core.Bool.{Bool, not, _&&_, _||_};
+ghost use mathlib.Core.Bool.{not, _&&_, _||_};
 ghost use mathlib.Core.Path.{_≡_};
 ghost use Prim.Native.Nat.{_≤_};
 ghost use lib.Dec.{eqb};
