@@ -1,4 +1,5 @@
 -- `emitter::mark_all` meets its contract: `Marking` is its loop's invariant, what is left of the arena its measure.
+-- Assumes nothing.
 use Prim.Native.Nat.{_-_}
 use native.Mathlib.Omega.{arith}
 use borrow.Author.Needs.{needs}
@@ -16,42 +17,16 @@ abbrev μ-loop : tie.MeasureT-loop
 loop-holds : tie.Need-loop-holds Inv-loop μ-loop
 loop-holds c = marking-none
 
-add-loop : tie.Need-add-loop Inv-loop μ-loop
-add-loop c =
-    let the-good = c .before .before .before .good in
-    omega (arith, the-good .0 .1)
-
-record-at-requires : tie.Need-record-at-requires Inv-loop μ-loop
-record-at-requires c κs = omega arith
-
-add-k : tie.Need-add-k Inv-loop μ-loop
-add-k c = omega arith
-
-loop-less : tie.Need-loop-less Inv-loop μ-loop
-loop-less c = omega arith
-
 loop-again : tie.Need-loop-again Inv-loop μ-loop
 loop-again c =
-    let earlier = c .before .before .before .before in
-    let the-loop = earlier .before .before .loop in
-    let the-loop-test = c .before .before .before .before .before .loop-test in
-    let the-record-at = c .before .before .before .before .record-at in
-    let the-mark = c .before .before .mark in
-    marking-one (the-loop .inv) (the-loop-test .taken) (the-record-at .ensures) (the-mark .ensures) (the-mark .kept .0)
-
-same-length : tie.Need-same-length Inv-loop μ-loop
-same-length c =
-    let the-loop = c .before .loop in
-    the-loop .inv .same
+    let call = c .before .before in
+    let record-read = call .before .before in
+    let test = record-read .before in
+    marking-one (test .before .loop .inv) (test .loop-test .taken) (record-read .record-at .ensures)
+    (call .mark .ensures) (call .mark .kept .0)
 
 returns : tie.Need-returns Inv-loop μ-loop
-returns c =
-    let the-loop = c .before .loop in
-    let the-loop-test = c .loop-test in
-    marking-all (the-loop .inv) (the-loop-test .left)
-
-mark-requires : tie.Need-mark-requires Inv-loop μ-loop
-mark-requires c κs = search needs
+returns c = marking-all (c .before .loop .inv) (c .loop-test .left)
 
 pub mark-all-spec : {M : Type 1} → statement M
 mark-all-spec =
@@ -60,11 +35,11 @@ mark-all-spec =
     Inv-loop
     μ-loop
     loop-holds
-    add-loop
-    record-at-requires
-    mark-requires
-    add-k
-    loop-less
+    (λ c. omega (arith, c .before .before .before .good .0 .1))
+    (λ c κs. omega arith)
+    (λ c κs. search needs)
+    (λ c. omega arith)
+    (λ c. omega arith)
     loop-again
-    same-length
+    (λ c. c .before .loop .inv .same)
     returns)

@@ -1,4 +1,4 @@
--- `emitter::push` meets its contract.
+-- `emitter::push` meets its contract: one number is stored at the lowered height. Assumes nothing.
 use borrow.Author.Needs.{needs}
 use Rattle.emitter.proofs.Stack.{pushed}
 use Rattle.emitter.proofs.push.Statement.{statement}
@@ -6,30 +6,16 @@ use Rattle.emitter.proofs.push.Tie as tie
 
 returns : tie.Need-returns
 returns c =
-    let earlier = c .before .before .before .before in
-    let the-pre = earlier .before .before .pre in
-    let the-lowered = c .before .before .before .before .lowered in
-    let the-store = c .before .before .store in
-    pushed the-pre (the-lowered .ensures) (the-store .ensures)
-
-lowered-requires : tie.Need-lowered-requires
-lowered-requires c κs = search needs
-
-store-requires : tie.Need-store-requires
-store-requires c κs = search needs
-
-add-result : tie.Need-add-result
-add-result c = search needs
-
-same-length : tie.Need-same-length
-same-length c = search needs
+    let call = c .before .before in
+    let low = call .before .before in
+    pushed (low .before .before .pre) (low .lowered .ensures) (call .store .ensures)
 
 pub push-spec : {M : Type 1} → statement M
 push-spec =
     tie.close
     (tie.spec
-    lowered-requires
-    store-requires
-    add-result
-    same-length
+    (λ c κs. search needs)
+    (λ c κs. search needs)
+    (λ c. search needs)
+    (λ c. search needs)
     returns)

@@ -1,10 +1,24 @@
 -- `emitter::put` meets its contract: four stores are one equation, where the table has room and where it ends before.
+-- Assumes nothing.
 use native.Mathlib.Omega.{arith}
 use borrow.Author.Needs.{needs}
 use lib.ListN.{length-set}
 use Rattle.emitter.proofs.Written.{written-one}
 use Rattle.emitter.proofs.put.Statement.{statement}
 use Rattle.emitter.proofs.put.Tie as tie
+
+-- The places of the code where the table ends: after each number, the last one first, and the start.
+abbrev third : tie.After-store4 → tie.After-store3
+third c = c .before .before .before .before
+
+abbrev second : tie.After-store3 → tie.After-store2
+second c = c .before .before .before .before
+
+abbrev first : tie.After-store2 → tie.After-store
+first c = c .before .before .before .before
+
+abbrev start : tie.After-store → tie.Start
+start c = c .before .before .before .before
 
 -- Four numbers where there is room.
 slice-write-t-2 : tie.Need-slice-write-t-2
@@ -22,12 +36,8 @@ returns c = written-one _ _ _ _ _ _
 -- At the end of the table each number by itself.
 returns-2 : tie.Need-returns-2
 returns-2 c =
-    let earlier = c .before .before .before .before in
-    let back = earlier .before .before .before .before in
-    let first-call = back .before .before .before .before in
-    let back2 = first-call .before .before .before .before in
-    let the-args = back2 .before .before .args in
-    cc (written-one (the-args .t .now) (the-args .o) (the-args .kind) (the-args .a) (the-args .b) (the-args .c))
+    let args = start (first (second (third (c .before .before)))) .args in
+    cc (written-one (args .t .now) (args .o) (args .kind) (args .a) (args .b) (args .c))
 
 pub put-spec : {M : Type 1} → statement M
 put-spec =

@@ -1,4 +1,5 @@
 -- `emitter::settle_all` meets its contract: `Settling` is its loop's invariant, the signals left its measure.
+-- Assumes nothing.
 use Prim.Native.Nat.{_-_}
 use native.Mathlib.Omega.{arith}
 use borrow.Author.Needs.{needs}
@@ -14,59 +15,37 @@ Inv-loop table₀ named₀ next₀ j₀ table named next j = Settling signalCoun
 abbrev μ-loop : tie.MeasureT-loop
 μ-loop table₀ named₀ next₀ j₀ table named next j = signalCount - j
 
+-- The places of the code: the second equation is put; the first; the start.
+abbrev second : tie.At-loop Inv-loop μ-loop → tie.After-put2 Inv-loop μ-loop
+second c = c .before .before .before
+
+abbrev first : tie.After-put2 Inv-loop μ-loop → tie.After-put Inv-loop μ-loop
+first c = c .before .before .before .before
+
+abbrev start : tie.After-put Inv-loop μ-loop → tie.Start Inv-loop μ-loop
+start c = c .before .before .before .before
+
 loop-holds : tie.Need-loop-holds Inv-loop μ-loop
 loop-holds c = settling-none
 
-settle-requires : tie.Need-settle-requires Inv-loop μ-loop
-settle-requires c κs =
-    let the-loop-test = c .before .before .loop-test in
-    (the-loop-test .taken, omega arith)
-
-add-j : tie.Need-add-j Inv-loop μ-loop
-add-j c = omega arith
-
-loop-less : tie.Need-loop-less Inv-loop μ-loop
-loop-less c = omega arith
-
 loop-again : tie.Need-loop-again Inv-loop μ-loop
 loop-again c =
-    let earlier = c .before .before .before .before in
-    let the-loop = earlier .before .before .before .before .loop in
-    let the-loop-test = earlier .before .before .before .loop-test in
-    let the-settle = c .before .before .before .before .settle in
-    settling-one (the-loop .inv) (the-loop-test .taken) (the-settle .ensures) (the-settle .kept .0)
-    (the-settle .kept .1 .0)
+    let call = c .before .before .before .before in
+    let test = call .before .before .before in
+    settling-one (test .before .loop .inv) (test .loop-test .taken) (call .settle .ensures) (call .settle .kept .0)
+    (call .settle .kept .1 .0)
 
 same-length : tie.Need-same-length Inv-loop μ-loop
 same-length c =
-    let the-loop = c .before .loop in
-    let the-put2 = c .before .before .before .before .put2 in
-    let earlier = c .before .before .before .before in
-    let the-put = earlier .before .before .before .before .put in
-    the-loop .inv .same ∙ the-put2 .kept .0 ∙ the-put .kept .0
-
-same-length-2 : tie.Need-same-length-2 Inv-loop μ-loop
-same-length-2 c =
-    let the-loop = c .before .loop in
-    the-loop .inv .same-named
+    let two = second (c .before) in
+    c .before .loop .inv .same ∙ two .put2 .kept .0 ∙ first two .put .kept .0
 
 returns : tie.Need-returns Inv-loop μ-loop
 returns c =
-    let earlier = c .before .before .before .before in
-    let back = earlier .before .before .before .before in
-    let the-args = back .before .before .before .before .args in
-    let the-put = back .put in
-    let the-put2 = c .before .before .before .before .put2 in
-    let the-loop = c .before .loop in
-    let the-loop-test = c .loop-test in
-    settling-all (first-two-is (the-args .table .now) (the-put .ensures) (the-put2 .ensures)) (the-loop .inv)
-    (the-loop-test .left)
-
-put-requires : tie.Need-put-requires Inv-loop μ-loop
-put-requires c κs = search needs
-
-put-requires-2 : tie.Need-put-requires-2 Inv-loop μ-loop
-put-requires-2 c κs = search needs
+    let two = second (c .before) in
+    let one = first two in
+    settling-all (first-two-is (start one .args .table .now) (one .put .ensures) (two .put2 .ensures))
+    (c .before .loop .inv) (c .loop-test .left)
 
 pub settle-all-spec : {M : Type 1} → statement M
 settle-all-spec =
@@ -74,13 +53,13 @@ settle-all-spec =
     (tie.spec
     Inv-loop
     μ-loop
-    put-requires
-    put-requires-2
+    (λ c κs. search needs)
+    (λ c κs. search needs)
     loop-holds
-    settle-requires
-    add-j
-    loop-less
+    (λ c κs. (c .before .before .loop-test .taken, omega arith))
+    (λ c. omega arith)
+    (λ c. omega arith)
     loop-again
     same-length
-    same-length-2
+    (λ c. c .before .loop .inv .same-named)
     returns)
