@@ -1,11 +1,7 @@
--- Laws behind the functions' proofs, and the theorems on cards in pieces and on the verdicts that a card prints.
-pub mod Moving
+-- Laws behind the functions' proofs, and the theorem on the verdicts that a card prints.
 pub mod Playing
+pub mod Printing
+pub mod Reaching
 pub mod Paying
-pub mod Resuming
-pub mod Feeding
-pub mod Ticking
-pub mod Pieces
-pub mod Ending
 pub mod Meant
 pub mod Rows

@@ -17,9 +17,9 @@ use Rattle.cards.specs.declared.Phase.{Phase}
 use Rattle.cards.specs.declared.Phase.the-variants as P
 use Rattle.cards.specs.declared.Stage.{Stage}
 use Rattle.cards.proofs.Stages.{Follows, says-follows}
-use Rattle.player.specs.Card.{World, Effect, stop, withRule, withStep, playedTo, played, lined, lastOutput}
-use Rattle.player.specs.Card.{ruleMade, ruledWorld, stepOf, steppedWorld, refusalDigits, outputBytes}
-use Rattle.player.specs.Feed.{longestOutput}
+use Rattle.player.specs.Card.{World, Effect, stop, withRule, withStep, playedTo, played, lined}
+use Rattle.player.specs.Card.{ruleMade, ruledWorld, stepOf, steppedWorld}
+use Rattle.player.specs.Card.{lastOutput, refusalDigits, outputBytes, longestOutput}
 use Rattle.player.specs.declared.Output.{Output}
 use Rattle.player.specs.declared.Output.the-variants as O
 

@@ -1,28 +1,37 @@
--- What a line does, from what it says (`played`): what the code's answers make of it, over-long lines, and lines once a
--- card is over. Assumes nothing.
+-- What a line does, from what it says (`played`): what the code's answers make of it, over-long lines, lines once a
+-- card is over, and tick lines whose step gives a verdict. Assumes nothing.
 use mathlib.Core.Path.{_≡_, refl, _∙_, sym, ap}
 use mathlib.Core.List.{List}
-use Prim.Native.Nat.{ℕ, _+_, _≤_}
+use Prim.Native.Nat.{ℕ, _+_, _-_, _≤_, _<_}
+use native.Mathlib.Omega.{arith}
 use lib.ListN.{length, drop}
 use lib.Seq.{drop-drop}
-use Rattle.limits.specs.Limits.{lineLimit}
+use borrow.Author.Tests.{ne-eqb, lt-leb}
+use Rattle.limits.specs.Limits.{standardCap, lineLimit}
+use Rattle.traces.specs.Trace.{tickOf}
 use Rattle.lists.specs.Line.{line, lineFrom}
-use Rattle.cards.specs.Says.{Says, brokenBy, lineSays, stageAfter}
+use Rattle.cards.specs.Says.{Says, brokenBy, lineSays, stageAt, stageAfter}
 use Rattle.cards.specs.Says.Says.{rule}
+use Rattle.cards.specs.Ticks.{tickLine}
 use Rattle.cards.specs.declared.Phase.{Phase}
 use Rattle.cards.specs.declared.Phase.the-variants as P
 use Rattle.cards.specs.declared.Stage.{Stage}
+use Rattle.cards.specs.declared.TickLine.the-variants as T
+use Rattle.cards.proofs.Hex.{tick-length}
 use Rattle.cards.proofs.Lines.{drop-line}
 use Rattle.cards.proofs.Stages.{Follows, says-follows, long-says, over-says}
 use Rattle.observers.specs.Compile.{afterCompile, compiled}
 use Rattle.observers.specs.declared.Compiled.{Compiled}
 use Rattle.observers.specs.declared.Compiled.the-variants as C
-use Rattle.flows.specs.Step.{afterFresh, freshened}
+use Rattle.flows.specs.Step.{afterFresh, freshened, AfterStep, stepped}
 use Rattle.flows.specs.declared.Fresh.{Fresh}
+use Rattle.flows.specs.declared.Stepped.the-variants as S
 use Rattle.reader.specs.Part.{ruleFrom}
 use Rattle.player.specs.Card.{afterRule, freshAs, ruleMade}
-use Rattle.player.specs.Card.{World, Effect, stop, playedTo, played, lined, lastOutput}
+use Rattle.player.specs.Card.{World, worldOf, watchOf, Effect, effectOf, stop, playedTo, played, lined}
+use Rattle.player.specs.Card.{lastOutput}
 use Rattle.player.specs.declared.Output.the-variants as O
+use Rattle.player.specs.declared.Watch.{Watch}
 
 -- A line that says s, with the stage k after it.
 pub plays : (w : World) (l : List ℕ) (s : Says) (k : Stage) → s ≡ lineSays (w .watch .stage) l
@@ -66,3 +75,22 @@ long-lined w l h =
 pub over-lined : (w : World) (l : List ℕ) → w .watch .stage .phase ≡ P.Over → lined w l ≡ stop O.Quiet w
 unfolding lined played
 over-lined w l e = rw (over-says (w .watch .stage) l e)
+
+-- ---- a tick line whose step gives a verdict
+
+-- One tick less is left after it.
+abbrev pub oneLess : Watch → Watch
+oneLess w = watchOf (stageAt (w .stage .phase) (w .stage .left - 1)) (w .n)
+
+module _ (ps t : List ℕ) where
+  -- After a line that says a verdict.
+  abbrev pub saying : Watch → ℕ → List ℕ → List ℕ → Effect
+  saying w x c v = effectOf (O.Verdict x) (worldOf w ps t c v)
+
+  pub tick-lined : (w : Watch) (l : List ℕ) (i j x : ℕ) (c v : List ℕ) (a : AfterStep) → w .stage .phase ≡ P.Ticks
+      → 0 < w .stage .left → tickLine l ≡ T.Is i j → stepped standardCap t (w .n) c v (tickOf i j ps) ≡ a
+      → a .answer ≡ S.Verdict x → lined (worldOf w ps t c v) l ≡ saying (oneLess w) x (a .state) (a .values)
+  unfolding lined played lineSays
+  tick-lined w l i j x c v a p more e q y =
+      let short : length l < lineLimit = omega (arith, tick-length l i j e) in
+      rw (lt-leb lineLimit (length l) short, p, ne-eqb (w .stage .left) 0 (λ z. omega arith), e, q, y)

@@ -3,12 +3,14 @@
 -- The sentences quoted are document 01's, from "towerwatch".
 use mathlib.Core.Bool.{cond}
 use mathlib.Core.List.{List, [], _∷_, _++_}
-use Prim.Native.Nat.{ℕ, _+_, _/_, _%_}
+use mathlib.Core.Path.{_≡_}
+use Prim.Native.Nat.{ℕ, _+_, _/_, _%_, _<_}
 use lib.Dec.{ltb}
 use lib.ListN.{length, replicate}
 use denote.Ref.{RefT, now}
 use denote.Triple.Both.{Both}
 use Rattle.limits.specs.Limits.{standardCap, parameterCount, tableRoom, equationLimit}
+use Rattle.lists.specs.Line.{lineFrom}
 use Rattle.lists.specs.Text.{bytes}
 use Rattle.traces.specs.Trace.{tickOf}
 use Rattle.observers.specs.Compile.{AfterCompile, compiled}
@@ -78,8 +80,11 @@ goOn k o w = effectOf o (worldOf k (w .parameters) (w .table) (w .state) (w .val
 abbrev pub overWatch : Watch
 overWatch = watchOf (stageAt P.Over 0) 0
 
+abbrev pub over : World → World
+over w = worldOf overWatch (w .parameters) (w .table) (w .state) (w .values)
+
 abbrev pub stop : Output → World → Effect
-stop o w = goOn overWatch o w
+stop o w = effectOf o (over w)
 
 -- The same as the code's answers.
 abbrev pub goingOn : Stage → ℕ → Output → Answered
@@ -157,6 +162,11 @@ played w s = playedTo (stageAfter (w .watch .stage .left) s) s w
 unfoldable pub lined : World → List ℕ → Effect
 lined w l = played w (lineSays (w .watch .stage) l)
 
+-- The line of the bytes s at the place `at` ends before the place `to`, and its line end is among the bytes.
+pub record WholeLine (s : List ℕ) (at to : ℕ) : Type 0 where
+  pub ends : to ≡ at + length (lineFrom s at)
+  pub whole : to < length s
+
 -- ---- what is printed
 
 -- "A refusal prints `refused=` and its number, and ends."
@@ -178,6 +188,10 @@ unfoldable pub outputBytes : Output → List ℕ
 outputBytes O.Quiet = []
 outputBytes (O.Verdict v) = bytes "verdict=" ++ ((48 + v % 10) ∷ 10 ∷ [])
 outputBytes (O.Refused r) = bytes "refused=" ++ (refusalDigits r ++ (10 ∷ []))
+
+-- A refusal prints at most so many bytes, and no output is longer.
+abbrev pub longestOutput : ℕ
+longestOutput = 11
 
 -- What is printed for these lines and then the end of the input after these bytes.
 unfoldable pub owed : World → List (List ℕ) → List ℕ → List ℕ

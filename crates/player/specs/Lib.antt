@@ -1,5 +1,3 @@
 -- What a card prints, from its bytes on.
 pub mod Card
-pub mod Feed
-pub mod Pieces
 pub mod Meant

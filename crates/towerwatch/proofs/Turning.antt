@@ -10,13 +10,14 @@ use lib.Seq.{length-take-le, take-length, take-add, take-append-seam, take-appen
 use Rattle.player.specs.Card.{World, worldOf, prints, printed, start}
 use Rattle.limits.specs.Limits.{literalCount, lineLimit}
 use Rattle.cards.specs.Says.{isOver}
-use Rattle.player.specs.Feed.{Goes, Ready, Turns, Finishes, fedWorld, leftOver}
+use Rattle.feeder.specs.Feed.{Goes, Ready, Turns, Finishes, fedWorld, leftOver}
 use Rattle.player.specs.declared.Watch.{Watch}
-use Rattle.player.specs.declared.Turn.{Turn}
+use Rattle.feeder.specs.declared.Turn.{Turn}
 use Rattle.cards.proofs.Lines.{append-nil}
-use Rattle.player.proofs.Resuming.{goes-none, goes-on, over-prints, short-eq, short-none}
+use Rattle.player.proofs.Printing.{over-prints}
+use Rattle.feeder.proofs.Resuming.{goes-none, goes-on, short-eq, short-none}
 use Rattle.cards.proofs.Stages.{rank, rank-first, rank-positive, is-over}
-use Rattle.player.proofs.Ending.{fed-near}
+use Rattle.feeder.proofs.Ending.{fed-near}
 use Rattle.towerwatch.specs.declared.Next.{Next}
 use Rattle.towerwatch.specs.declared.Total.{Total}
 use Rattle.towerwatch.specs.declared.Stand.{Stand}

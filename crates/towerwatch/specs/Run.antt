@@ -8,7 +8,7 @@ use Prim.Native.Nat.{ℕ, _<_, _≤_}
 use lib.ListN.{length, take}
 use Rattle.player.specs.Card.{World, prints, printed}
 use Rattle.cards.specs.Says.{isOver}
-use Rattle.player.specs.Feed.{Goes, fedWorld, leftOver}
+use Rattle.feeder.specs.Feed.{Goes, fedWorld, leftOver}
 use Rattle.towerwatch.specs.declared.Next.{Next}
 use Rattle.towerwatch.specs.declared.Total.{Total}
 use Rattle.towerwatch.specs.declared.Stand.{Stand}

@@ -1,5 +1,5 @@
 // The program `towerwatch`: reads a card from standard input and prints what it says, piece by piece and in constant
-// memory (document 01, "towerwatch"). All but the reads and the writes is in `player`, where it is proved that what is
+// memory (document 01, "towerwatch"). All but the reads and the writes is in `feeder`, where it is proved that what is
 // printed does not depend on the pieces that a card comes in. Here `once` promises that what it hands to the write is
 // what its piece prints, and `run` that all of it together is what a card prints (specs/Run.antt).
 use libc::STDIN_FILENO;
@@ -11,7 +11,7 @@ ghost use mathlib.Core.Path.{_≡_};
 ghost use Prim.Native.Nat.{ℕ, _+_, _≤_, _<_};
 ghost use lib.ListN.{length, take, drop};
 ghost use Rattle.player.specs.Card.{World, worldOf, brought, entering, leaving, start};
-ghost use Rattle.player.specs.Feed.{Ready};
+ghost use Rattle.feeder.specs.Feed.{Ready};
 ghost use Rattle.towerwatch.specs.Run.{outputRoom, isReading, Takes, Once, Whole};
 
 // How the program stands after a turn.
@@ -105,7 +105,7 @@ fn end(watch: Watch, buf: &[u8], to: usize, got: usize, out: &mut [u8]) -> Next
     ensures { λ r. ⌜ (r .to ≡ 0) × ((ps t c v : List ℕ) (w : World) (s : List ℕ) →
         Takes [] (worldOf watch ps t c v) (take to (now (buf .entry))) r w s (now (out .exit))) ⌝ }
 {
-    let at = player::finish(watch, buf, to, out);
+    let at = feeder::finish(watch, buf, to, out);
     let last = show(out, at);
     let stand = ended(last.done);
     Next {
@@ -135,7 +135,7 @@ fn piece(
         (entering watch parameters table state values) (take to (now (buf .entry))) r
         (leaving (r .watch) parameters table state values) (take (r .to) (now (buf .exit))) (now (out .exit)) ⌝ }
 {
-    let f = player::run_turn(watch, buf, to + got, parameters, table, state, values, out);
+    let f = feeder::run_turn(watch, buf, to + got, parameters, table, state, values, out);
     let filled = f.filled;
     let next = f.watch;
     let kept = f.kept;

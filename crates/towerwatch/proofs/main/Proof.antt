@@ -2,7 +2,7 @@
 use mathlib.Core.Path.{refl}
 use borrow.Author.Needs.{needs}
 use native.Mathlib.Omega.{arith}
-use Rattle.player.proofs.Resuming.{short-none}
+use Rattle.feeder.proofs.Resuming.{short-none}
 use Rattle.towerwatch.proofs.main.Statement.{statement}
 use Rattle.towerwatch.proofs.main.Tie as tie
 

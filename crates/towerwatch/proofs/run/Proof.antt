@@ -6,7 +6,7 @@ use borrow.Author.Needs.{needs}
 use borrow.Author.Tests.{not-true, not-false}
 use lib.ListN.{length, take}
 use Rattle.player.specs.Card.{World, worldOf}
-use Rattle.player.specs.Feed.{Ready}
+use Rattle.feeder.specs.Feed.{Ready}
 use Rattle.towerwatch.specs.Run.{outputRoom}
 use Rattle.towerwatch.proofs.Turning.{budget, Reached, reached-start, reached-on, fewer, ends-whole}
 use Rattle.towerwatch.proofs.run.Statement.{statement}

@@ -4,44 +4,27 @@ use mathlib.Core.List.{List}
 use Prim.Native.Nat.{ℕ, _+_, _-_, _≤_, _<_}
 use native.Mathlib.Omega.{arith}
 use lib.ListN.{length, take, drop, length-drop}
-use borrow.Author.Tests.{ne-eqb, lt-leb}
-use Rattle.limits.specs.Limits.{standardCap, lineLimit}
+use Rattle.limits.specs.Limits.{standardCap}
 use Rattle.flows.specs.Step.{AfterStep, afterStep, parameterFits, stepChecked, stepped}
 use Rattle.tables.specs.declared.Checked.the-variants.{Passed}
 use Rattle.flows.specs.declared.Stepped.the-variants as S
 use Rattle.flows.proofs.Runs.{step-on}
 use Rattle.lists.specs.Line.{line}
-use Rattle.cards.specs.Says.{stageAt, lineSays}
-use Rattle.cards.specs.Ticks.{tickLine, tickFirst}
+use Rattle.cards.specs.Ticks.{tickFirst}
 use Rattle.cards.specs.declared.Phase.the-variants as P
 use Rattle.cards.specs.declared.TickLine.the-variants as T
 use Rattle.cards.proofs.Front.{First, first-tick}
 use Rattle.cards.proofs.Hex.{tick-length}
-use Rattle.player.specs.Card.{World, worldOf, watchOf, Effect, effectOf, played, lined, outputBytes}
 use Rattle.traces.specs.Trace.{tickOf}
-use Rattle.player.specs.Feed.{Admitted, Runs, fedTo, placed}
+use Rattle.player.specs.Card.{World, worldOf, lined, outputBytes}
 use Rattle.player.specs.declared.Output.the-variants as O
 use Rattle.player.specs.declared.Watch.{Watch}
-use Rattle.player.proofs.Resuming.{goes-none}
-use Rattle.player.proofs.Feeding.{Between, said-room, after-line}
+use Rattle.player.proofs.Playing.{saying, oneLess, tick-lined}
+use Rattle.feeder.specs.Feed.{Admitted, Runs, fedTo, placed}
+use Rattle.feeder.proofs.Resuming.{goes-none}
+use Rattle.feeder.proofs.Feeding.{Between, said-room, after-line}
 
 module _ (ps t : List ℕ) where
-  -- After a line that says a verdict.
-  abbrev pub saying : Watch → ℕ → List ℕ → List ℕ → Effect
-  saying w x c v = effectOf (O.Verdict x) (worldOf w ps t c v)
-
-  abbrev pub oneLess : Watch → Watch
-  oneLess w = watchOf (stageAt (w .stage .phase) (w .stage .left - 1)) (w .n)
-
-  -- A tick line whose step gives a verdict.
-  pub tick-lined : (w : Watch) (l : List ℕ) (i j x : ℕ) (c v : List ℕ) (a : AfterStep) → w .stage .phase ≡ P.Ticks
-      → 0 < w .stage .left → tickLine l ≡ T.Is i j → stepped standardCap t (w .n) c v (tickOf i j ps) ≡ a
-      → a .answer ≡ S.Verdict x → lined (worldOf w ps t c v) l ≡ saying (oneLess w) x (a .state) (a .values)
-  unfolding lined played lineSays
-  tick-lined w l i j x c v a p more e q y =
-      let short : length l < lineLimit = omega (arith, tick-length l i j e) in
-      rw (lt-leb lineLimit (length l) short, p, ne-eqb (w .stage .left) 0 (λ z. omega arith), e, q, y)
-
   -- A step's refusals do not depend on its start and signals.
   pub passes-any : (n : ℕ) (c v : List ℕ) → stepChecked standardCap t n c v (tickOf 0 0 ps) ≡ Passed
       → (start signals : ℕ) → stepChecked standardCap t n c v (tickOf start signals ps) ≡ Passed
@@ -78,11 +61,11 @@ module _ (ps t : List ℕ) where
       pub line-inside : u + 20 < length b
       line-inside = omega (arith, first .whole, length-drop u b)
 
-      does : saying (oneLess w) x c′ v′ ≡ lined (worldOf w ps t c v) (line (drop u b))
+      does : saying ps t (oneLess w) x c′ v′ ≡ lined (worldOf w ps t c v) (line (drop u b))
       does =
           let l = take 20 (drop u b) in
-          rw (first .ends)
-          (sym (tick-lined w l i j x c v (afterStep (S.Verdict x) c′ v′) (k .phase) more (first .tick) (sym a) refl))
+          let after = afterStep (S.Verdict x) c′ v′ in
+          rw (first .ends) (sym (tick-lined ps t w l i j x c v after (k .phase) more (first .tick) (sym a) refl))
 
       pub verdict-room : at + length (outputBytes (O.Verdict x)) ≤ length out
       verdict-room = said-room s 20 twenty line-inside does

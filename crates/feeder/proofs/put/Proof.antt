@@ -1,13 +1,13 @@
--- `player::put` meets its contract: one case for each thing that is said, and for each length of a number. Assumes
+-- `feeder::put` meets its contract: one case for each thing that is said, and for each length of a number. Assumes
 -- nothing.
 use borrow.Author.Needs.{needs}
 use borrow.Author.Tests.{lt-ltb, le-ltb}
 use native.Mathlib.Omega.{arith}
 use mathlib.Core.List.{[]}
 use lib.Seq.{paste-zero}
 use Rattle.player.specs.Card.{outputBytes, refusalDigits}
-use Rattle.player.proofs.put.Statement.{statement}
-use Rattle.player.proofs.put.Tie as tie
+use Rattle.feeder.proofs.put.Statement.{statement}
+use Rattle.feeder.proofs.put.Tie as tie
 
 -- A verdict; a refusal of one digit, and of two.
 put-word-requires : tie.Need-put-word-requires

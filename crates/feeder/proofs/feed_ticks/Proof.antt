@@ -1,4 +1,4 @@
--- `player::feed_ticks` meets its contract: no line is run, or those of `run_ticks`. Assumes nothing.
+-- `feeder::feed_ticks` meets its contract: no line is run, or those of `run_ticks`. Assumes nothing.
 use mathlib.Core.Path.{_≡_, refl, sym, _∙_}
 use mathlib.Core.List.{[], _∷_}
 use Prim.Native.Nat.{ℕ}
@@ -6,11 +6,11 @@ use native.Mathlib.Omega.{arith}
 use types.Run.{miss}
 use borrow.Author.Needs.{needs}
 use Rattle.tables.specs.declared.Checked.the-variants.{Passed, Refused as Failed}
 use Rattle.player.specs.Card.{brought}
-use Rattle.player.specs.Feed.{Admitted}
-use Rattle.player.proofs.Ticking.{passes-any, runs-none}
-use Rattle.player.proofs.feed_ticks.Statement.{statement}
-use Rattle.player.proofs.feed_ticks.Tie as tie
+use Rattle.feeder.specs.Feed.{Admitted}
+use Rattle.feeder.proofs.Ticking.{passes-any, runs-none}
+use Rattle.feeder.proofs.feed_ticks.Statement.{statement}
+use Rattle.feeder.proofs.feed_ticks.Tie as tie
 
 -- ---- the places
 

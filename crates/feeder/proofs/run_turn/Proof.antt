@@ -1,15 +1,15 @@
--- `player::run_turn` meets its contract: what `feed` leaves over is moved to the front of the buffer. Assumes nothing.
+-- `feeder::run_turn` meets its contract: what `feed` leaves over is moved to the front of the buffer. Assumes nothing.
 use mathlib.Core.Path.{_≡_, sym, _∙_, ap}
 use Prim.Native.Nat.{_-_, _≤_}
 use borrow.Author.Needs.{needs}
 use native.Mathlib.Omega.{arith}
 use lib.ListN.{take, drop}
 use lib.Seq.{length-take-le}
-use Rattle.player.specs.Feed.{shifted}
-use Rattle.player.proofs.Resuming.{goes-rest, short-eq}
-use Rattle.player.proofs.Moving.{drop-take, take-shifted}
-use Rattle.player.proofs.run_turn.Statement.{statement}
-use Rattle.player.proofs.run_turn.Tie as tie
+use Rattle.feeder.specs.Feed.{shifted}
+use Rattle.feeder.proofs.Resuming.{goes-rest, short-eq}
+use Rattle.feeder.proofs.Moving.{drop-take, take-shifted}
+use Rattle.feeder.proofs.run_turn.Statement.{statement}
+use Rattle.feeder.proofs.run_turn.Tie as tie
 
 -- ---- the places
 

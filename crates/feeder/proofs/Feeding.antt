@@ -11,15 +11,15 @@ use Rattle.lists.specs.Line.{line, lineFrom}
 use Rattle.cards.specs.Says.{brokenBy}
 use Rattle.cards.specs.declared.Phase.the-variants as P
 use Rattle.cards.proofs.Lines.{line-within, one-line}
-use Rattle.player.specs.Card.{World, worldOf, Effect, stopped, lined, lastOutput, outputBytes}
-use Rattle.player.specs.Feed.{Goes, Short, longestOutput, Room, Runs, Feeds, fedWorld, leftOver, placed}
+use Rattle.player.specs.Card.{World, worldOf, Effect, stopped, lined, lastOutput, outputBytes, longestOutput}
+use Rattle.feeder.specs.Feed.{Goes, Short, Room, Runs, Feeds, fedWorld, leftOver, placed}
 use Rattle.player.specs.declared.Answered.{Answered}
-use Rattle.player.specs.declared.Fed.{Fed}
-use Rattle.player.proofs.Moving.{put-takes, put-keeps, put-length, restOf, withRest, rest-all, with-rest}
+use Rattle.feeder.specs.declared.Fed.{Fed}
+use Rattle.feeder.proofs.Moving.{put-takes, put-keeps, put-length, restOf, withRest, rest-all, with-rest}
 use Rattle.player.proofs.Paying.{debt, debt-small, lined-pays, broken-room}
-use Rattle.player.proofs.Resuming.{goes-none, goes-line, goes-on, goes-out, goes-rest, goes-long}
-use Rattle.player.proofs.Resuming.{fed-line, left-line, fed-short, left-short, fed-long, left-long}
-use Rattle.player.proofs.Resuming.{short-eq, short-none}
+use Rattle.feeder.proofs.Resuming.{goes-none, goes-line, goes-on, goes-out, goes-rest, goes-long}
+use Rattle.feeder.proofs.Resuming.{fed-line, left-line, fed-short, left-short, fed-long, left-long}
+use Rattle.feeder.proofs.Resuming.{short-eq, short-none}
 
 -- Of the piece b, u bytes are used up, and what they print are the first `at` bytes of out: w goes on from there.
 pub record Between (w₀ : World) (b out₀ : List ℕ) (w : World) (out : List ℕ) (u at : ℕ) : Type 0 where

@@ -7,16 +7,16 @@ use lib.ListN.{length, take, drop}
 use Rattle.limits.specs.Limits.{standardCap, lineLimit}
 use Rattle.flows.specs.Step.{stepChecked}
 use Rattle.tables.specs.declared.Checked.the-variants.{Passed}
-use Rattle.lists.specs.Line.{line, lineFrom}
+use Rattle.lists.specs.Line.{line}
 use Rattle.cards.specs.Lines.{overLong, cut}
 use Rattle.cards.specs.Ticks.{tickFirst}
 use Rattle.cards.specs.declared.Phase.the-variants as P
 use Rattle.cards.specs.declared.TickLine.the-variants as T
-use Rattle.player.specs.Card.{World, worldOf, overWatch, lined, prints}
+use Rattle.player.specs.Card.{World, worldOf, over, lined, longestOutput, prints}
 use Rattle.traces.specs.Trace.{tickOf}
-use Rattle.player.specs.declared.Fed.{Fed}
-use Rattle.player.specs.declared.Turn.{Turn}
+use Rattle.feeder.specs.declared.Fed.{Fed}
+use Rattle.feeder.specs.declared.Turn.{Turn}
 use Rattle.player.specs.declared.Watch.{Watch}
 
 -- From w with the bytes s at hand: out is printed, and w' goes on with the bytes s', whatever comes after them.
 pub record Goes (w : World) (s : List ℕ) (out : List ℕ) (w' : World) (s' : List ℕ) : Type 0 where
@@ -27,15 +27,6 @@ pub record Short (s : List ℕ) : Type 0 where
   pub one : line s ≡ s
   pub below : length s < lineLimit
 
--- The line of the piece s at the place `at` ends before the place `to`, and its line end is in the piece.
-pub record LineAt (s : List ℕ) (at to : ℕ) : Type 0 where
-  pub ends : to ≡ at + length (lineFrom s at)
-  pub whole : to < length s
-
--- A refusal prints at most so many bytes.
-abbrev pub longestOutput : ℕ
-longestOutput = 11
-
 -- The output has room: a line prints no more bytes than it has, but for one refusal.
 pub record Room (s out : List ℕ) : Type 0 where
   pub room : length s + longestOutput ≤ length out
@@ -44,10 +35,6 @@ pub record Room (s out : List ℕ) : Type 0 where
 unfoldable pub afterLines : World → List (List ℕ) → World
 afterLines w [] = w
 afterLines w (l ∷ ls) = afterLines (lined w l .world) ls
-
--- once the card is over,
-abbrev pub over : World → World
-over w = worldOf overWatch (w .parameters) (w .table) (w .state) (w .values)
 
 -- and after the start of another one: it ends the card where it is over-long already.
 unfoldable pub afterTail : World → List ℕ → World

@@ -1,44 +1,18 @@
 -- How a card goes on: laws of `Goes` and `Short`, and of the world and the bytes left over after a piece
 -- (specs/Feed.antt). Assumes nothing.
 use mathlib.Core.Path.{_≡_, refl, _∙_, sym, ap, subst}
-use mathlib.Core.List.{List, [], _∷_, _++_, append-assoc}
+use mathlib.Core.List.{List, [], _++_, append-assoc}
 use Prim.Native.Nat.{ℕ, suc, _≤_, _<_}
 use native.Mathlib.Omega.{arith}
 use lib.ListN.{length, drop}
 use borrow.Author.Tests.{le-leb, lt-leb}
 use Rattle.limits.specs.Limits.{lineLimit}
 use Rattle.lists.specs.Line.{line}
-use Rattle.cards.specs.Lines.{cut}
-use Rattle.cards.specs.Says.{Says, brokenBy, endIn, endSays}
-use Rattle.cards.specs.declared.Phase.{Phase}
-use Rattle.cards.specs.declared.Phase.the-variants as P
-use Rattle.cards.proofs.Lines.{append-nil, cut-first, cut-one, cut-whole, first-long, firstOf}
-use Rattle.cards.proofs.Stages.{end-broken}
-use Rattle.player.specs.Card.{World, lined, lastOutput, outputBytes, owed, prints}
-use Rattle.player.specs.Feed.{Goes, Short, over, afterLines, afterTail, fedWorld, leftOver}
-use Rattle.player.proofs.Playing.{over-lined, long-lined}
-
--- ---- what is owed
-
--- Nothing is printed once the card is over,
-over-owed : (w : World) (ls : List (List ℕ)) (t : List ℕ) → w .watch .stage .phase ≡ P.Over → owed w ls t ≡ []
-unfolding owed outputBytes
-over-owed w [] t e = ap (λ (p : Phase). outputBytes (lastOutput (endIn p (w .watch .stage .left) (length t)))) e
-over-owed w (l ∷ ls) t e = rw (over-lined w l e) (over-owed (over w) ls t refl)
-
-pub over-prints : (w : World) (s : List ℕ) → w .watch .stage .phase ≡ P.Over → prints w s ≡ []
-unfolding prints
-over-prints w s e = over-owed w (cut s .whole) (cut s .tail) e
-
--- and an over-long line, whole or not, is broken.
-abbrev pub brokenBytes : World → List ℕ
-brokenBytes w = outputBytes (lastOutput (brokenBy (w .watch .stage .phase)))
-
-long-owed : (w : World) (ls : List (List ℕ)) (t : List ℕ) → lineLimit ≤ firstOf ls t → owed w ls t ≡ brokenBytes w
-unfolding owed
-long-owed w [] t h =
-    ap (λ (s : Says). outputBytes (lastOutput s)) (end-broken (w .watch .stage) (length t) (omega arith))
-long-owed w (l ∷ ls) t h = rw (long-lined w l h, over-owed (over w) ls t refl) (append-nil _)
+use Rattle.cards.specs.Says.{endSays}
+use Rattle.cards.proofs.Lines.{append-nil, cut-first, cut-one, cut-whole, first-long}
+use Rattle.player.specs.Card.{World, over, lined, lastOutput, outputBytes, owed, prints}
+use Rattle.player.proofs.Printing.{brokenBytes, over-prints, long-prints}
+use Rattle.feeder.specs.Feed.{Goes, Short, afterLines, afterTail, fedWorld, leftOver}
 
 -- The end of the input.
 pub ends : (w : World) (s : List ℕ) → Short s
@@ -77,12 +51,11 @@ goes-rest {v = v} {o = o} e g =
 
 -- An over-long line, whole or not, is broken, and nothing comes after.
 pub goes-long : (w : World) (s : List ℕ) → lineLimit ≤ length (line s) → Goes w s (brokenBytes w) (over w) []
-unfolding prints
 goes-long w s h =
     record {
       tells = λ more.
-          long-owed w (cut (s ++ more) .whole) (cut (s ++ more) .tail) (omega (arith, first-long s more))
-          ∙ sym (rw (over-owed (over w) (cut more .whole) (cut more .tail) refl) (append-nil _));
+          long-prints w (s ++ more) (omega (arith, first-long s more))
+          ∙ sym (rw (over-prints (over w) more refl) (append-nil _));
     }
 
 -- ---- the world and what is left over

@@ -1,4 +1,4 @@
--- `player::put_word` meets its contract: the bytes that were passed are pasted. Assumes nothing.
+-- `feeder::put_word` meets its contract: the bytes that were passed are pasted. Assumes nothing.
 use mathlib.Core.Path.{_≡_, refl, _∙_}
 use Prim.Native.Nat.{_+_, _-_, _≤_}
 use borrow.Author.Needs.{needs}
@@ -6,9 +6,9 @@ use native.Mathlib.Omega.{arith}
 use native.Mathlib.Numerals.{add-one}
 use lib.ListN.{length, length-set}
 use lib.Seq.{paste, paste-zero, paste-suc}
-use Rattle.player.proofs.Moving.{all-placed}
-use Rattle.player.proofs.put_word.Statement.{statement}
-use Rattle.player.proofs.put_word.Tie as tie
+use Rattle.feeder.proofs.Moving.{all-placed}
+use Rattle.feeder.proofs.put_word.Statement.{statement}
+use Rattle.feeder.proofs.put_word.Tie as tie
 
 abbrev Inv-loop : tie.InvT-loop
 Inv-loop out₀ at w k₀ out k =

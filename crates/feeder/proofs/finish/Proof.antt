@@ -1,4 +1,4 @@
--- `player::finish` meets its contract: what the end of the input says is placed at the front of out. Assumes nothing.
+-- `feeder::finish` meets its contract: what the end of the input says is placed at the front of out. Assumes nothing.
 use mathlib.Core.Path.{_≡_, sym, _∙_, ap}
 use mathlib.Core.List.{[]}
 use Prim.Native.Nat.{ℕ, _+_, _≤_}
@@ -7,12 +7,12 @@ use native.Mathlib.Omega.{arith}
 use lib.ListN.{length, take}
 use lib.Seq.{length-take-le}
 use Rattle.cards.specs.Says.{Says, endSays}
 use Rattle.player.specs.Card.{worldOf, outputBytes, lastOutput}
-use Rattle.player.proofs.Resuming.{ends}
+use Rattle.feeder.proofs.Resuming.{ends}
 use Rattle.player.proofs.Paying.{output-small}
-use Rattle.player.proofs.Moving.{put-takes, put-keeps, put-length}
-use Rattle.player.proofs.finish.Statement.{statement}
-use Rattle.player.proofs.finish.Tie as tie
+use Rattle.feeder.proofs.Moving.{put-takes, put-keeps, put-length}
+use Rattle.feeder.proofs.finish.Statement.{statement}
+use Rattle.feeder.proofs.finish.Tie as tie
 
 -- The start, from where the output is known.
 abbrev begun : tie.After-last-output → tie.Start

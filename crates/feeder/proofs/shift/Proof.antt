@@ -1,11 +1,11 @@
--- `player::shift` meets its contract: the bytes up to i have moved down (`Moved`). Assumes nothing.
+-- `feeder::shift` meets its contract: the bytes up to i have moved down (`Moved`). Assumes nothing.
 use Prim.Native.Nat.{_-_, _≤_}
 use borrow.Author.Needs.{needs}
 use native.Mathlib.Omega.{arith}
 use lib.ListN.{length}
-use Rattle.player.proofs.Moving.{Moved, moved-none, moved-more, moved-all}
-use Rattle.player.proofs.shift.Statement.{statement}
-use Rattle.player.proofs.shift.Tie as tie
+use Rattle.feeder.proofs.Moving.{Moved, moved-none, moved-more, moved-all}
+use Rattle.feeder.proofs.shift.Statement.{statement}
+use Rattle.feeder.proofs.shift.Tie as tie
 
 abbrev Inv-loop : tie.InvT-loop
 Inv-loop buf₀ from to i₀ buf i = Moved buf₀ buf from i × (from ≤ i) × (i ≤ to) × (to ≤ length buf₀)

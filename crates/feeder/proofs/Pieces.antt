@@ -3,11 +3,12 @@
 use mathlib.Core.Path.{_≡_, _∙_, sym, ap}
 use mathlib.Core.List.{List, _++_, append-assoc}
 use Prim.Native.Nat.{ℕ}
 use Rattle.player.specs.Card.{World, prints, printed}
-use Rattle.player.specs.Pieces.{concat, Run, Program}
-use Rattle.player.specs.Pieces.Run.{ended, piece, over}
+use Rattle.feeder.specs.Pieces.{concat, Run, Program}
+use Rattle.feeder.specs.Pieces.Run.{ended, piece, over}
 use Rattle.cards.proofs.Lines.{append-nil}
-use Rattle.player.proofs.Resuming.{ends, over-prints}
+use Rattle.player.proofs.Printing.{over-prints}
+use Rattle.feeder.proofs.Resuming.{ends}
 
 pub whole : {w : World} {s : List ℕ} {cs : List (List ℕ)} {o : List ℕ} → Run w s cs o → o ≡ prints w (s ++ concat cs)
 unfolding concat

@@ -1,4 +1,4 @@
--- `player::feed` meets its contract. The invariant: what is written so far, and what is owed for the bytes that are
+-- `feeder::feed` meets its contract. The invariant: what is written so far, and what is owed for the bytes that are
 -- left, make what was owed at the start (`Between`). Assumes nothing.
 use mathlib.Core.Path.{_≡_, refl, _∙_, ap}
 use mathlib.Core.List.{List, []}
@@ -7,13 +7,13 @@ use native.Mathlib.Omega.{arith}
 use borrow.Author.Needs.{needs}
 use lib.ListN.{length}
 use Rattle.cards.specs.Says.{brokenBy}
 use Rattle.player.specs.Card.{World, worldOf, brought, stopped, lastOutput, outputBytes}
-use Rattle.player.specs.declared.Fed.{Fed}
-use Rattle.player.proofs.Moving.{put-length, withRest}
-use Rattle.player.proofs.Feeding.{Between, begun, written-room, rest-room, ran-on, line-inside, said-room}
-use Rattle.player.proofs.Feeding.{after-line, left-over, last-room, over-long}
-use Rattle.player.proofs.feed.Statement.{statement}
-use Rattle.player.proofs.feed.Tie as tie
+use Rattle.feeder.specs.declared.Fed.{Fed}
+use Rattle.feeder.proofs.Moving.{put-length, withRest}
+use Rattle.feeder.proofs.Feeding.{Between, begun, written-room, rest-room, ran-on, line-inside, said-room}
+use Rattle.feeder.proofs.Feeding.{after-line, left-over, last-room, over-long}
+use Rattle.feeder.proofs.feed.Statement.{statement}
+use Rattle.feeder.proofs.feed.Tie as tie
 
 abbrev Inv-loop : tie.InvT-loop
 Inv-loop bytes ps₀ table₀ state₀ values₀ out₀ w₀ used₀ at₀ ps table state values out w used at =

@@ -1,4 +1,4 @@
--- `player::run_ticks` meets its contract. The invariant: what stands between two lines of the piece (`Between`), and no
+-- `feeder::run_ticks` meets its contract. The invariant: what stands between two lines of the piece (`Between`), and no
 -- step has a refusal. Assumes nothing.
 use mathlib.Core.Path.{_≡_, refl, sym, _∙_}
 use Prim.Native.Nat.{_+_, _<_}
@@ -6,12 +6,12 @@ use native.Mathlib.Omega.{arith}
 use borrow.Author.Needs.{needs}
 use lib.ListN.{length}
 use Rattle.cards.specs.Says.{stageAt}
 use Rattle.player.specs.Card.{worldOf, watchOf}
-use Rattle.player.specs.Feed.{Admitted}
-use Rattle.player.proofs.Feeding.{Between, begun}
-use Rattle.player.proofs.Ticking.{admitted-on, line-inside, verdict-room, after-tick, runs-all}
-use Rattle.player.proofs.run_ticks.Statement.{statement}
-use Rattle.player.proofs.run_ticks.Tie as tie
+use Rattle.feeder.specs.Feed.{Admitted}
+use Rattle.feeder.proofs.Feeding.{Between, begun}
+use Rattle.feeder.proofs.Ticking.{admitted-on, line-inside, verdict-room, after-tick, runs-all}
+use Rattle.feeder.proofs.run_ticks.Statement.{statement}
+use Rattle.feeder.proofs.run_ticks.Tie as tie
 
 abbrev Inv-loop : tie.InvT-loop
 Inv-loop bytes ps table state₀ values₀ out₀ phase n left₀ used₀ at₀ state values out left used at =

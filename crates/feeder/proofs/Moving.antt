@@ -7,7 +7,7 @@ use native.Mathlib.Omega.{arith}
 use lib.ListN.{length, getD, set, take, drop, length-drop, length-set, length-append, drop-of-length-le}
 use lib.Seq.{take-suc, take-suc-set, getD-drop, drop-set-lt, drop-drop, paste, take-length, take-at}
 use lib.Seq.{length-take-le, take-nil, take-all, drop-at}
-use Rattle.player.specs.Feed.{placed, shifted}
+use Rattle.feeder.specs.Feed.{placed, shifted}
 use Rattle.cards.proofs.Lines.{append-nil}
 
 -- The bytes up to i have moved down by `from`, and those from there on are as they were.

@@ -1,0 +1,7 @@
+-- Laws behind the functions' proofs, and the theorem on cards in pieces.
+pub mod Moving
+pub mod Resuming
+pub mod Feeding
+pub mod Ticking
+pub mod Pieces
+pub mod Ending

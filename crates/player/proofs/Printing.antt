@@ -1,0 +1,41 @@
+-- What is owed for the lines and the bytes that are left (`owed`, `prints`): nothing once the card is over, and a
+-- refusal where the first line is over-long. Assumes nothing.
+use mathlib.Core.Path.{_≡_, refl, ap}
+use mathlib.Core.List.{List, [], _∷_}
+use Prim.Native.Nat.{ℕ, _≤_}
+use native.Mathlib.Omega.{arith}
+use lib.ListN.{length}
+use Rattle.limits.specs.Limits.{lineLimit}
+use Rattle.cards.specs.Lines.{cut}
+use Rattle.cards.specs.Says.{Says, brokenBy, endIn}
+use Rattle.cards.specs.declared.Phase.{Phase}
+use Rattle.cards.specs.declared.Phase.the-variants as P
+use Rattle.cards.proofs.Lines.{append-nil, firstOf}
+use Rattle.cards.proofs.Stages.{end-broken}
+use Rattle.player.specs.Card.{World, over, lastOutput, outputBytes, owed, prints}
+use Rattle.player.proofs.Playing.{over-lined, long-lined}
+
+-- Nothing is printed once the card is over,
+over-owed : (w : World) (ls : List (List ℕ)) (t : List ℕ) → w .watch .stage .phase ≡ P.Over → owed w ls t ≡ []
+unfolding owed outputBytes
+over-owed w [] t e = ap (λ (p : Phase). outputBytes (lastOutput (endIn p (w .watch .stage .left) (length t)))) e
+over-owed w (l ∷ ls) t e = rw (over-lined w l e) (over-owed (over w) ls t refl)
+
+pub over-prints : (w : World) (s : List ℕ) → w .watch .stage .phase ≡ P.Over → prints w s ≡ []
+unfolding prints
+over-prints w s e = over-owed w (cut s .whole) (cut s .tail) e
+
+-- and an over-long line, whole or not, is broken.
+abbrev pub brokenBytes : World → List ℕ
+brokenBytes w = outputBytes (lastOutput (brokenBy (w .watch .stage .phase)))
+
+long-owed : (w : World) (ls : List (List ℕ)) (t : List ℕ) → lineLimit ≤ firstOf ls t → owed w ls t ≡ brokenBytes w
+unfolding owed
+long-owed w [] t h =
+    ap (λ (s : Says). outputBytes (lastOutput s)) (end-broken (w .watch .stage) (length t) (omega arith))
+long-owed w (l ∷ ls) t h = rw (long-lined w l h, over-owed (over w) ls t refl) (append-nil _)
+
+pub long-prints : (w : World) (s : List ℕ) → lineLimit ≤ firstOf (cut s .whole) (cut s .tail)
+    → prints w s ≡ brokenBytes w
+unfolding prints
+long-prints w s h = long-owed w (cut s .whole) (cut s .tail) h
