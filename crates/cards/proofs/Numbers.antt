@@ -15,8 +15,8 @@ use Rattle.lists.specs.Decimal.{DecimalAt}
 use Rattle.lists.specs.declared.Decimal.{Decimal}
 use Rattle.lists.specs.declared.Decimal.the-variants as D
 use Rattle.lists.proofs.Decimals.{is-of, is-next, above-of, missing-of}
-use Rattle.cards.specs.Numbers.{parsed, readTo, NumberAt, number, hasPrefix, beforeComma}
-use Rattle.cards.specs.Numbers.{atEnd, numbers, Listed, wholly, parametersOf}
+use Rattle.cards.specs.Numbers.{Parsed, parsed, readTo, ReadsAs, number, hasPrefix, beforeComma}
+use Rattle.cards.specs.Numbers.{atEnd, numbers, wholly, parametersOf}
 use Rattle.cards.specs.Numbers.Parsed.{done, none}
 use Rattle.cards.specs.Numbers.Listed.{are, broken}
 use Rattle.cards.specs.declared.Number.{Number}
@@ -41,18 +41,17 @@ module _ (s : List ℕ) (n v : ℕ) where
   unfolding atEnd
   at-end-more got h = rw (drop-cons s n 0)
 
-  module _ (k : ℕ → List ℕ → Listed) where
-    pub comma-none : length s ≤ n → beforeComma (done v (drop n s)) k ≡ broken
-    unfolding beforeComma
-    comma-none h = rw (drop-of-length-le s h)
+  pub comma-none : length s ≤ n → beforeComma (done v (drop n s)) ≡ none
+  unfolding beforeComma
+  comma-none h = rw (drop-of-length-le s h)
 
-    pub comma-other : n < length s → (getD s n 0 ≡ 44 → ⊥) → beforeComma (done v (drop n s)) k ≡ broken
-    unfolding beforeComma
-    comma-other h e = rw (drop-cons s n 0, ne-eqb _ _ e)
+  pub comma-other : n < length s → (getD s n 0 ≡ 44 → ⊥) → beforeComma (done v (drop n s)) ≡ none
+  unfolding beforeComma
+  comma-other h e = rw (drop-cons s n 0, ne-eqb _ _ e)
 
-    pub comma-there : n < length s → getD s n 0 ≡ 44 → beforeComma (done v (drop n s)) k ≡ k v (drop (n + 1) s)
-    unfolding beforeComma
-    comma-there h e = rw (drop-cons s n 0, e, add-one n)
+  pub comma-there : n < length s → getD s n 0 ≡ 44 → beforeComma (done v (drop n s)) ≡ done v (drop (n + 1) s)
+  unfolding beforeComma
+  comma-there h e = rw (drop-cons s n 0, e, add-one n)
 
 -- Whether s begins with w, from place k on.
 module _ (w s : List ℕ) (k : ℕ) where
@@ -105,69 +104,52 @@ module _ {w s : List ℕ} {k : ℕ} (m : Matching w s k) where
 
 -- What the decimal reader answers.
 module _ {s : List ℕ} {at : ℕ} {r : Decimal} (h : DecimalAt s at (literalCount - 1) r) where
-  pub number-is : {v n : ℕ} → r ≡ D.Is v n → NumberAt (N.Is v n) s at
+  pub number-is : {v n : ℕ} → r ≡ D.Is v n → ReadsAs (N.Is v n) s (number (drop at s))
   unfolding number
   number-is e = record { means = sym (ap parsed (is-of h e)); within = is-next h e }
 
-  pub number-above : {n : ℕ} → r ≡ D.Above n → NumberAt N.Broken s at
+  pub number-above : {n : ℕ} → r ≡ D.Above n → ReadsAs N.Broken s (number (drop at s))
   unfolding number
   number-above e = record { means = sym (ap parsed (above-of h e)); within = omega arith }
 
-  pub number-missing : r ≡ D.Missing → NumberAt N.Broken s at
+  pub number-missing : r ≡ D.Missing → ReadsAs N.Broken s (number (drop at s))
   unfolding number
   number-missing e = record { means = sym (ap parsed (missing-of h e)); within = omega arith }
 
 -- What the code's answer says of the definition
-module _ {r : Number} {s : List ℕ} {at : ℕ} (h : NumberAt r s at) where
-  pub none-of : r ≡ N.Broken → number (drop at s) ≡ none
+module _ {r : Number} {s : List ℕ} {p : Parsed} (h : ReadsAs r s p) where
+  none-of : r ≡ N.Broken → p ≡ none
   none-of e = sym (h .means) ∙ ap (λ (q : Number). readTo q s) e
 
-  pub done-of : (v n : ℕ) → r ≡ N.Is v n → number (drop at s) ≡ done v (drop n s)
-  done-of v n e = sym (h .means) ∙ ap (λ (q : Number). readTo q s) e
-
-  pub next-of : (v n : ℕ) → r ≡ N.Is v n → n ≤ length s
-  next-of v n e = rw e at (h .within)
+  done-of : {v n : ℕ} → r ≡ N.Is v n → p ≡ done v (drop n s)
+  done-of e = sym (h .means) ∙ ap (λ (q : Number). readTo q s) e
 
   -- All of the line's rest is a number.
-  pub wholly-none : r ≡ N.Broken → K.Broken ≡ wholly (number (drop at s))
+  pub wholly-none : r ≡ N.Broken → K.Broken ≡ wholly p
   unfolding wholly
   wholly-none e = rw (none-of e)
 
   module _ {v n : ℕ} (e : r ≡ N.Is v n) where
-    pub wholly-last : length s ≤ n → K.Is v ≡ wholly (number (drop at s))
-    wholly-last g = rw (done-of v n e) (sym (wholly-end s n v g))
+    pub wholly-last : length s ≤ n → K.Is v ≡ wholly p
+    wholly-last g = rw (done-of e) (sym (wholly-end s n v g))
 
-    pub wholly-not : n < length s → K.Broken ≡ wholly (number (drop at s))
-    wholly-not g = rw (done-of v n e) (sym (wholly-more s n v g))
+    pub wholly-not : n < length s → K.Broken ≡ wholly p
+    wholly-not g = rw (done-of e) (sym (wholly-more s n v g))
 
--- How the list of numbers goes on after a number
-pub numbers-none : (k : ℕ) (got l : List ℕ) → number l ≡ none → numbers k got l ≡ broken
-unfolding numbers atEnd beforeComma
-numbers-none zero got l e = rw e
-numbers-none (suc k) got l e = rw e
+  -- A comma has to follow.
+  pub comma-missing : r ≡ N.Broken → ReadsAs N.Broken s (beforeComma p)
+  unfolding beforeComma
+  comma-missing e = record { means = rw (none-of e); within = omega arith }
 
-module _ (m : ℕ) (got l s : List ℕ) (v n : ℕ) (e : number l ≡ done v (drop n s)) where
-  pub numbers-short : length s ≤ n → numbers (suc m) got l ≡ broken
-  unfolding numbers
-  numbers-short h = rw e (comma-none s n v _ h)
+  module _ {v n : ℕ} (e : r ≡ N.Is v n) where
+    pub comma-short : length s ≤ n → ReadsAs N.Broken s (beforeComma p)
+    comma-short g = record { means = rw (done-of e) (sym (comma-none s n v g)); within = omega arith }
 
-  pub numbers-other : n < length s → (getD s n 0 ≡ 44 → ⊥) → numbers (suc m) got l ≡ broken
-  unfolding numbers
-  numbers-other h o = rw e (comma-other s n v _ h o)
+    pub comma-unlike : n < length s → (getD s n 0 ≡ 44 → ⊥) → ReadsAs N.Broken s (beforeComma p)
+    comma-unlike g o = record { means = rw (done-of e) (sym (comma-other s n v g o)); within = omega arith }
 
-  pub numbers-comma : n < length s → getD s n 0 ≡ 44
-      → numbers (suc m) got l ≡ numbers m (got ++ (v ∷ [])) (drop (n + 1) s)
-  unfolding numbers
-  numbers-comma h o = rw e (comma-there s n v _ h o)
-
-module _ (got l s : List ℕ) (v n : ℕ) (e : number l ≡ done v (drop n s)) where
-  pub numbers-last : length s ≤ n → numbers 0 got l ≡ are (got ++ (v ∷ []))
-  unfolding numbers
-  numbers-last h = rw e (at-end s n v got h)
-
-  pub numbers-more : n < length s → numbers 0 got l ≡ broken
-  unfolding numbers
-  numbers-more h = rw e (at-end-more s n v got h)
+    pub comma-found : n < length s → getD s n 0 ≡ 44 → ReadsAs (N.Is v (n + 1)) s (beforeComma p)
+    comma-found g o = record { means = rw (done-of e) (sym (comma-there s n v g o)); within = omega arith }
 
 -- The last of eight is stored.
 pub eighth : (ps : List ℕ) (v : ℕ) → length ps ≡ 8 → take 7 ps ++ (v ∷ []) ≡ set ps 7 v
@@ -185,42 +167,44 @@ pub listing-begun : (s ps : List ℕ) → hasPrefix (bytes "k=") s ≡ true → 
 unfolding parametersOf
 listing-begun s ps e h = record { rest = rw e; within = omega arith; eight = h }
 
-module _ {s ps : List ℕ} {at i : ℕ} (k : Listing s ps at i) {r : Number} (q : NumberAt r s at) where
-  pub listing-none : r ≡ N.Broken → broken ≡ parametersOf s
-  listing-none e = sym (numbers-none (7 - i) _ _ (none-of q e)) ∙ k .rest
+module _ {s ps : List ℕ} {at i : ℕ} (k : Listing s ps at i) {r : Number} where
+  -- One of the first seven, before a comma.
+  module _ (h : i < 7) (q : ReadsAs r s (beforeComma (number (drop at s)))) where
+    one-more : numbers (suc (7 - (i + 1))) (take i ps) (drop at s) ≡ parametersOf s
+    one-more = let z : 7 - i ≡ suc (7 - (i + 1)) = omega arith in rw z at (k .rest)
 
-  module _ {v n : ℕ} (e : r ≡ N.Is v n) where
-    -- One of the first seven: a comma has to follow.
-    module _ (h : i < 7) where
-      one-more : numbers (suc (7 - (i + 1))) (take i ps) (drop at s) ≡ parametersOf s
-      one-more = let z : 7 - i ≡ suc (7 - (i + 1)) = omega arith in rw z at (k .rest)
+    pub listing-broken : r ≡ N.Broken → broken ≡ parametersOf s
+    unfolding numbers
+    listing-broken e = rw (none-of q e) at one-more
 
-      pub listing-short : length s ≤ n → broken ≡ parametersOf s
-      listing-short g = sym (numbers-short (7 - (i + 1)) _ _ s v n (done-of q v n e) g) ∙ one-more
+    pub listing-more : {v n : ℕ} → r ≡ N.Is v n → Listing s (set ps i v) n (i + 1)
+    unfolding numbers
+    listing-more {v} {n} e =
+        let stored : take (i + 1) (set ps i v) ≡ take i ps ++ (v ∷ []) =
+        rw (add-one i) (take-suc-set ps i v (omega (arith, k .eight))) in
+        record {
+          rest = rw stored (rw (done-of q e) at one-more);
+          within = omega arith;
+          eight = length-set ps i v ∙ k .eight;
+        }
 
-      pub listing-other : n < length s → (getD s n 0 ≡ 44 → ⊥) → broken ≡ parametersOf s
-      listing-other g o = sym (numbers-other (7 - (i + 1)) _ _ s v n (done-of q v n e) g o) ∙ one-more
+  -- The eighth: the line has to end.
+  module _ (h : 7 ≤ i) (q : ReadsAs r s (number (drop at s))) where
+    all-seven : atEnd (take 7 ps) (number (drop at s)) ≡ parametersOf s
+    unfolding numbers
+    all-seven = let z : i ≡ 7 = omega (arith, k .within) in rw z at (k .rest)
 
-      pub listing-more : n < length s → getD s n 0 ≡ 44 → Listing s (set ps i v) (n + 1) (i + 1)
-      listing-more g o =
-          let stored : take (i + 1) (set ps i v) ≡ take i ps ++ (v ∷ []) =
-          rw (add-one i) (take-suc-set ps i v (omega (arith, k .eight))) in
-          record {
-            rest = rw stored (sym (numbers-comma (7 - (i + 1)) _ _ s v n (done-of q v n e) g o) ∙ one-more);
-            within = omega arith;
-            eight = length-set ps i v ∙ k .eight;
-          }
+    pub listing-none : r ≡ N.Broken → broken ≡ parametersOf s
+    unfolding atEnd
+    listing-none e = rw (none-of q e) at all-seven
 
-    -- The eighth: the line has to end.
-    module _ (h : 7 ≤ i) where
-      all-seven : numbers 0 (take 7 ps) (drop at s) ≡ parametersOf s
-      all-seven = let z : i ≡ 7 = omega (arith, k .within) in rw z at (k .rest)
+    module _ {v n : ℕ} (e : r ≡ N.Is v n) where
+      read-last : atEnd (take 7 ps) (done v (drop n s)) ≡ parametersOf s
+      read-last = rw (done-of q e) at all-seven
 
       pub listing-not : n < length s → broken ≡ parametersOf s
-      listing-not g = sym (numbers-more (take 7 ps) _ s v n (done-of q v n e) g) ∙ all-seven
+      listing-not g = sym (at-end-more s n v (take 7 ps) g) ∙ read-last
 
       pub listing-last : length s ≤ n → are (set ps 7 v) ≡ parametersOf s
       listing-last g =
-          ap are (sym (eighth ps v (k .eight)))
-          ∙ sym (numbers-last (take 7 ps) _ s v n (done-of q v n e) g)
-          ∙ all-seven
+          ap are (sym (eighth ps v (k .eight))) ∙ sym (at-end s n v (take 7 ps) g) ∙ read-last

@@ -13,8 +13,8 @@ use Rattle.lists.specs.Decimal.{Numeral, isDigit, settled, digitsAfter, numeral
 use Rattle.lists.specs.Decimal.Numeral.{is, above, missing}
 use Rattle.lists.proofs.Choice.{chosen}
 use Rattle.lists.proofs.Decimals.{digit-range, is-bounded}
-use Rattle.cards.specs.Numbers.{Parsed, parsed, number, hasPrefix, Listed, beforeComma, atEnd, numbers}
-use Rattle.cards.specs.Numbers.{parametersOf, wholly, countOf}
+use Rattle.cards.specs.Numbers.{Parsed, parsed, number, hasPrefix, Listed, beforeComma, thenListed, atEnd}
+use Rattle.cards.specs.Numbers.{numbers, parametersOf, wholly, countOf}
 use Rattle.cards.specs.Numbers.Parsed.{done, none}
 use Rattle.cards.specs.Numbers.Listed.{are, broken}
 use Rattle.cards.specs.declared.Count.{Count}
@@ -61,18 +61,23 @@ if-low : (b : Bool) (x : Listed) → AllLow x → AllLow (cond b x broken)
 if-low true x h = h
 if-low false x h = tt
 
-comma-low : (p : Parsed) (k : ℕ → List ℕ → Listed) → Small p
-    → ((v : ℕ) (r : List ℕ) → v < literalCount → AllLow (k v r)) → AllLow (beforeComma p k)
+comma-small : (p : Parsed) → Small p → Small (beforeComma p)
 unfolding beforeComma
-comma-low none k s h = tt
-comma-low (done v []) k s h = tt
-comma-low (done v (b ∷ l)) k s h = if-low (eqb b 44) (k v l) (h v l s)
+comma-small none h = tt
+comma-small (done v []) h = tt
+comma-small (done v (b ∷ l)) h = chosen Small (eqb b 44) (λ _. h) (λ _. tt)
+
+then-low : (p : Parsed) (k : ℕ → List ℕ → Listed) → Small p
+    → ((v : ℕ) (r : List ℕ) → v < literalCount → AllLow (k v r)) → AllLow (thenListed p k)
+then-low none k s h = tt
+then-low (done v l) k s h = h v l s
 
 numbers-low : (m : ℕ) (got l : List ℕ) → Low got → AllLow (numbers m got l)
 unfolding numbers
 numbers-low zero got l h = end-low got (number l) h (number-small l)
 numbers-low (suc m) got l h =
-    comma-low (number l) _ (number-small l) (λ v r s. numbers-low m (got ++ (v ∷ [])) r (append-low got v h s))
+    then-low (beforeComma (number l)) _ (comma-small (number l) (number-small l))
+    (λ v r s. numbers-low m (got ++ (v ∷ [])) r (append-low got v h s))
 
 pub parameters-low : (l ps : List ℕ) → parametersOf l ≡ are ps → Low ps
 unfolding parametersOf
@@ -188,18 +193,20 @@ end-spans got l none h = tt
 end-spans got l (done v []) h = omega arith
 end-spans got l (done v (b ∷ r)) h = tt
 
-after-comma : (m : ℕ) (l r : List ℕ) (b : Bool) (x : Listed) → length l ≤ 8 + length r → Spans m r x
-    → Spans (8 + m) l (cond b x broken)
-after-comma m l r true (are ps) h s = omega arith
-after-comma m l r true broken h s = tt
-after-comma m l r false x h s = tt
-
-comma-spans : (m : ℕ) (l : List ℕ) (p : Parsed) (k : ℕ → List ℕ → Listed) → Takes 7 l p
-    → ((v : ℕ) (r : List ℕ) → Spans m r (k v r)) → Spans (8 + m) l (beforeComma p k)
+comma-takes : (l : List ℕ) (p : Parsed) → Takes 7 l p → Takes 8 l (beforeComma p)
 unfolding beforeComma
-comma-spans m l none k h s = tt
-comma-spans m l (done v []) k h s = tt
-comma-spans m l (done v (b ∷ r)) k h s = after-comma m l r (eqb b 44) (k v r) (omega arith) (s v r)
+comma-takes l none h = tt
+comma-takes l (done v []) h = tt
+comma-takes l (done v (b ∷ r)) h = chosen (Takes 8 l) (eqb b 44) (λ _. omega arith) (λ _. tt)
+
+spans-more : (m n : ℕ) (l r : List ℕ) (x : Listed) → length l ≤ m + length r → Spans n r x → Spans (m + n) l x
+spans-more m n l r (are ps) h s = omega arith
+spans-more m n l r broken h s = tt
+
+then-spans : (m n : ℕ) (l : List ℕ) (p : Parsed) (k : ℕ → List ℕ → Listed) → Takes m l p
+    → ((v : ℕ) (r : List ℕ) → Spans n r (k v r)) → Spans (m + n) l (thenListed p k)
+then-spans m n l none k h s = tt
+then-spans m n l (done v r) k h s = spans-more m n l r (k v r) h (s v r)
 
 abbrev span : ℕ → ℕ
 span zero = 7
@@ -209,7 +216,8 @@ numbers-span : (m : ℕ) (got l : List ℕ) → Spans (span m) l (numbers m got 
 unfolding numbers
 numbers-span zero got l = end-spans got l (number l) (number-takes l)
 numbers-span (suc m) got l =
-    comma-spans (span m) l (number l) _ (number-takes l) (λ v r. numbers-span m (got ++ (v ∷ [])) r)
+    then-spans 8 (span m) l (beforeComma (number l)) _ (comma-takes l (number l) (number-takes l))
+    (λ v r. numbers-span m (got ++ (v ∷ [])) r)
 
 if-spans : (m : ℕ) (l : List ℕ) (b : Bool) (x : Listed) → Spans m l x → Spans m l (cond b x broken)
 if-spans m l true x h = h

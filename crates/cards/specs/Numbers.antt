@@ -12,7 +12,6 @@ use Rattle.lists.specs.Decimal.{Numeral, numeral}
 use Rattle.lists.specs.Decimal.Numeral.{is, above, missing}
 use Rattle.cards.specs.declared.Number.{Number}
 use Rattle.cards.specs.declared.Number.the-variants as N
-use Rattle.cards.specs.declared.Parameters.{Parameters}
 use Rattle.cards.specs.declared.Count.{Count}
 use Rattle.cards.specs.declared.Count.the-variants as K
 
@@ -45,9 +44,9 @@ abbrev pub nextIn : Number → ℕ → ℕ
 nextIn (N.Is v next) n = next
 nextIn N.Broken n = n
 
--- The answer r is the number that stands in s at a place.
-pub record NumberAt (r : Number) (s : List ℕ) (at : ℕ) : Type 0 where
-  pub means : readTo r s ≡ number (drop at s)
+-- The answer r says p of the bytes s.
+pub record ReadsAs (r : Number) (s : List ℕ) (p : Parsed) : Type 0 where
+  pub means : readTo r s ≡ p
   pub within : nextIn r (length s) ≤ length s
 
 -- What a line of numbers says.
@@ -55,14 +54,16 @@ pub data Listed : Type 0 where
   are : List ℕ → Listed
   broken : Listed
 
-abbrev pub valuesOf : Parameters → Listed
-valuesOf p = cond (p .fine) (are (p .values)) broken
+-- A number before a comma (byte 44), and the bytes after the comma.
+unfoldable pub beforeComma : Parsed → Parsed
+beforeComma none = none
+beforeComma (done v []) = none
+beforeComma (done v (b ∷ l)) = cond (eqb b 44) (done v l) none
 
--- A number before a comma (byte 44), and what is then made of the bytes after it.
-unfoldable pub beforeComma : Parsed → (ℕ → List ℕ → Listed) → Listed
-beforeComma none k = broken
-beforeComma (done v []) k = broken
-beforeComma (done v (b ∷ l)) k = cond (eqb b 44) (k v l) broken
+-- What is made of a number and the bytes after it.
+abbrev pub thenListed : Parsed → (ℕ → List ℕ → Listed) → Listed
+thenListed none k = broken
+thenListed (done v l) k = k v l
 
 -- A number at the end of the line, after those that were read.
 unfoldable pub atEnd : List ℕ → Parsed → Listed
@@ -73,7 +74,7 @@ atEnd got (done v (b ∷ l)) = broken
 -- m numbers before commas and a last one, after those that were read.
 unfoldable pub numbers : ℕ → List ℕ → List ℕ → Listed
 numbers zero got l = atEnd got (number l)
-numbers (suc m) got l = beforeComma (number l) (λ v r. numbers m (got ++ (v ∷ [])) r)
+numbers (suc m) got l = thenListed (beforeComma (number l)) (λ v r. numbers m (got ++ (v ∷ [])) r)
 
 -- "`k=` eight numbers 0 to 999,999 with commas"
 unfoldable pub parametersOf : List ℕ → Listed

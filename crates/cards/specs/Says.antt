@@ -81,19 +81,22 @@ abbrev pub countSays : Count → Says
 countSays (K.Is k) = count k
 countSays K.Broken = refused 17
 
--- "then that many lines `t=` [..]"
+-- "then that many lines `t=` [..]",
 abbrev pub tickSays : TickLine → Says
 tickSays (T.Is start signals) = tick start signals
 tickSays T.Broken = refused 18
 
--- What a line of the right length says, where so many ticks are left: "`watch=` rule text" in the third line, and
--- "bytes after the last tick are 18".
+-- where so many ticks are left: "bytes after the last tick are 18".
+abbrev pub tickIn : ℕ → List ℕ → Says
+tickIn left l = cond (eqb left 0) (refused 18) (tickSays (tickLine l))
+
+-- What a line of the right length says, where so many ticks are left: "`watch=` rule text" in the third line.
 abbrev pub saysIn : Phase → ℕ → List ℕ → Says
 saysIn P.Edition left l = cond (editionOf l) edition (refused 17)
 saysIn P.Parameters left l = parametersSay (parametersOf l)
 saysIn P.Rule left l = cond (hasPrefix (bytes "watch=") l) (rule (drop 6 l)) (refused 17)
 saysIn P.Count left l = countSays (countOf l)
-saysIn P.Ticks left l = cond (eqb left 0) (refused 18) (tickSays (tickLine l))
+saysIn P.Ticks left l = tickIn left l
 saysIn P.Over left l = nothing
 
 -- "Checks go line by line": what a line says, given without its byte 10.

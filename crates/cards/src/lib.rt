@@ -5,22 +5,17 @@ use lists::Decimal;
 ghost use mathlib.Core.Path.{_≡_};
 ghost use mathlib.Core.List.{List};
 ghost use Prim.Native.Nat.{ℕ};
-ghost use lib.ListN.{drop};
-ghost use Rattle.cards.specs.Numbers.{hasPrefix, NumberAt, valuesOf, parametersOf, countOf};
+ghost use lib.ListN.{drop, replicate};
+ghost use Rattle.limits.specs.Limits.{parameterCount};
+ghost use Rattle.cards.specs.Numbers.{hasPrefix, number, beforeComma, ReadsAs, parametersOf, countOf};
 ghost use Rattle.cards.specs.Ticks.{hexOf, tickLine, tickFirst};
-ghost use Rattle.cards.specs.Says.{editionOf, saysBy, brokenBy, lineSays, endSays, stageAt, stageAfter, first};
-ghost use Rattle.cards.specs.Says.{isOver};
+ghost use Rattle.cards.specs.Says.{editionOf, parametersSay, countSays, tickIn, saysBy, brokenBy, lineSays};
+ghost use Rattle.cards.specs.Says.{endSays, stageAt, stageAfter, first, isOver};
 
 // The number at a place of a line, and the place after it.
 enum Number {
     Is { value: u32, next: usize },
     Broken,
-}
-
-// The eight parameters, where their line is fine.
-struct Parameters {
-    pub fine: bool,
-    pub values: [u32; 8],
 }
 
 // The number of ticks.
@@ -51,7 +46,7 @@ pub struct Stage {
     pub left: u32,
 }
 
-// What a line says. The parameters stand beside it (`Told`), and the rule text is a part of the line.
+// What a line says. The parameters stand beside it (`LineRead`), and the rule text is a part of the line.
 pub enum Content {
     Edition,
     Parameters,
@@ -64,7 +59,7 @@ pub enum Content {
 }
 
 // What a line says, with the parameters where it says these.
-pub struct Told {
+pub struct LineRead {
     pub content: Content,
     pub values: [u32; 8],
 }
@@ -87,8 +82,8 @@ fn has_prefix(s: &[u8], w: &[u8]) -> bool
 }
 
 // The decimal number at a place: "0 to 999,999", and "decimal numbers have no needless 0".
-fn number_at(s: &[u8], at: usize) -> Number
-    ensures { λ r. ⌜ NumberAt r (now (s .entry)) at ⌝ }
+fn decimal_at(s: &[u8], at: usize) -> Number
+    ensures { λ r. ⌜ ReadsAs r (now (s .entry)) (number (drop at (now (s .entry)))) ⌝ }
 {
     match lists::read_decimal(s, at, limits::LITERALS - 1) {
         Decimal::Is { value, next } => Number::Is { value, next },
@@ -97,57 +92,63 @@ fn number_at(s: &[u8], at: usize) -> Number
     }
 }
 
-// "`k=` eight numbers 0 to 999,999 with commas"
-fn parameters_line(s: &[u8]) -> Parameters
-    ensures { λ r. ⌜ valuesOf r ≡ parametersOf (now (s .entry)) ⌝ }
+// The same before a comma; the place after it is the one after the comma.
+fn decimal_before_comma(s: &[u8], at: usize) -> Number
+    ensures { λ r. ⌜ ReadsAs r (now (s .entry)) (beforeComma (number (drop at (now (s .entry))))) ⌝ }
 {
-    let mut ps = [0u32; 8];
-    if !has_prefix(s, b"k=") {
-        return Parameters {
-            fine: false,
-            values: ps,
-        };
+    let Number::Is { value, next } = decimal_at(s, at) else {
+        return Number::Broken;
+    };
+    if s.len() <= next {
+        return Number::Broken;
     }
+    if s[next] != b',' {
+        return Number::Broken;
+    }
+    Number::Is {
+        value: value,
+        next: next + 1,
+    }
+}
+
+// With no parameters beside it.
+fn plain(content: Content) -> LineRead
+    ensures { λ r. ⌜ (r .content ≡ content) × (r .values ≡ replicate parameterCount 0) ⌝ }
+{
+    LineRead {
+        content: content,
+        values: [0u32; 8],
+    }
+}
+
+// "`k=` eight numbers 0 to 999,999 with commas"
+fn parameters_line(s: &[u8]) -> LineRead
+    ensures { λ r. ⌜ saysBy (r .content) (r .values) (now (s .entry))
+        ≡ parametersSay (parametersOf (now (s .entry))) ⌝ }
+{
+    if !has_prefix(s, b"k=") {
+        return plain(Content::Refused(17));
+    }
+    let mut ps = [0u32; 8];
     let mut at = 2;
     let mut i = 0;
     while i < 7 {
-        let Number::Is { value, next } = number_at(s, at) else {
-            return Parameters {
-                fine: false,
-                values: ps,
-            };
+        let Number::Is { value, next } = decimal_before_comma(s, at) else {
+            return plain(Content::Refused(17));
         };
-        if s.len() <= next {
-            return Parameters {
-                fine: false,
-                values: ps,
-            };
-        }
-        if s[next] != b',' {
-            return Parameters {
-                fine: false,
-                values: ps,
-            };
-        }
         ps[i] = value;
-        at = next + 1;
+        at = next;
         i += 1;
     }
-    let Number::Is { value, next } = number_at(s, at) else {
-        return Parameters {
-            fine: false,
-            values: ps,
-        };
+    let Number::Is { value, next } = decimal_at(s, at) else {
+        return plain(Content::Refused(17));
     };
     if next < s.len() {
-        return Parameters {
-            fine: false,
-            values: ps,
-        };
+        return plain(Content::Refused(17));
     }
     ps[7] = value;
-    Parameters {
-        fine: true,
+    LineRead {
+        content: Content::Parameters,
         values: ps,
     }
 }
@@ -159,7 +160,7 @@ fn count_line(s: &[u8]) -> Count
     if !has_prefix(s, b"ticks=") {
         return Count::Broken;
     }
-    let Number::Is { value, next } = number_at(s, 6) else {
+    let Number::Is { value, next } = decimal_at(s, 6) else {
         return Count::Broken;
     };
     if next < s.len() {
@@ -264,18 +265,33 @@ pub fn broken(p: Phase) -> Content
     }
 }
 
-// With no parameters beside it.
-fn plain(content: Content) -> Told
-    ensures { λ r. ⌜ r .content ≡ content ⌝ }
+// What the line `ticks=` says.
+fn count_content(s: &[u8]) -> Content
+    ensures { λ r. ⌜ ((ps l : List ℕ) → saysBy r ps l ≡ countSays (countOf (now (s .entry)))) ⌝ }
 {
-    Told {
-        content: content,
-        values: [0u32; 8],
+    let k = count_line(s);
+    match k {
+        Count::Broken => Content::Refused(17),
+        Count::Is(v) => Content::Count(v),
+    }
+}
+
+// What a line says at the ticks, where so many of them are left: "bytes after the last tick are 18".
+fn tick_content(left: u32, s: &[u8]) -> Content
+    ensures { λ r. ⌜ ((ps l : List ℕ) → saysBy r ps l ≡ tickIn left (now (s .entry))) ⌝ }
+{
+    if left == 0 {
+        return Content::Refused(18);
+    }
+    let t = tick_line(s);
+    match t {
+        TickLine::Broken => Content::Refused(18),
+        TickLine::Is { start, signals } => Content::Tick { start, signals },
     }
 }
 
 // "Checks go line by line": what a line says, given without its byte 10.
-pub fn read_line(stage: Stage, s: &[u8]) -> Told
+pub fn read_line(stage: Stage, s: &[u8]) -> LineRead
     ensures { λ r. ⌜ saysBy (r .content) (r .values) (now (s .entry)) ≡ lineSays stage (now (s .entry)) ⌝ }
 {
     let phase = stage.phase;
@@ -289,40 +305,15 @@ pub fn read_line(stage: Stage, s: &[u8]) -> Told
             }
             plain(Content::Refused(17))
         }
-        Phase::Parameters => {
-            let p = parameters_line(s);
-            if !p.fine {
-                return plain(Content::Refused(17));
-            }
-            let values = p.values;
-            Told {
-                content: Content::Parameters,
-                values: values,
-            }
-        }
+        Phase::Parameters => parameters_line(s),
         Phase::Rule => {
             if has_prefix(s, b"watch=") {
                 return plain(Content::Rule);
             }
             plain(Content::Refused(17))
         }
-        Phase::Count => {
-            let k = count_line(s);
-            match k {
-                Count::Broken => plain(Content::Refused(17)),
-                Count::Is(v) => plain(Content::Count(v)),
-            }
-        }
-        Phase::Ticks => {
-            if stage.left == 0 {
-                return plain(Content::Refused(18));
-            }
-            let t = tick_line(s);
-            match t {
-                TickLine::Broken => plain(Content::Refused(18)),
-                TickLine::Is { start, signals } => plain(Content::Tick { start, signals }),
-            }
-        }
+        Phase::Count => plain(count_content(s)),
+        Phase::Ticks => plain(tick_content(stage.left, s)),
         Phase::Over => plain(Content::Nothing),
     }
 }

@@ -16,21 +16,21 @@ unfolding countOf
 returns-2 c =
     let number = c .before .before in
     rw (sym (number .before .before .has-prefix .ensures) ∙ not-false _ (number .before .if1 .left))
-    (wholly-none (number .number-at .ensures) (c .enum-told .given .1))
+    (wholly-none (number .decimal-at .ensures) (c .enum-told .given .1))
 
 returns-3 : tie.Need-returns-3
 unfolding countOf
 returns-3 c =
     let number = c .before .before .before .before in
     rw (sym (number .before .before .has-prefix .ensures) ∙ not-false _ (number .before .if1 .left))
-    (wholly-not (number .number-at .ensures) (c .before .before .value .given .1) (c .if2 .taken))
+    (wholly-not (number .decimal-at .ensures) (c .before .before .value .given .1) (c .if2 .taken))
 
 returns-4 : tie.Need-returns-4
 unfolding countOf
 returns-4 c =
     let number = c .before .before .before .before in
     rw (sym (number .before .before .has-prefix .ensures) ∙ not-false _ (number .before .if1 .left))
-    (wholly-last (number .number-at .ensures) (c .before .before .value .given .1) (c .if2 .left))
+    (wholly-last (number .decimal-at .ensures) (c .before .before .value .given .1) (c .if2 .left))
 
 pub count-line-spec : {M : Type 1} → statement M
 count-line-spec =

@@ -1,13 +1,14 @@
 -- `cards::parameters_line` meets its contract: what is left of the line reads as the line does (`Listing`). Assumes
 -- nothing.
-use mathlib.Core.Path.{sym, _∙_}
+use mathlib.Core.Path.{sym, _∙_, ap}
 use Prim.Native.Nat.{_-_}
 use native.Mathlib.Omega.{arith}
 use borrow.Author.Needs.{needs}
 use borrow.Author.Tests.{not-true, not-false}
 use Rattle.cards.specs.Numbers.{parametersOf}
-use Rattle.cards.proofs.Numbers.{Listing, listing-begun, listing-none, listing-short, listing-other}
-use Rattle.cards.proofs.Numbers.{listing-more, listing-not, listing-last}
+use Rattle.cards.specs.Says.{parametersSay}
+use Rattle.cards.proofs.Numbers.{Listing, listing-begun, listing-broken, listing-more}
+use Rattle.cards.proofs.Numbers.{listing-none, listing-not, listing-last}
 use Rattle.cards.proofs.parameters_line.Statement.{statement}
 use Rattle.cards.proofs.parameters_line.Tie as tie
 
@@ -19,55 +20,53 @@ abbrev μ-loop : tie.MeasureT-loop
 
 returns : tie.Need-returns Inv-loop μ-loop
 unfolding parametersOf
-returns c = rw (sym (c .before .has-prefix .ensures) ∙ not-true _ (c .if1 .taken))
+returns c =
+    rw (c .plain .ensures .0, sym (c .before .before .has-prefix .ensures) ∙ not-true _ (c .before .if1 .taken))
 
 loop-holds : tie.Need-loop-holds Inv-loop μ-loop
 loop-holds c =
     listing-begun _ _ (sym (c .before .has-prefix .ensures) ∙ not-false _ (c .if1 .left)) (omega arith)
 
--- One of the first seven numbers: broken, at the end of the line, before another byte than a comma, before a comma.
+-- One of the first seven numbers: broken, or before a comma.
 returns-2 : tie.Need-returns-2 Inv-loop μ-loop
 returns-2 c =
-    let number = c .before .before in
-    listing-none (number .before .before .loop .inv) (number .number-at .ensures) (c .enum-told .given .1)
-
-returns-3 : tie.Need-returns-3 Inv-loop μ-loop
-returns-3 c =
-    let number = c .before .before .before .before in
-    listing-short (number .before .before .loop .inv) (number .number-at .ensures) (c .before .before .value .given .1)
-    (omega arith) (c .if2 .taken)
-
-returns-4 : tie.Need-returns-4 Inv-loop μ-loop
-returns-4 c =
-    let value = c .before .before .before .before in
-    let number = value .before .before in
-    listing-other (number .before .before .loop .inv) (number .number-at .ensures) (value .value .given .1)
-    (omega arith) (c .before .before .if2 .left) (c .if3 .taken)
+    let number = c .before .before .before in
+    rw (c .plain2 .ensures .0)
+    (ap parametersSay
+    (listing-broken (number .before .before .loop .inv) (omega arith) (number .decimal-before-comma .ensures)
+    (c .before .enum-told .given .1)))
 
 loop-again : tie.Need-loop-again Inv-loop μ-loop
 loop-again c =
-    let value = c .before .before .before .before in
-    let number = value .before .before in
-    listing-more (number .before .before .loop .inv) (number .number-at .ensures) (value .value .given .1)
-    (omega arith) (c .before .before .if2 .left) (c .if3 .left)
+    let number = c .before .before .before in
+    listing-more (number .before .before .loop .inv) (omega arith) (number .decimal-before-comma .ensures)
+    (c .before .value .given .1)
 
 -- The eighth: broken, before another byte, at the end of the line.
+returns-3 : tie.Need-returns-3 Inv-loop μ-loop
+returns-3 c =
+    let number = c .before .before .before in
+    rw (c .plain3 .ensures .0)
+    (ap parametersSay
+    (listing-none (number .before .before .loop .inv) (omega arith) (number .decimal-at .ensures)
+    (c .before .enum-told2 .given .1)))
+
+returns-4 : tie.Need-returns-4 Inv-loop μ-loop
+returns-4 c =
+    let value = c .before .before .before in
+    let number = value .before .before in
+    rw (c .plain4 .ensures .0)
+    (ap parametersSay
+    (listing-not (number .before .before .loop .inv) (omega arith) (number .decimal-at .ensures)
+    (value .value2 .given .1) (c .before .if2 .taken)))
+
 returns-5 : tie.Need-returns-5 Inv-loop μ-loop
 returns-5 c =
-    let number = c .before .before in
-    listing-none (number .before .before .loop .inv) (number .number-at2 .ensures) (c .enum-told2 .given .1)
-
-returns-6 : tie.Need-returns-6 Inv-loop μ-loop
-returns-6 c =
-    let number = c .before .before .before .before in
-    listing-not (number .before .before .loop .inv) (number .number-at2 .ensures) (c .before .before .value2 .given .1)
-    (omega arith) (c .if4 .taken)
-
-returns-7 : tie.Need-returns-7 Inv-loop μ-loop
-returns-7 c =
-    let number = c .before .before .before .before in
-    listing-last (number .before .before .loop .inv) (number .number-at2 .ensures)
-    (c .before .before .value2 .given .1) (omega arith) (c .if4 .left)
+    let value = c .before .before in
+    let number = value .before .before in
+    ap parametersSay
+    (listing-last (number .before .before .loop .inv) (omega arith) (number .decimal-at .ensures)
+    (value .value2 .given .1) (c .if2 .left))
 
 pub parameters-line-spec : {M : Type 1} → statement M
 parameters-line-spec =
@@ -77,16 +76,14 @@ parameters-line-spec =
     μ-loop
     (λ c. search needs)
     (λ c κs. search needs)
+    (λ c κs. search needs)
     returns
     loop-holds
     (λ c κs. search needs)
     (λ c. search needs)
     (λ c. search needs)
+    (λ c κs. search needs)
     returns-2
-    returns-3
-    (λ c. search needs)
-    returns-4
-    (λ c. search needs)
     (λ c. search needs)
     (λ c. search needs)
     (λ c. search needs)
@@ -95,7 +92,9 @@ parameters-line-spec =
     (λ c κs. search needs)
     (λ c. search needs)
     (λ c. search needs)
-    returns-5
-    returns-6
+    (λ c κs. search needs)
+    returns-3
+    (λ c κs. search needs)
+    returns-4
     (λ c. search needs)
-    returns-7)
+    returns-5)

@@ -1,11 +1,11 @@
--- `cards::number_at` meets its contract: one case for each answer of the decimal reader. Assumes nothing.
+-- `cards::decimal_at` meets its contract: one case for each answer of the decimal reader. Assumes nothing.
 use borrow.Author.Needs.{needs}
 use Rattle.cards.proofs.Numbers.{number-is, number-above, number-missing}
-use Rattle.cards.proofs.number_at.Statement.{statement}
-use Rattle.cards.proofs.number_at.Tie as tie
+use Rattle.cards.proofs.decimal_at.Statement.{statement}
+use Rattle.cards.proofs.decimal_at.Tie as tie
 
-pub number-at-spec : {M : Type 1} → statement M
-number-at-spec =
+pub decimal-at-spec : {M : Type 1} → statement M
+decimal-at-spec =
     tie.close
     (tie.spec
     (λ c. search needs)

@@ -1,0 +1,42 @@
+-- `cards::decimal_before_comma` meets its contract: one case for each way that a number and its comma can be missing.
+-- `read` is the place after the number is read. Assumes nothing.
+use borrow.Author.Needs.{needs}
+use Rattle.cards.proofs.Numbers.{comma-missing, comma-short, comma-unlike, comma-found}
+use Rattle.cards.proofs.decimal_before_comma.Statement.{statement}
+use Rattle.cards.proofs.decimal_before_comma.Tie as tie
+
+-- No number; no byte after it; another byte than a comma; a comma.
+returns : tie.Need-returns
+returns c = comma-missing (c .before .before .decimal-at .ensures) (c .enum-told .given .1)
+
+returns-2 : tie.Need-returns-2
+returns-2 c =
+    let value = c .before .before in
+    let read = value .before .before in
+    comma-short (read .decimal-at .ensures) (value .value .given .1) (c .if1 .taken)
+
+returns-3 : tie.Need-returns-3
+returns-3 c =
+    let value = c .before .before .before .before in
+    let read = value .before .before in
+    comma-unlike (read .decimal-at .ensures) (value .value .given .1) (c .before .before .if1 .left) (c .if2 .taken)
+
+returns-4 : tie.Need-returns-4
+returns-4 c =
+    let value = c .before .before .before .before in
+    let read = value .before .before in
+    comma-found (read .decimal-at .ensures) (value .value .given .1) (c .before .before .if1 .left) (c .if2 .left)
+
+pub decimal-before-comma-spec : {M : Type 1} → statement M
+decimal-before-comma-spec =
+    tie.close
+    (tie.spec
+    (λ c κs. search needs)
+    (λ c. search needs)
+    (λ c. search needs)
+    returns
+    returns-2
+    (λ c. search needs)
+    returns-3
+    (λ c. search needs)
+    returns-4)
