@@ -23,11 +23,12 @@ use Rattle.cards.proofs.Stages.{Follows, says-follows, long-says, over-says}
 use Rattle.observers.specs.Compile.{afterCompile, compiled}
 use Rattle.observers.specs.declared.Compiled.{Compiled}
 use Rattle.observers.specs.declared.Compiled.the-variants as C
-use Rattle.flows.specs.Step.{afterFresh, freshened, AfterStep, stepped}
+use Rattle.flows.specs.Step.{afterFresh, freshened, AfterStep, afterStep, stepped}
 use Rattle.flows.specs.declared.Fresh.{Fresh}
+use Rattle.flows.specs.declared.Stepped.{Stepped}
 use Rattle.flows.specs.declared.Stepped.the-variants as S
 use Rattle.reader.specs.Part.{ruleFrom}
-use Rattle.player.specs.Card.{afterRule, freshAs, ruleMade}
+use Rattle.player.specs.Card.{afterRule, freshAs, ruleMade, stepEffect, stepOf, ticked}
 use Rattle.player.specs.Card.{World, worldOf, watchOf, Effect, effectOf, stop, playedTo, played, lined}
 use Rattle.player.specs.Card.{lastOutput}
 use Rattle.player.specs.declared.Output.the-variants as O
@@ -54,6 +55,12 @@ pub rule-fresh : (text t c part t' c' : List ℕ) (n : ℕ) (r a : Compiled) (f 
     → afterRule a t' c' ≡ ruleMade text t c
 unfolding ruleMade
 rule-fresh text t c part t' c' n r a f p e i h j = rw (← p, ← e, i, ← h, ← j)
+
+-- A step that gives this answer, and leaves this state and these values.
+pub step-ends : (k : Stage) (start signals : ℕ) (w : World) (a r : Stepped) (c v : List ℕ) → r ≡ a
+    → afterStep r c v ≡ stepOf start signals w → stepEffect k (afterStep a c v) w ≡ ticked k start signals w
+step-ends k start signals w a r c v e h =
+    ap (λ (x : AfterStep). stepEffect k x w) (ap (λ (x : Stepped). afterStep x c v) (sym e) ∙ h)
 
 -- An over-long line is broken,
 played-broken : (p : Phase) (w : World) → played w (brokenBy p) ≡ stop (lastOutput (brokenBy p)) w

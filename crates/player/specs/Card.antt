@@ -120,9 +120,12 @@ madeBy k c = madeAs (k .answer) (k .table) c
 unfoldable pub ruleMade : List ℕ → List ℕ → List ℕ → AfterRule
 ruleMade text t c = madeBy (compiled text t) c
 
+abbrev pub ruleAnswer : Stage → Compiled → Answered
+ruleAnswer k (C.Equations n) = goingOn k n O.Quiet
+ruleAnswer k (C.Refused r) = stopped (O.Refused r)
+
 abbrev pub withRule : Stage → Compiled → World → Effect
-withRule k (C.Equations n) w = goOn (watchOf k n) O.Quiet w
-withRule k (C.Refused r) w = stop (O.Refused r) w
+withRule k r w = goOn (ruleAnswer k r .watch) (ruleAnswer k r .output) w
 
 abbrev pub ruledWorld : AfterRule → World → World
 ruledWorld r w = worldOf (w .watch) (w .parameters) (r .table) (r .state) (w .values)
@@ -145,13 +148,16 @@ abbrev pub stepOf : ℕ → ℕ → World → AfterStep
 stepOf start signals w =
     stepped standardCap (w .table) (w .watch .n) (w .state) (w .values) (tickOf start signals (w .parameters))
 
+abbrev pub ticked : Stage → ℕ → ℕ → World → Effect
+ticked k start signals w = stepEffect k (stepOf start signals w) w
+
 -- What a line does that says so, k being the stage after it.
 abbrev pub playedTo : Stage → Says → World → Effect
 playedTo k edition w = goOn (watchOf k 0) O.Quiet w
 playedTo k (parameters ps) w = effectOf O.Quiet (worldOf (watchOf k 0) ps (w .table) (w .state) (w .values))
 playedTo k (rule text) w = ruleEffect k (ruleMade text (w .table) (w .state)) w
 playedTo k (count m) w = goOn (watchOf k (w .watch .n)) O.Quiet w
-playedTo k (tick start signals) w = stepEffect k (stepOf start signals w) w
+playedTo k (tick start signals) w = ticked k start signals w
 playedTo k (refused r) w = stop (O.Refused r) w
 playedTo k nothing w = stop O.Quiet w
 

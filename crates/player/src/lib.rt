@@ -12,11 +12,10 @@ ghost use mathlib.Core.Path.{_≡_};
 ghost use mathlib.Core.List.{List};
 ghost use Prim.Native.Nat.{ℕ};
 ghost use Rattle.lists.specs.Line.{lineFrom};
-ghost use Rattle.cards.specs.Says.{saysBy, isOver};
+ghost use Rattle.cards.specs.Says.{saysBy, brokenBy, isOver};
 ghost use Rattle.reader.specs.Part.{ruleFrom};
-ghost use Rattle.player.specs.Card.{WholeLine, entering, leaving, start};
-ghost use Rattle.player.specs.Card.{afterRule, ruleMade, effectOf, lined, lastOutput};
-ghost use Rattle.player.specs.Card.{goingOn, stopped};
+ghost use Rattle.player.specs.Card.{WholeLine, entering, leaving, start, goingOn, stopped};
+ghost use Rattle.player.specs.Card.{afterRule, ruleMade, ruleAnswer, ticked, effectOf, lined, lastOutput};
 
 // What the program prints for a line.
 pub enum Output {
@@ -57,7 +56,7 @@ fn rule_line(bytes: &[u8], at: usize, table: &mut [u32], state: &mut [u32]) -> C
 }
 
 // The card is over after this output.
-pub fn stop(output: Output) -> Answered
+fn stop(output: Output) -> Answered
     ensures { λ r. ⌜ r ≡ stopped output ⌝ }
 {
     Answered {
@@ -96,6 +95,52 @@ pub fn last_output(content: Content) -> Output
     }
 }
 
+// The start of a line that is over-long already: the card is over.
+pub fn over_long(w: Watch) -> Answered
+    ensures { λ r. ⌜ r ≡ stopped (lastOutput (brokenBy (w .stage .phase))) ⌝ }
+{
+    let stage = w.stage;
+    let phase = stage.phase;
+    stop(last_output(cards::broken(phase)))
+}
+
+fn after_rule(next: Stage, compiled: Compiled) -> Answered
+    ensures { λ r. ⌜ r ≡ ruleAnswer next compiled ⌝ }
+{
+    match compiled {
+        Compiled::Refused(r) => stop(Output::Refused(r)),
+        Compiled::Equations(n) => go_on(next, n, Output::Quiet),
+    }
+}
+
+// A tick line: one step.
+fn on_tick(
+    next: Stage,
+    w: Watch,
+    start: u32,
+    signals: u64,
+    parameters: &[u32; 8],
+    table: &[u32],
+    state: &mut [u32],
+    values: &mut [u32],
+) -> Answered
+    ensures { λ r. ⌜ effectOf (r .output) (leaving (r .watch) parameters table state values)
+        ≡ ticked next start signals (entering w parameters table state values) ⌝ }
+{
+    let n = w.n;
+    let parameters = *parameters;
+    let now = Tick {
+        start,
+        signals,
+        parameters,
+    };
+    let stepped = flows::step(table, n, state, values, now);
+    match stepped {
+        Stepped::Verdict(v) => go_on(next, n, Output::Verdict(v)),
+        Stepped::Refused(r) => stop(Output::Refused(r)),
+    }
+}
+
 // What the line at the place `at` does, which ends before the place `to`.
 pub fn on_line(
     w: Watch,
@@ -112,37 +157,20 @@ pub fn on_line(
         ≡ lined (entering w parameters table state values) (lineFrom (now (bytes .entry)) at) ⌝ }
 {
     let stage = w.stage;
-    let n = w.n;
-    let told = cards::read_line(stage, &bytes[at..to]);
-    let content = told.content;
+    let read = cards::read_line(stage, &bytes[at..to]);
+    let content = read.content;
     let next = cards::stage_after(stage.left, content);
     match content {
         Content::Edition => go_on(next, 0, Output::Quiet),
         Content::Parameters => {
-            let eight = told.values;
+            let eight = read.values;
             *parameters = eight;
             go_on(next, 0, Output::Quiet)
         }
-        Content::Rule => {
-            let compiled = rule_line(bytes, at, table, state);
-            match compiled {
-                Compiled::Refused(r) => stop(Output::Refused(r)),
-                Compiled::Equations(k) => go_on(next, k, Output::Quiet),
-            }
-        }
-        Content::Count(k) => go_on(next, n, Output::Quiet),
+        Content::Rule => after_rule(next, rule_line(bytes, at, table, state)),
+        Content::Count(k) => go_on(next, w.n, Output::Quiet),
         Content::Tick { start, signals } => {
-            let parameters = *parameters;
-            let now = Tick {
-                start,
-                signals,
-                parameters,
-            };
-            let stepped = flows::step(table, n, state, values, now);
-            match stepped {
-                Stepped::Verdict(v) => go_on(next, n, Output::Verdict(v)),
-                Stepped::Refused(r) => stop(Output::Refused(r)),
-            }
+            on_tick(next, w, start, signals, parameters, table, state, values)
         }
         Content::Refused(r) => stop(Output::Refused(r)),
         Content::Nothing => stop(Output::Quiet),

@@ -7,10 +7,6 @@ use native.Mathlib.Omega.{arith}
 use borrow.Author.Needs.{needs}
 use lib.ListN.{length, take, drop}
 use Rattle.observers.specs.declared.Compiled.{Compiled}
-use Rattle.observers.specs.declared.Compiled.the-variants as C
-use Rattle.flows.specs.Step.{AfterStep, afterStep}
-use Rattle.flows.specs.declared.Stepped.{Stepped}
-use Rattle.flows.specs.declared.Stepped.the-variants as S
 use Rattle.lists.specs.Line.{lineFrom}
 use Rattle.cards.specs.Says.{saysBy, lineSays}
 use Rattle.cards.specs.declared.Stage.{Stage}
@@ -18,8 +14,7 @@ use Rattle.cards.specs.declared.Content.{Content}
 use Rattle.cards.specs.declared.Content.the-variants as Line
 use Rattle.lists.proofs.Lines.{take-line}
 use Rattle.reader.specs.Part.{ruleFrom}
-use Rattle.player.specs.Card.{World, brought, AfterRule, afterRule, ruleMade, ruleEffect, stepEffect, stepOf}
-use Rattle.player.specs.Card.{playedTo, lined}
+use Rattle.player.specs.Card.{World, brought, AfterRule, afterRule, ruleMade, ruleEffect, playedTo, lined}
 use Rattle.player.proofs.Playing.{plays, text-at}
 use Rattle.player.proofs.on_line.Statement.{statement}
 use Rattle.player.proofs.on_line.Tie as tie
@@ -65,27 +60,18 @@ module _ (c : tie.After-stage-after) where
       ap (λ (y : Content). playedTo next (saysBy y eight line) world) (sym e)
       ∙ plays world line _ _ says (c .stage-after .ensures _ _)
 
-  -- The rule, with this answer and this table and state after it; a tick, with these.
-  rule-ends : told ≡ Line.Rule → (a r : Compiled) (t s : List ℕ) → r ≡ a
-      → afterRule r t s
+  -- The rule, with this answer and this table and state after it.
+  rule-ends : told ≡ Line.Rule → (r : Compiled) (t s : List ℕ) → afterRule r t s
       ≡ ruleMade (ruleFrom (begun c .args .bytes .now) (begun c .args .at)) (world .table) (world .state)
-      → ruleEffect next (afterRule a t s) world ≡ lined world line
-  rule-ends e a r t s i h =
+      → ruleEffect next (afterRule r t s) world ≡ lined world line
+  rule-ends e r t s h =
       let args = begun c .args in
       let is : saysBy Line.Rule eight line ≡ lineSays (world .watch .stage) line =
       ap (λ (y : Content). saysBy y eight line) (sym e) ∙ says in
       let text = text-at (world .watch .stage) (args .bytes .now) (args .at) is in
       ap (λ (x : AfterRule). ruleEffect next x world)
-      (ap (λ (x : Compiled). afterRule x t s) (sym i)
-      ∙ h ∙ ap (λ (l : List ℕ). ruleMade l (world .table) (world .state)) text)
+      (h ∙ ap (λ (l : List ℕ). ruleMade l (world .table) (world .state)) text)
       ∙ ends Line.Rule e
-
-  tick-ends : (start signals : ℕ) → told ≡ Line.Tick start signals → (a r : Stepped) (s v : List ℕ) → r ≡ a
-      → afterStep r s v ≡ stepOf start signals world
-      → stepEffect next (afterStep a s v) world ≡ lined world line
-  tick-ends start signals e a r s v i h =
-      ap (λ (x : AfterStep). stepEffect next x world) (ap (λ (x : Stepped). afterStep x s v) (sym i) ∙ h)
-      ∙ ends (Line.Tick start signals) e
 
 -- ---- the ways out
 
@@ -98,61 +84,36 @@ returns-2 c =
     let told = c .before .before in
     rw (c .go-on2 .ensures) (ends (told .before .before) Line.Parameters (told .enum-told2 .given .1))
 
-returns-5 : tie.Need-returns-5
-returns-5 c =
-    let told = c .before .before in
-    rw (c .go-on4 .ensures) (ends (told .before .before) (Line.Count _) (told .content .given .1))
-
-returns-8 : tie.Need-returns-8
-returns-8 c =
-    let told = c .before .before in
-    rw (c .stop3 .ensures) (ends (told .before .before) (Line.Refused _) (told .content3 .given .1))
-
-returns-9 : tie.Need-returns-9
-returns-9 c = rw (c .stop4 .ensures) (ends (c .before .before .before) Line.Nothing (c .before .enum-told4 .given .1))
-
--- The rule: refused, or compiled.
-abbrev ruled : tie.After-slice-known5 → tie.After-rule-line
-ruled c = c .before .before .before .before
-
-returns-3 : tie.Need-returns-3
-returns-3 c =
-    let made = ruled (c .before .before .before .before) in
-    let told = made .before .before .before in
-    rw (c .stop .ensures)
-    (rule-ends (told .before .before) (told .enum-told3 .given .1) (C.Refused _) _ _ _
-    (c .before .before .compiled .given .1) (made .rule-line .ensures))
-
 returns-4 : tie.Need-returns-4
 returns-4 c =
-    let made = ruled (c .before .before .before .before) in
-    let told = made .before .before .before in
-    rw (c .go-on3 .ensures)
-    (rule-ends (told .before .before) (told .enum-told3 .given .1) (C.Equations _) _ _ _
-    (c .before .before .compiled2 .given .1) (made .rule-line .ensures))
-
--- A tick: a verdict, or a refusal.
-abbrev ticked : tie.After-slice-known7 → tie.After-step
-ticked c = c .before .before .before .before
-
-abbrev known : tie.After-step → tie.After-content2
-known c = let tick = c .before .before .before in tick .before .before .before
+    let told = c .before .before in
+    rw (c .go-on3 .ensures) (ends (told .before .before) (Line.Count _) (told .content .given .1))
 
 returns-6 : tie.Need-returns-6
 returns-6 c =
-    let made = ticked (c .before .before .before .before) in
-    let told = known made in
-    rw (c .go-on5 .ensures)
-    (tick-ends (told .before .before) _ _ (told .content2 .given .1) (S.Verdict _) _ _ _
-    (c .before .before .stepped .given .1) (made .step .ensures))
+    let told = c .before .before in
+    rw (c .stop .ensures) (ends (told .before .before) (Line.Refused _) (told .content3 .given .1))
 
 returns-7 : tie.Need-returns-7
-returns-7 c =
-    let made = ticked (c .before .before .before .before) in
+returns-7 c = rw (c .stop2 .ensures) (ends (c .before .before .before) Line.Nothing (c .before .enum-told4 .given .1))
+
+-- The rule.
+returns-3 : tie.Need-returns-3
+returns-3 c =
+    let made = c .before .before .before .before .before in
+    let told = made .before .before .before in
+    rw (c .after-rule .ensures)
+    (rule-ends (told .before .before) (told .enum-told3 .given .1) _ _ _ (made .rule-line .ensures))
+
+-- A tick.
+abbrev known : tie.After-on-tick → tie.After-content2
+known c = let lent = c .before .before .before .before in lent .before .before
+
+returns-5 : tie.Need-returns-5
+returns-5 c =
+    let made = c .before .before .before .before in
     let told = known made in
-    rw (c .stop2 .ensures)
-    (tick-ends (told .before .before) _ _ (told .content2 .given .1) (S.Refused _) _ _ _
-    (c .before .before .stepped2 .given .1) (made .step .ensures))
+    made .on-tick .ensures ∙ ends (told .before .before) (Line.Tick _ _) (told .content2 .given .1)
 
 pub on-line-spec : {M : Type 1} → statement M
 on-line-spec =
@@ -169,13 +130,6 @@ on-line-spec =
     (λ c κs. search needs)
     (λ c. search needs)
     (λ c κs. search needs)
-    (λ c. search needs)
-    (λ c κs. search needs)
-    (λ c. search needs)
-    (λ c κs. search needs)
-    (λ c. search needs)
-    (λ c κs. search needs)
-    (λ c. search needs)
     (λ c κs. search needs)
     (λ c. search needs)
     (λ c κs. search needs)
@@ -190,17 +144,10 @@ on-line-spec =
     (λ c. search needs)
     (λ c. search needs)
     returns-3
-    (λ c. search needs)
-    (λ c. search needs)
     returns-4
+    (λ c. search needs)
+    (λ c. search needs)
+    (λ c. search needs)
     returns-5
-    (λ c. search needs)
-    (λ c. search needs)
-    (λ c. search needs)
     returns-6
-    (λ c. search needs)
-    (λ c. search needs)
-    (λ c. search needs)
-    returns-7
-    returns-8
-    returns-9)
+    returns-7)

@@ -1,0 +1,53 @@
+-- `player::on_tick` meets its contract: the step gives a verdict, or a refusal. Assumes nothing.
+use borrow.Author.Needs.{needs}
+use Rattle.flows.specs.declared.Stepped.the-variants as S
+use Rattle.player.specs.Card.{World, brought}
+use Rattle.player.proofs.Playing.{step-ends}
+use Rattle.player.proofs.on_tick.Statement.{statement}
+use Rattle.player.proofs.on_tick.Tie as tie
+
+-- ---- the places
+
+-- The step, from where its answer is known; and what was brought in.
+abbrev made : tie.After-stepped → tie.After-step
+made c = let values = c .before .before .before in values .before .before .before
+
+abbrev made-too : tie.After-stepped2 → tie.After-step
+made-too c = let values = c .before .before .before in values .before .before .before
+
+abbrev world : tie.After-step → World
+world c =
+    let lent = c .before .before .before in
+    let args = lent .before .before .before .before .args in
+    brought (args .w) (args .parameters) (args .table) (args .state) (args .values)
+
+-- ---- the ways out
+
+returns : tie.Need-returns
+returns c =
+    let told = c .before .before in
+    rw (c .go-on .ensures)
+    (step-ends _ _ _ (world (made told)) (S.Verdict _) _ _ _ (told .stepped .given .1) (made told .step .ensures))
+
+returns-2 : tie.Need-returns-2
+returns-2 c =
+    let told = c .before .before in
+    rw (c .stop .ensures)
+    (step-ends _ _ _ (world (made-too told)) (S.Refused _) _ _ _ (told .stepped2 .given .1)
+    (made-too told .step .ensures))
+
+pub on-tick-spec : {M : Type 1} → statement M
+on-tick-spec =
+    tie.close
+    (tie.spec
+    (λ c κs. search needs)
+    (λ c. search needs)
+    (λ c κs. search needs)
+    (λ c. search needs)
+    (λ c κs. search needs)
+    (λ c. search needs)
+    (λ c. search needs)
+    returns
+    (λ c. search needs)
+    (λ c. search needs)
+    returns-2)
