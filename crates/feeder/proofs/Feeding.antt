@@ -1,25 +1,28 @@
 -- The feeder's loop, in terms of lists: what stands between two lines of a piece, and what a line makes of it.
 -- Assumes nothing.
 use mathlib.Core.Path.{_≡_, refl, _∙_, sym, ap}
+use mathlib.Core.Bool.{Bool, true, false}
 use mathlib.Core.List.{List, [], _++_}
 use Prim.Native.Nat.{ℕ, suc, _+_, _-_, _≤_, _<_}
 use native.Mathlib.Omega.{arith}
+use lib.Dec.{leb}
 use lib.ListN.{length, take, drop, length-append, length-drop, drop-of-length-le}
-use lib.Seq.{drop-drop, length-take-le, take-add, take-at, drop-at}
+use lib.Seq.{drop-drop, length-take-le, take-add, take-at, drop-at, paste-zero}
+use borrow.Author.Tests.{leb-true, leb-false}
 use Rattle.limits.specs.Limits.{lineLimit}
 use Rattle.lists.specs.Line.{line, lineFrom}
-use Rattle.cards.specs.Says.{brokenBy}
+use Rattle.cards.specs.declared.Phase.{Phase}
 use Rattle.cards.specs.declared.Phase.the-variants as P
 use Rattle.cards.proofs.Lines.{line-within, one-line}
-use Rattle.player.specs.Card.{World, worldOf, Effect, stopped, lined, lastOutput, outputBytes, longestOutput}
-use Rattle.feeder.specs.Feed.{Goes, Short, Room, Runs, Feeds, fedWorld, leftOver, placed}
-use Rattle.player.specs.declared.Answered.{Answered}
+use Rattle.player.specs.Card.{World, worldOf, overWatch, over, Effect, lined, outputBytes, brokenBytes, longestOutput}
+use Rattle.feeder.specs.Feed.{Goes, Short, Room, fedTo, Runs, Feeds, fedWorld, leftOver, placed}
+use Rattle.feeder.specs.Feed.{tailBytes, tailFed}
 use Rattle.feeder.specs.declared.Fed.{Fed}
 use Rattle.feeder.proofs.Moving.{put-takes, put-keeps, put-length, restOf, withRest, rest-all, with-rest}
 use Rattle.player.proofs.Paying.{debt, debt-small, lined-pays, broken-room}
 use Rattle.feeder.proofs.Resuming.{goes-none, goes-line, goes-on, goes-out, goes-rest, goes-long}
 use Rattle.feeder.proofs.Resuming.{fed-line, left-line, fed-short, left-short, fed-long, left-long}
-use Rattle.feeder.proofs.Resuming.{short-eq, short-none}
+use Rattle.feeder.proofs.Resuming.{bytes-short, tail-short, bytes-long, tail-long, short-eq, short-none}
 
 -- Of the piece b, u bytes are used up, and what they print are the first `at` bytes of out: w goes on from there.
 pub record Between (w₀ : World) (b out₀ : List ℕ) (w : World) (out : List ℕ) (u at : ℕ) : Type 0 where
@@ -31,9 +34,6 @@ pub record Between (w₀ : World) (b out₀ : List ℕ) (w : World) (out : List 
   pub room : length b + longestOutput ≤ length out₀
   pub kept : drop at out ≡ drop at out₀
   pub same : length out ≡ length out₀
-
-abbrev pub fedAs : World → ℕ → ℕ → Fed
-fedAs w u at = record { watch = w .watch; used = u; filled = at }
 
 pub begun : (w : World) (b out : List ℕ) → Room b out → Between w b out w out 0 0
 begun w b out r =
@@ -53,7 +53,7 @@ module _ {w₀ w : World} {b out₀ out : List ℕ} {u at : ℕ} (k : Between w�
   written-room = omega (arith, k .within, k .paid, k .room, k .same, debt-small (w .watch .stage .phase))
 
   -- The bytes that are left are the start of a line: they are left over.
-  pub left-short-over : Short (drop u b) → Feeds w₀ b (fedAs w u at) w out₀ out
+  left-short-over : Short (drop u b) → Feeds w₀ b (fedTo (w .watch) u at) w out₀ out
   left-short-over h =
       record {
         goes = k .goes;
@@ -174,49 +174,73 @@ module _ {w₀ w : World} {b out₀ out : List ℕ} {u at : ℕ} (k : Between w�
             same = put-length out (outputBytes (t .output)) at e p said-room ∙ k .same;
           }
 
-    -- It does not end in the piece.
-    module _ (last : u + n ≡ length b) where
-      all-of-it : length (line (drop u b)) ≡ length (drop u b)
-      all-of-it = omega (arith, m, last, length-drop u b)
+  -- The bytes from u up to the end of the piece are the start of a line.
+  module _ (to : ℕ) (last : to ≡ length b) (one : length (line (drop u b)) ≡ length (drop u b)) where
+    abbrev phase : Phase
+    phase = w .watch .stage .phase
 
-      -- It is left over where it is short,
-      pub left-over : n < lineLimit → Feeds w₀ b (fedAs w u at) w out₀ out
-      left-over h = left-short-over (record { one = one-line _ all-of-it; below = omega (arith, all-of-it, m) })
+    size : to - u ≡ length (drop u b)
+    size = omega (arith, last, length-drop u b)
 
-      -- and over-long else: t is what the code makes of it.
-      module _
-          (h : lineLimit ≤ n) (t : Answered)
-          (q : t ≡ stopped (lastOutput (brokenBy (w .watch .stage .phase)))) where
-        abbrev stoppedAt : World
-        stoppedAt = worldOf (t .watch) (w .parameters) (w .table) (w .state) (w .values)
+    -- It is left over where it is short,
+    left-over : to - u < lineLimit → Feeds w₀ b (fedTo (w .watch) u at) w out₀ out
+    left-over h = left-short-over (record { one = one-line _ one; below = omega (arith, size) })
 
-        long : lineLimit ≤ length (drop u b)
-        long = omega (arith, m, all-of-it)
+    kept-so : placed out at [] ≡ out
+    kept-so = sym (paste-zero out at [])
 
-        goes-over : Goes w₀ b (take at out ++ outputBytes (t .output)) stoppedAt []
-        goes-over = rw q (goes-on (k .goes) (goes-long w (drop u b) (omega (arith, m))))
+    -- and ends the card where it is over-long.
+    module _ (h : lineLimit ≤ to - u) where
+      long : lineLimit ≤ length (drop u b)
+      long = omega (arith, size)
 
-        world-over : stoppedAt ≡ fedWorld w₀ b
-        world-over = rw q (fed-long w (drop u b) (one-line _ all-of-it) long ∙ sym (k .world))
+      goes-over : Goes w₀ b (take at out ++ brokenBytes phase) (over w) []
+      goes-over = goes-on (k .goes) (goes-long w (drop u b) (omega (arith, one, long)))
 
-        nothing-left : drop (u + n) b ≡ []
-        nothing-left = drop-of-length-le b {i = u + n} (omega arith)
+      world-over : over w ≡ fedWorld w₀ b
+      world-over = fed-long w (drop u b) (one-line _ one) long ∙ sym (k .world)
 
-        pub last-room : at + length (outputBytes (t .output)) ≤ length out
-        last-room = rw q (omega (arith, k .paid, k .within, k .room, k .same, broken-room (w .watch .stage .phase)))
+      nothing-left : drop to b ≡ []
+      nothing-left = drop-of-length-le b {i = to} (omega arith)
 
-        pub over-long : {out' : List ℕ} {at' : ℕ} → at' ≡ at + length (outputBytes (t .output))
-            → out' ≡ placed out at (outputBytes (t .output))
-            → Feeds w₀ b (fedAs stoppedAt (u + n) at') stoppedAt out₀ out'
-        over-long e p =
-            record {
-              goes =
-                  goes-rest nothing-left
-                  (goes-out (put-takes out (outputBytes (t .output)) at e p last-room) goes-over);
-              world = world-over;
-              left = nothing-left ∙ left-long (drop u b) (one-line _ all-of-it) long ∙ sym (k .left);
-              used = line-inside;
-              short = short-eq nothing-left short-none;
-              kept = keeps (outputBytes (t .output)) last-room e p;
-              room = omega (arith, e, last-room, put-length out (outputBytes (t .output)) at e p last-room);
-            }
+      last-room : at + length (brokenBytes phase) ≤ length out
+      last-room = omega (arith, k .paid, k .within, k .room, k .same, broken-room phase)
+
+      over-long : {out' : List ℕ} → out' ≡ placed out at (brokenBytes phase)
+          → Feeds w₀ b (fedTo overWatch to (at + length (brokenBytes phase))) (over w) out₀ out'
+      over-long p =
+          record {
+            goes = goes-rest nothing-left (goes-out (put-takes out (brokenBytes phase) at refl p last-room) goes-over);
+            world = world-over;
+            left = nothing-left ∙ left-long (drop u b) (one-line _ one) long ∙ sym (k .left);
+            used = omega arith;
+            short = short-eq nothing-left short-none;
+            kept = keeps (brokenBytes phase) last-room refl p;
+            room = omega (arith, last-room, put-length out (brokenBytes phase) at refl p last-room);
+          }
+
+    -- So there is room for what it prints, and this is what is made of it.
+    room-if : (t : Bool) → leb lineLimit (to - u) ≡ t → at + length (tailBytes phase (to - u)) ≤ length out
+    room-if true e =
+        let h = leb-true lineLimit (to - u) e in rw (bytes-long phase (to - u) h) (last-room h)
+    room-if false e =
+        let h = leb-false lineLimit (to - u) e in rw (bytes-short phase (to - u) h) (omega (arith, written-room))
+
+    pub tail-room : at + length (tailBytes phase (to - u)) ≤ length out
+    tail-room = room-if (leb lineLimit (to - u)) refl
+
+    feeds-if : (t : Bool) → leb lineLimit (to - u) ≡ t → {r : Fed} {out' : List ℕ}
+        → r ≡ tailFed (w .watch) u to at → out' ≡ placed out at (tailBytes phase (to - u))
+        → Feeds w₀ b r (worldOf (r .watch) (w .parameters) (w .table) (w .state) (w .values)) out₀ out'
+    feeds-if true e q p =
+        let h = leb-true lineLimit (to - u) e in
+        rw (q, tail-long (w .watch) u to at h) (over-long h (p ∙ ap (placed out at) (bytes-long phase (to - u) h)))
+    feeds-if false e q p =
+        let h = leb-false lineLimit (to - u) e in
+        let same = p ∙ ap (placed out at) (bytes-short phase (to - u) h) ∙ kept-so in
+        rw (q, tail-short (w .watch) u to at h, same) (left-over h)
+
+    pub tail-feeds : {r : Fed} {out' : List ℕ} → r ≡ tailFed (w .watch) u to at
+        → out' ≡ placed out at (tailBytes phase (to - u))
+        → Feeds w₀ b r (worldOf (r .watch) (w .parameters) (w .table) (w .state) (w .values)) out₀ out'
+    tail-feeds q p = feeds-if (leb lineLimit (to - u)) refl q p

@@ -2,17 +2,19 @@
 -- (specs/Feed.antt). Assumes nothing.
 use mathlib.Core.Path.{_≡_, refl, _∙_, sym, ap, subst}
 use mathlib.Core.List.{List, [], _++_, append-assoc}
-use Prim.Native.Nat.{ℕ, suc, _≤_, _<_}
+use Prim.Native.Nat.{ℕ, suc, _+_, _-_, _≤_, _<_}
 use native.Mathlib.Omega.{arith}
 use lib.ListN.{length, drop}
 use borrow.Author.Tests.{le-leb, lt-leb}
 use Rattle.limits.specs.Limits.{lineLimit}
 use Rattle.lists.specs.Line.{line}
 use Rattle.cards.specs.Says.{endSays}
+use Rattle.cards.specs.declared.Phase.{Phase}
 use Rattle.cards.proofs.Lines.{append-nil, cut-first, cut-one, cut-whole, first-long}
-use Rattle.player.specs.Card.{World, over, lined, lastOutput, outputBytes, owed, prints}
-use Rattle.player.proofs.Printing.{brokenBytes, over-prints, long-prints}
-use Rattle.feeder.specs.Feed.{Goes, Short, afterLines, afterTail, fedWorld, leftOver}
+use Rattle.player.specs.Card.{World, overWatch, over, lined, lastOutput, outputBytes, brokenBytes, owed, prints}
+use Rattle.player.proofs.Printing.{over-prints, long-prints}
+use Rattle.player.specs.declared.Watch.{Watch}
+use Rattle.feeder.specs.Feed.{Goes, Short, afterLines, afterTail, fedWorld, leftOver, fedTo, tailBytes, tailFed}
 
 -- The end of the input.
 pub ends : (w : World) (s : List ℕ) → Short s
@@ -50,7 +52,8 @@ goes-rest {v = v} {o = o} e g =
     record { tells = λ more. g .tells more ∙ ap (λ (l : List ℕ). o ++ prints v (l ++ more)) (sym e) }
 
 -- An over-long line, whole or not, is broken, and nothing comes after.
-pub goes-long : (w : World) (s : List ℕ) → lineLimit ≤ length (line s) → Goes w s (brokenBytes w) (over w) []
+pub goes-long : (w : World) (s : List ℕ) → lineLimit ≤ length (line s)
+    → Goes w s (brokenBytes (w .watch .stage .phase)) (over w) []
 goes-long w s h =
     record {
       tells = λ more.
@@ -87,6 +90,27 @@ fed-long w s e h = rw (cut-one s e, le-leb lineLimit (length s) h)
 pub left-long : (s : List ℕ) → line s ≡ s → lineLimit ≤ length s → [] ≡ leftOver s
 unfolding leftOver
 left-long s e h = rw (cut-one s e, le-leb lineLimit (length s) h)
+
+-- ---- the start of a line at the end of a piece
+
+-- It prints nothing where it is left over, and a refusal where it ends the card.
+pub bytes-short : (p : Phase) (n : ℕ) → n < lineLimit → tailBytes p n ≡ []
+unfolding tailBytes
+bytes-short p n h = rw (lt-leb lineLimit n h)
+
+pub bytes-long : (p : Phase) (n : ℕ) → lineLimit ≤ n → tailBytes p n ≡ brokenBytes p
+unfolding tailBytes
+bytes-long p n h = rw (le-leb lineLimit n h)
+
+module _ (w : Watch) (used to at : ℕ) where
+  pub tail-short : to - used < lineLimit → tailFed w used to at ≡ fedTo w used at
+  unfolding tailFed
+  tail-short h = rw (lt-leb lineLimit (to - used) h)
+
+  pub tail-long : lineLimit ≤ to - used
+      → tailFed w used to at ≡ fedTo overWatch to (at + length (brokenBytes (w .stage .phase)))
+  unfolding tailFed
+  tail-long h = rw (le-leb lineLimit (to - used) h)
 
 -- ---- starts of lines
 

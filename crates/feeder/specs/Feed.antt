@@ -3,6 +3,7 @@ use mathlib.Core.Bool.{cond}
 use mathlib.Core.List.{List, [], _∷_, _++_}
 use mathlib.Core.Path.{_≡_}
 use Prim.Native.Nat.{ℕ, _+_, _-_, _≤_, _<_}
+use lib.Dec.{leb}
 use lib.ListN.{length, take, drop}
 use Rattle.limits.specs.Limits.{standardCap, lineLimit}
 use Rattle.flows.specs.Step.{stepChecked}
@@ -10,9 +11,10 @@ use Rattle.tables.specs.declared.Checked.the-variants.{Passed}
 use Rattle.lists.specs.Line.{line}
 use Rattle.cards.specs.Lines.{overLong, cut}
 use Rattle.cards.specs.Ticks.{tickFirst}
+use Rattle.cards.specs.declared.Phase.{Phase}
 use Rattle.cards.specs.declared.Phase.the-variants as P
 use Rattle.cards.specs.declared.TickLine.the-variants as T
-use Rattle.player.specs.Card.{World, worldOf, over, lined, longestOutput, prints}
+use Rattle.player.specs.Card.{World, worldOf, overWatch, over, lined, brokenBytes, longestOutput, prints}
 use Rattle.traces.specs.Trace.{tickOf}
 use Rattle.feeder.specs.declared.Fed.{Fed}
 use Rattle.feeder.specs.declared.Turn.{Turn}
@@ -48,6 +50,10 @@ fedWorld w s = afterTail (afterLines w (cut s .whole)) (cut s .tail)
 unfoldable pub leftOver : List ℕ → List ℕ
 leftOver s = cond (overLong (cut s .tail)) [] (cut s .tail)
 
+-- What a start of n bytes prints: a refusal where it ends the card.
+unfoldable pub tailBytes : Phase → ℕ → List ℕ
+tailBytes p n = cond (leb lineLimit n) (brokenBytes p) []
+
 -- No tick line that could be run is left at the front of these bytes.
 abbrev pub Stops : Watch → List ℕ → Type 0
 Stops w s = 0 < w .stage .left → tickFirst s ≡ T.Broken
@@ -60,6 +66,12 @@ pub record Admitted (w : World) : Type 0 where
 
 abbrev pub fedTo : Watch → ℕ → ℕ → Fed
 fedTo w used filled = record { watch = w; used = used; filled = filled }
+
+-- After the end of a piece, from the place `used` up to `to`, with so many bytes filled before it: it is left over, or
+-- ends the card.
+unfoldable pub tailFed : Watch → ℕ → ℕ → ℕ → Fed
+tailFed w used to at =
+    cond (leb lineLimit (to - used)) (fedTo overWatch to (at + length (brokenBytes (w .stage .phase)))) (fedTo w used at)
 
 -- Of the piece s some lines are used up, and what they print stands at the front of out: no more bytes than they
 -- have. From there w' goes on in the same phase, and all else of out is kept.

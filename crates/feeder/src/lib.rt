@@ -9,12 +9,12 @@ use player::Watch;
 use tables::Checked;
 use traces::Tick;
 ghost use mathlib.Core.Path.{_≡_};
-ghost use Prim.Native.Nat.{_+_, _≤_};
+ghost use Prim.Native.Nat.{_+_, _-_, _≤_};
 ghost use lib.ListN.{length, take, drop};
 ghost use Rattle.cards.specs.Says.{stageAt};
 ghost use Rattle.player.specs.Card.{brought, entering, leaving, watchOf, outputBytes, longestOutput};
-ghost use Rattle.feeder.specs.Feed.{Room, Stops, Admitted, fedTo, Runs, Feeds, shifted, Turns, Short};
-ghost use Rattle.feeder.specs.Feed.{Finishes, placed};
+ghost use Rattle.feeder.specs.Feed.{Room, Stops, Admitted, fedTo, Runs, tailBytes, tailFed, Feeds};
+ghost use Rattle.feeder.specs.Feed.{shifted, Turns, Short, Finishes, placed};
 
 // After a piece of a card: how many of its bytes are used up, and how many bytes of the output are filled.
 struct Fed {
@@ -44,6 +44,32 @@ fn put_word(out: &mut [u8], at: usize, w: &[u8]) -> usize
     at + k
 }
 
+fn put_verdict(out: &mut [u8], at: usize, v: u32) -> usize
+    requires { ⌜ at + length (outputBytes (Output.Verdict v)) ≤ length (now out) ⌝ }
+    ensures { λ r. ⌜ (r ≡ at + length (outputBytes (Output.Verdict v)))
+        × (now (out .exit) ≡ placed (now (out .entry)) at (outputBytes (Output.Verdict v))) ⌝ }
+{
+    let mut line = *b"verdict=0\n";
+    line[8] = b'0' + (v % 10) as u8;
+    put_word(out, at, &line)
+}
+
+fn put_refusal(out: &mut [u8], at: usize, refusal: u32) -> usize
+    requires { ⌜ at + length (outputBytes (Output.Refused refusal)) ≤ length (now out) ⌝ }
+    ensures { λ r. ⌜ (r ≡ at + length (outputBytes (Output.Refused refusal)))
+        × (now (out .exit) ≡ placed (now (out .entry)) at (outputBytes (Output.Refused refusal))) ⌝ }
+{
+    if refusal < 10 {
+        let mut short = *b"refused=0\n";
+        short[8] = b'0' + (refusal % 10) as u8;
+        return put_word(out, at, &short);
+    }
+    let mut long = *b"refused=00\n";
+    long[8] = b'0' + ((refusal / 10) % 10) as u8;
+    long[9] = b'0' + (refusal % 10) as u8;
+    put_word(out, at, &long)
+}
+
 // Puts an output to a place of out, and answers the place after it: "It prints `verdict=` and 0 or 1 for each tick.
 // A refusal prints `refused=` and its number".
 fn put(out: &mut [u8], at: usize, d: Output) -> usize
@@ -53,53 +79,8 @@ fn put(out: &mut [u8], at: usize, d: Output) -> usize
 {
     match d {
         Output::Quiet => at,
-        Output::Verdict(v) => {
-            let line = [
-                b'v',
-                b'e',
-                b'r',
-                b'd',
-                b'i',
-                b'c',
-                b't',
-                b'=',
-                b'0' + (v % 10) as u8,
-                10,
-            ];
-            put_word(out, at, &line)
-        }
-        Output::Refused(r) => {
-            if r < 10 {
-                let short = [
-                    b'r',
-                    b'e',
-                    b'f',
-                    b'u',
-                    b's',
-                    b'e',
-                    b'd',
-                    b'=',
-                    b'0' + (r % 10) as u8,
-                    10,
-                ];
-                put_word(out, at, &short)
-            } else {
-                let long = [
-                    b'r',
-                    b'e',
-                    b'f',
-                    b'u',
-                    b's',
-                    b'e',
-                    b'd',
-                    b'=',
-                    b'0' + ((r / 10) % 10) as u8,
-                    b'0' + (r % 10) as u8,
-                    10,
-                ];
-                put_word(out, at, &long)
-            }
-        }
+        Output::Verdict(v) => put_verdict(out, at, v),
+        Output::Refused(r) => put_refusal(out, at, r),
     }
 }
 
@@ -155,7 +136,7 @@ fn run_ticks(
             parameters,
         };
         let v = flows::step_passed(table, n, state, values, now);
-        at = put(out, at, Output::Verdict(v));
+        at = put_verdict(out, at, v);
         used += 21;
         left -= 1;
     }
@@ -197,8 +178,24 @@ fn feed_ticks(
     run_ticks(w, bytes, parameters, table, state, values, out)
 }
 
-// The feeder: takes the lines that are whole, and has out hold what they print. The start of a line is left over,
-// unless it is over-long already.
+// The end of a piece, from the place `used` up to `to`: the start of a line is left over, and where it is over-long
+// already the card is over.
+fn feed_tail(w: Watch, used: usize, to: usize, out: &mut [u8], at: usize) -> Fed
+    requires { ⌜ (used ≤ to) × (at + length (tailBytes (w .stage .phase) (to - used)) ≤ length (now out)) ⌝ }
+    ensures { λ r. ⌜ (r ≡ tailFed w used to at)
+        × (now (out .exit) ≡ placed (now (out .entry)) at (tailBytes (w .stage .phase) (to - used))) ⌝ }
+{
+    if to - used < limits::LINE {
+        return fed_to(w, used, at);
+    }
+    let over = player::over_long(w);
+    let last = over.watch;
+    let word = over.output;
+    let past = put(out, at, word);
+    fed_to(last, to, past)
+}
+
+// Takes the lines that are whole, and has out hold what they print.
 fn feed(
     watch: Watch,
     bytes: &[u8],
@@ -216,32 +213,15 @@ fn feed(
     let mut used = 0;
     let mut at = 0;
     loop {
-        let f = feed_ticks(
-            w,
-            &bytes[used..],
-            parameters,
-            table,
-            state,
-            values,
-            &mut out[at..],
-        );
+        let rest = &bytes[used..];
+        let f = feed_ticks(w, rest, parameters, table, state, values, &mut out[at..]);
         let ran = f.watch;
         w = ran;
         used += f.used;
         at += f.filled;
-        let n = lists::line_length(bytes, used);
-        let to = used + n;
+        let to = used + lists::line_length(bytes, used);
         if to == bytes.len() {
-            if n < limits::LINE {
-                return fed_to(w, used, at);
-            }
-            let stage = w.stage;
-            let phase = stage.phase;
-            let over = player::stop(player::last_output(cards::broken(phase)));
-            let last = over.watch;
-            let word = over.output;
-            let past = put(out, at, word);
-            return fed_to(last, to, past);
+            return feed_tail(w, used, to, out, at);
         }
         let t = player::on_line(w, bytes, used, to, parameters, table, state, values);
         let next = t.watch;

@@ -11,7 +11,7 @@ use Rattle.observers.specs.declared.Compiled.{Compiled}
 use Rattle.observers.specs.declared.Compiled.the-variants as C
 use Rattle.flows.specs.declared.Stepped.{Stepped}
 use Rattle.flows.specs.declared.Stepped.the-variants as S
-use Rattle.cards.specs.Says.{Says, isOver, brokenBy, lineSays, stageAfter}
+use Rattle.cards.specs.Says.{Says, isOver, lineSays, stageAfter}
 use Rattle.cards.specs.Says.Says.{edition, parameters, rule, count, tick, refused, nothing}
 use Rattle.cards.specs.declared.Phase.{Phase}
 use Rattle.cards.specs.declared.Phase.the-variants as P
@@ -19,7 +19,7 @@ use Rattle.cards.specs.declared.Stage.{Stage}
 use Rattle.cards.proofs.Stages.{Follows, says-follows}
 use Rattle.player.specs.Card.{World, Effect, stop, withRule, withStep, playedTo, played, lined}
 use Rattle.player.specs.Card.{ruleMade, ruledWorld, stepOf, steppedWorld}
-use Rattle.player.specs.Card.{lastOutput, refusalDigits, outputBytes, longestOutput}
+use Rattle.player.specs.Card.{refusalDigits, outputBytes, brokenBytes, longestOutput}
 use Rattle.player.specs.declared.Output.{Output}
 use Rattle.player.specs.declared.Output.the-variants as O
 
@@ -97,7 +97,7 @@ lined-pays w l =
     played-pays (stageAfter (k .left) s) (k .phase) (k .left) (length l) s w (says-follows k l)
 
 -- So does an over-long line that is not whole.
-pub broken-room : (p : Phase) → length (outputBytes (lastOutput (brokenBy p))) + debt p ≤ longestOutput
+pub broken-room : (p : Phase) → length (brokenBytes p) + debt p ≤ longestOutput
 unfolding outputBytes refusalDigits
 broken-room P.Edition = omega arith
 broken-room P.Parameters = omega arith

@@ -7,12 +7,12 @@ use native.Mathlib.Omega.{arith}
 use lib.ListN.{length}
 use Rattle.limits.specs.Limits.{lineLimit}
 use Rattle.cards.specs.Lines.{cut}
-use Rattle.cards.specs.Says.{Says, brokenBy, endIn}
+use Rattle.cards.specs.Says.{Says, endIn}
 use Rattle.cards.specs.declared.Phase.{Phase}
 use Rattle.cards.specs.declared.Phase.the-variants as P
 use Rattle.cards.proofs.Lines.{append-nil, firstOf}
 use Rattle.cards.proofs.Stages.{end-broken}
-use Rattle.player.specs.Card.{World, over, lastOutput, outputBytes, owed, prints}
+use Rattle.player.specs.Card.{World, over, lastOutput, outputBytes, brokenBytes, owed, prints}
 use Rattle.player.proofs.Playing.{over-lined, long-lined}
 
 -- Nothing is printed once the card is over,
@@ -26,16 +26,14 @@ unfolding prints
 over-prints w s e = over-owed w (cut s .whole) (cut s .tail) e
 
 -- and an over-long line, whole or not, is broken.
-abbrev pub brokenBytes : World → List ℕ
-brokenBytes w = outputBytes (lastOutput (brokenBy (w .watch .stage .phase)))
-
-long-owed : (w : World) (ls : List (List ℕ)) (t : List ℕ) → lineLimit ≤ firstOf ls t → owed w ls t ≡ brokenBytes w
+long-owed : (w : World) (ls : List (List ℕ)) (t : List ℕ) → lineLimit ≤ firstOf ls t
+    → owed w ls t ≡ brokenBytes (w .watch .stage .phase)
 unfolding owed
 long-owed w [] t h =
     ap (λ (s : Says). outputBytes (lastOutput s)) (end-broken (w .watch .stage) (length t) (omega arith))
 long-owed w (l ∷ ls) t h = rw (long-lined w l h, over-owed (over w) ls t refl) (append-nil _)
 
 pub long-prints : (w : World) (s : List ℕ) → lineLimit ≤ firstOf (cut s .whole) (cut s .tail)
-    → prints w s ≡ brokenBytes w
+    → prints w s ≡ brokenBytes (w .watch .stage .phase)
 unfolding prints
 long-prints w s h = long-owed w (cut s .whole) (cut s .tail) h

@@ -22,8 +22,9 @@ use Rattle.flows.specs.declared.Fresh.the-variants as F
 use Rattle.flows.specs.declared.Stepped.{Stepped}
 use Rattle.flows.specs.declared.Stepped.the-variants as S
 use Rattle.cards.specs.Lines.{cut}
-use Rattle.cards.specs.Says.{Says, stageAt, first, lineSays, stageAfter, endSays}
+use Rattle.cards.specs.Says.{Says, stageAt, first, brokenBy, lineSays, stageAfter, endSays}
 use Rattle.cards.specs.Says.Says.{edition, parameters, rule, count, tick, refused, nothing}
+use Rattle.cards.specs.declared.Phase.{Phase}
 use Rattle.cards.specs.declared.Phase.the-variants as P
 use Rattle.cards.specs.declared.Stage.{Stage}
 use Rattle.player.specs.declared.Output.{Output}
@@ -194,6 +195,10 @@ unfoldable pub outputBytes : Output → List ℕ
 outputBytes O.Quiet = []
 outputBytes (O.Verdict v) = bytes "verdict=" ++ ((48 + v % 10) ∷ 10 ∷ [])
 outputBytes (O.Refused r) = bytes "refused=" ++ (refusalDigits r ++ (10 ∷ []))
+
+-- What a broken line prints.
+abbrev pub brokenBytes : Phase → List ℕ
+brokenBytes p = outputBytes (lastOutput (brokenBy p))
 
 -- A refusal prints at most so many bytes, and no output is longer.
 abbrev pub longestOutput : ℕ

@@ -1,17 +1,17 @@
 -- `feeder::feed` meets its contract. The invariant: what is written so far, and what is owed for the bytes that are
 -- left, make what was owed at the start (`Between`). Assumes nothing.
 use mathlib.Core.Path.{_≡_, refl, _∙_, ap}
-use mathlib.Core.List.{List, []}
+use mathlib.Core.List.{List}
 use Prim.Native.Nat.{ℕ, _+_, _-_, _≤_, _<_}
 use native.Mathlib.Omega.{arith}
 use borrow.Author.Needs.{needs}
-use lib.ListN.{length}
-use Rattle.cards.specs.Says.{brokenBy}
-use Rattle.player.specs.Card.{World, worldOf, brought, stopped, lastOutput, outputBytes}
+use lib.ListN.{length, drop, length-drop}
+use Rattle.lists.specs.Line.{line}
+use Rattle.player.specs.Card.{World, worldOf, brought, outputBytes}
 use Rattle.feeder.specs.declared.Fed.{Fed}
 use Rattle.feeder.proofs.Moving.{put-length, withRest}
 use Rattle.feeder.proofs.Feeding.{Between, begun, written-room, rest-room, ran-on, line-inside, said-room}
-use Rattle.feeder.proofs.Feeding.{after-line, left-over, last-room, over-long}
+use Rattle.feeder.proofs.Feeding.{after-line, tail-room, tail-feeds}
 use Rattle.feeder.proofs.feed.Statement.{statement}
 use Rattle.feeder.proofs.feed.Tie as tie
 
@@ -39,18 +39,18 @@ called c = let changed = c .before .before .before .before in changed .before .b
 abbrev ran : tie.After-line-length Inv-loop μ-loop → tie.After-feed-ticks Inv-loop μ-loop
 ran c = called (c .before .before .before)
 
--- The start of an over-long line: where it is known, from its last output.
-abbrev long : tie.After-put-arg Inv-loop μ-loop → tie.Else2 Inv-loop μ-loop
-long c = let output = c .before .before .before in output .before .before .before
+-- The end of the piece, from where its start of a line is fed.
+abbrev tail : tie.After-slice-known8 Inv-loop μ-loop → tie.Then1 Inv-loop μ-loop
+tail c = c .before .before .before .before
 
 -- A whole line: what it does, and where it is known, from its output; that output, from the end of the turn.
-abbrev answered : tie.After-put-arg2 Inv-loop μ-loop → tie.After-on-line Inv-loop μ-loop
+abbrev answered : tie.After-put-arg Inv-loop μ-loop → tie.After-on-line Inv-loop μ-loop
 answered c = let changed = c .before .before .before .before in changed .before .before .before .before
 
 abbrev whole : tie.After-on-line Inv-loop μ-loop → tie.Else1 Inv-loop μ-loop
 whole c = c .before .before .before .before .before
 
-abbrev put : tie.After-slice-known12 Inv-loop μ-loop → tie.After-put-arg2 Inv-loop μ-loop
+abbrev put : tie.After-slice-known12 Inv-loop μ-loop → tie.After-put-arg Inv-loop μ-loop
 put c = c .before .before .before
 
 -- ---- after the tick lines that `feed_ticks` runs
@@ -120,51 +120,34 @@ inside c = line-inside (run (ran c)) (c .line-length .result) (c .line-length .e
 add-to : tie.Need-add-to Inv-loop μ-loop
 add-to c = omega (arith, inside c, size (ran c))
 
--- and where it does not reach its end, so does its byte 10.
+-- and where it does not reach the end, so does its byte 10.
 ended : (c : tie.Else1 Inv-loop μ-loop) →
     let line = c .before in used (ran line) + line .line-length .result < length (bytes (ran line))
 ended c = omega (arith, inside (c .before), c .if1 .left)
 
--- The start of a line is left over.
+-- Where it reaches the end of the piece, it is the start of a line.
+start-of : (c : tie.Then1 Inv-loop μ-loop) →
+    let rest = drop (used (ran (c .before))) (bytes (ran (c .before))) in length (line rest) ≡ length rest
+start-of c =
+    let here = ran (c .before) in
+    omega (arith, c .before .line-length .ensures, c .if1 .taken, length-drop (used here) (bytes here))
+
+feed-tail-requires : tie.Need-feed-tail-requires Inv-loop μ-loop
+feed-tail-requires c κs =
+    let end = c .before in
+    (omega arith, tail-room (run (ran (end .before))) _ (end .if1 .taken) (start-of end))
+
+same-length-4 : tie.Need-same-length-4 Inv-loop μ-loop
+same-length-4 c =
+    let here = run (ran (tail c .before)) in
+    put-length _ _ _ refl (c .before .before .feed-tail .ensures .1)
+    (tail-room here _ (tail c .if1 .taken) (start-of (tail c)))
+    ∙ here .same
+
 returns : tie.Need-returns Inv-loop μ-loop
 returns c =
-    let line = c .before .before .before in
-    rw (c .fed-to .ensures)
-    (left-over (run (ran line)) (line .line-length .result) (line .line-length .ensures)
-    (c .before .before .if1 .taken) (c .before .if2 .taken))
-
--- The start of an over-long line: the card is over.
-over : (c : tie.After-put-arg Inv-loop μ-loop) →
-    let phase = fed (ran (long c .before .before)) .watch .stage .phase in
-    c .before .before .stop .result ≡ stopped (lastOutput (brokenBy phase))
-over c =
-    let output = c .before .before .before in
-    c .before .before .stop .ensures
-    ∙ ap stopped (output .last-output .ensures [] [] ∙ ap lastOutput (output .before .broken .ensures [] []))
-
-over-room : (c : tie.After-put-arg Inv-loop μ-loop) →
-    let here = ran (long c .before .before) in
-    at here + length (outputBytes (c .before .before .stop .result .output)) ≤ length (out here)
-over-room c =
-    let line = long c .before .before in
-    last-room (run (ran line)) (line .line-length .result) (line .line-length .ensures)
-    (long c .before .if1 .taken) (long c .if2 .left) (c .before .before .stop .result) (over c)
-
-same-length-8 : tie.Need-same-length-8 Inv-loop μ-loop
-same-length-8 c =
-    let put = c .before .before .before .put .ensures in
-    let word = c .before .before .before .before in
-    put-length _ _ _ (put .0) (put .1) (over-room word) ∙ run (ran (long word .before .before)) .same
-
-returns-2 : tie.Need-returns-2 Inv-loop μ-loop
-returns-2 c =
-    let put = c .before .before .before .put .ensures in
-    let word = c .before .before .before .before in
-    let line = long word .before .before in
-    rw (c .fed-to2 .ensures)
-    (over-long (run (ran line)) (line .line-length .result) (line .line-length .ensures)
-    (long word .before .if1 .taken) (long word .if2 .left) (word .before .before .stop .result) (over word)
-    (put .0) (put .1))
+    let fed = c .before .before .feed-tail .ensures in
+    tail-feeds (run (ran (tail c .before))) _ (tail c .if1 .taken) (start-of (tail c)) (fed .0) (fed .1)
 
 -- A whole line.
 on-line-requires : tie.Need-on-line-requires Inv-loop μ-loop
@@ -173,7 +156,7 @@ on-line-requires c κs =
     let line = here .before in
     record { ends = ap (λ (n : ℕ). used (ran line) + n) (line .line-length .ensures); whole = ended here }
 
-room : (c : tie.After-put-arg2 Inv-loop μ-loop) →
+room : (c : tie.After-put-arg Inv-loop μ-loop) →
     let here = ran (whole (answered c) .before) in
     at here + length (outputBytes (answered c .on-line .result .output)) ≤ length (out here)
 room c =
@@ -191,7 +174,7 @@ loop-less c = omega (arith, ended (whole (answered (put c))))
 
 loop-again : tie.Need-loop-again Inv-loop μ-loop
 loop-again c =
-    let word = c .before .before .put2 .ensures in
+    let word = c .before .before .put .ensures in
     let done = answered (put c) in
     let line = whole done .before in
     let kept = done .on-line .kept in (
@@ -202,15 +185,12 @@ loop-again c =
       omega (arith, kept, lengths (ran line) .2),
     )
 
--- The call of `feed_ticks`, from where its output is lent; the line, from the two ends of the loop.
-abbrev loop-at : tie.After-feed-ticks-arg5 Inv-loop μ-loop → tie.At-loop Inv-loop μ-loop
+-- The loop, from where the output is lent to `feed_ticks`; the call of it, from the end of the piece.
+abbrev loop-at : tie.After-feed-ticks-arg4 Inv-loop μ-loop → tie.At-loop Inv-loop μ-loop
 loop-at c = c .before .before .before .before .before
 
-abbrev left-at : tie.After-fed-to Inv-loop μ-loop → tie.After-feed-ticks Inv-loop μ-loop
-left-at c = ran (c .before .before .before)
-
-abbrev over-at : tie.After-fed-to2 Inv-loop μ-loop → tie.After-feed-ticks Inv-loop μ-loop
-over-at c = ran (long (c .before .before .before .before) .before .before)
+abbrev end-at : tie.After-slice-known8 Inv-loop μ-loop → tie.After-feed-ticks Inv-loop μ-loop
+end-at c = ran (tail c .before)
 
 pub feed-spec : {M : Type 1} → statement M
 feed-spec =
@@ -230,22 +210,12 @@ feed-spec =
     add-at
     (λ c κs. search needs)
     add-to
-    (λ c κs. search needs)
-    (λ c. lengths (left-at c) .0)
-    (λ c. lengths (left-at c) .1)
-    (λ c. lengths (left-at c) .2)
-    (λ c. run (left-at c) .same)
+    feed-tail-requires
+    (λ c. lengths (end-at c) .0)
+    (λ c. lengths (end-at c) .1)
+    (λ c. lengths (end-at c) .2)
+    same-length-4
     returns
-    (λ c κs. search needs)
-    (λ c κs. search needs)
-    (λ c κs. search needs)
-    (λ c κs. over-room c)
-    (λ c κs. search needs)
-    (λ c. lengths (over-at c) .0)
-    (λ c. lengths (over-at c) .1)
-    (λ c. lengths (over-at c) .2)
-    same-length-8
-    returns-2
     on-line-requires
     (λ c κs. room c)
     add-used-2

@@ -38,10 +38,10 @@ abbrev turn : tie.After-start Inv-loop μ-loop → tie.At-loop Inv-loop μ-loop
 turn c = c .before .before .before .before
 
 -- The step, from where the output is lent for its verdict, and that place from the end of the turn.
-abbrev stepped : tie.After-put-arg Inv-loop μ-loop → tie.After-step-passed Inv-loop μ-loop
+abbrev stepped : tie.After-put-verdict-arg Inv-loop μ-loop → tie.After-step-passed Inv-loop μ-loop
 stepped c = c .before .before .before .before .before
 
-abbrev lent : tie.After-slice-known6 Inv-loop μ-loop → tie.After-put-arg Inv-loop μ-loop
+abbrev lent : tie.After-slice-known6 Inv-loop μ-loop → tie.After-put-verdict-arg Inv-loop μ-loop
 lent c = c .before .before .before
 
 -- The loop, from where a line is broken.
@@ -79,8 +79,8 @@ returns-2 c =
 step-passed-requires : tie.Need-step-passed-requires Inv-loop μ-loop
 step-passed-requires c κs = turn (c .before .before .before .before) .loop .inv .1 .passes _ _
 
-put-requires : tie.Need-put-requires Inv-loop μ-loop
-put-requires c κs =
+put-verdict-requires : tie.Need-put-verdict-requires Inv-loop μ-loop
+put-verdict-requires c κs =
     let step = stepped c in
     let tick = read step in
     let line = tick .before .before in
@@ -101,7 +101,7 @@ inside c =
 
 loop-again : tie.Need-loop-again Inv-loop μ-loop
 loop-again c =
-    let put = c .before .before .put .ensures in
+    let put = c .before .before .put-verdict .ensures in
     let step = stepped (lent c) in
     let tick = read step in
     let line = tick .before .before in
@@ -130,7 +130,7 @@ run-ticks-spec =
     (λ c. stopped c .loop .inv .0 .same)
     returns
     step-passed-requires
-    put-requires
+    put-verdict-requires
     (λ c. omega (arith, inside c))
     (λ c. search needs)
     (λ c. omega arith)
