@@ -37,7 +37,7 @@ literalCount = 1000000
 abbrev pub parameterCount : ℕ
 parameterCount = 8
 
--- "a count (0 to 1,000,000)": the cap of the large player.
+-- "a count (0 to 1,000,000)": the cap of document 01; the definitions of a step take any.
 abbrev pub standardCap : ℕ
 standardCap = 1000000
 

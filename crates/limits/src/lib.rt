@@ -23,7 +23,7 @@ pub const LITERALS: u32 = 1000000;
 
 pub const PARAMETERS: u32 = 8;
 
-// The highest count of the large player.
+// The highest count. The definitions of a step take any cap, and this is the one of document 01.
 pub const CAP: u32 = 1000000;
 
 // The equations that a table can have.
