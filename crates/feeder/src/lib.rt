@@ -44,6 +44,7 @@ fn put_word(out: &mut [u8], at: usize, w: &[u8]) -> usize
     at + k
 }
 
+// Puts `verdict=`, the verdict's digit and a byte 10.
 fn put_verdict(out: &mut [u8], at: usize, v: u32) -> usize
     requires { ⌜ at + length (outputBytes (Output.Verdict v)) ≤ length (now out) ⌝ }
     ensures { λ r. ⌜ (r ≡ at + length (outputBytes (Output.Verdict v)))
@@ -54,6 +55,7 @@ fn put_verdict(out: &mut [u8], at: usize, v: u32) -> usize
     put_word(out, at, &line)
 }
 
+// Puts `refused=`, the refusal's number and a byte 10.
 fn put_refusal(out: &mut [u8], at: usize, refusal: u32) -> usize
     requires { ⌜ at + length (outputBytes (Output.Refused refusal)) ≤ length (now out) ⌝ }
     ensures { λ r. ⌜ (r ≡ at + length (outputBytes (Output.Refused refusal)))

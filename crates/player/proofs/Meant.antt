@@ -46,7 +46,6 @@ use Rattle.cards.specs.Lines.{Cut, cut}
 use Rattle.cards.specs.Says.{stageAt, editionOf, lineSays}
 use Rattle.cards.specs.declared.Count.the-variants as K
 use Rattle.cards.specs.declared.Phase.the-variants as P
-use Rattle.cards.specs.declared.Stage.{Stage}
 use Rattle.cards.proofs.Sized.{parameters-low, parameters-short, count-short}
 use Rattle.traces.specs.Trace.{tickOf}
 use Rattle.player.specs.Card.{World, worldOf, watchOf, Effect, effectOf, ruleMade, played, lined}
@@ -54,7 +53,6 @@ use Rattle.player.specs.Card.{outputBytes, owed, prints, start, printed}
 use Rattle.player.specs.Meant.{TickLines, Fine, verdictLines}
 use Rattle.player.specs.Meant.TickLines.{none as no-lines, more as more-lines}
 use Rattle.player.specs.declared.Output.the-variants as O
-use Rattle.player.specs.declared.Watch.{Watch}
 use Rattle.player.proofs.Playing.{saying, tick-lined}
 
 -- ---- the calls that a card's ticks make

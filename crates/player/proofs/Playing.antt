@@ -2,7 +2,7 @@
 -- card is over, and tick lines whose step gives a verdict. Assumes nothing.
 use mathlib.Core.Path.{_≡_, refl, _∙_, sym, ap}
 use mathlib.Core.List.{List}
-use Prim.Native.Nat.{ℕ, _+_, _-_, _≤_, _<_}
+use Prim.Native.Nat.{ℕ, _-_, _≤_, _<_}
 use native.Mathlib.Omega.{arith}
 use lib.ListN.{length, drop}
 use lib.Seq.{drop-drop}
@@ -19,7 +19,7 @@ use Rattle.cards.specs.declared.Stage.{Stage}
 use Rattle.cards.specs.declared.TickLine.the-variants as T
 use Rattle.cards.proofs.Hex.{tick-length}
 use Rattle.cards.proofs.Lines.{drop-line}
-use Rattle.cards.proofs.Stages.{Follows, says-follows, long-says, over-says}
+use Rattle.cards.proofs.Stages.{says-follows, long-says, over-says}
 use Rattle.observers.specs.Compile.{afterCompile, compiled}
 use Rattle.observers.specs.declared.Compiled.{Compiled}
 use Rattle.observers.specs.declared.Compiled.the-variants as C

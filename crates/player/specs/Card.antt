@@ -121,6 +121,7 @@ madeBy k c = madeAs (k .answer) (k .table) c
 unfoldable pub ruleMade : List ℕ → List ℕ → List ℕ → AfterRule
 ruleMade text t c = madeBy (compiled text t) c
 
+-- A rule with a refusal ends the card.
 abbrev pub ruleAnswer : Stage → Compiled → Answered
 ruleAnswer k (C.Equations n) = goingOn k n O.Quiet
 ruleAnswer k (C.Refused r) = stopped (O.Refused r)

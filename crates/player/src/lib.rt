@@ -104,6 +104,7 @@ pub fn over_long(w: Watch) -> Answered
     stop(last_output(cards::broken(phase)))
 }
 
+// The answer to a rule line: a rule with a refusal ends the card.
 fn after_rule(next: Stage, compiled: Compiled) -> Answered
     ensures { λ r. ⌜ r ≡ ruleAnswer next compiled ⌝ }
 {

@@ -15,7 +15,7 @@ use Rattle.player.specs.declared.Watch.{Watch}
 use Rattle.feeder.specs.declared.Turn.{Turn}
 use Rattle.cards.proofs.Lines.{append-nil}
 use Rattle.player.proofs.Printing.{over-prints}
-use Rattle.feeder.proofs.Resuming.{goes-none, goes-on, short-eq, short-none}
+use Rattle.feeder.proofs.Resuming.{goes-none, short-eq, short-none}
 use Rattle.cards.proofs.Stages.{rank, rank-first, rank-positive, is-over}
 use Rattle.feeder.proofs.Ending.{fed-near}
 use Rattle.towerwatch.specs.declared.Next.{Next}

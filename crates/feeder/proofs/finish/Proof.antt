@@ -6,7 +6,7 @@ use borrow.Author.Needs.{needs}
 use native.Mathlib.Omega.{arith}
 use lib.ListN.{length, take}
 use lib.Seq.{length-take-le}
-use Rattle.cards.specs.Says.{Says, endSays}
+use Rattle.cards.specs.Says.{endSays}
 use Rattle.player.specs.Card.{worldOf, outputBytes, lastOutput}
 use Rattle.feeder.proofs.Resuming.{ends}
 use Rattle.player.proofs.Paying.{output-small}
