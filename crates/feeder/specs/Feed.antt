@@ -71,7 +71,9 @@ fedTo w used filled = record { watch = w; used = used; filled = filled }
 -- ends the card.
 unfoldable pub tailFed : Watch → ℕ → ℕ → ℕ → Fed
 tailFed w used to at =
-    cond (leb lineLimit (to - used)) (fedTo overWatch to (at + length (brokenBytes (w .stage .phase)))) (fedTo w used at)
+    cond (leb lineLimit (to - used))
+    (fedTo overWatch to (at + length (brokenBytes (w .stage .phase))))
+    (fedTo w used at)
 
 -- Of the piece s some lines are used up, and what they print stands at the front of out: no more bytes than they
 -- have. From there w' goes on in the same phase, and all else of out is kept.
