@@ -42,6 +42,7 @@ observes cap low f led bound size junk =
     n : ℕ
     n = length (observer f)
 
+    -- What is cited is over any number of signals, so that nothing computes a list of 64.
     few : signalCount ≤ signalCount
     few = omega arith
 

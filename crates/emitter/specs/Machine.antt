@@ -77,8 +77,8 @@ valuesAt places o n st r =
 -- What a node leaves, with its values.
 unfoldable pub applied : Node → Values → State → State
 applied d v s =
-    state (withEquations (s .table) (s .next) (filled v (d .rows))) (s .next ⊕ length (d .rows)) (valueNamed v (d .idle))
-    (valueNamed v (d .result) ∷ drop (d .takes) (s .stack))
+    state (withEquations (s .table) (s .next) (filled v (d .rows))) (s .next ⊕ length (d .rows))
+    (valueNamed v (d .idle)) (valueNamed v (d .result) ∷ drop (d .takes) (s .stack))
 
 unfoldable pub step : List ℕ → Record → State → State
 step places r s = applied (nodeOf (r .kind)) (valuesAt places (s .next) (s .idle) (s .stack) r) s

@@ -126,7 +126,8 @@ proper-rows = refl
 proper-row : (k i : ℕ) → i < widest → proper (rowAt (nodeOf k .rows) i .kind) ≡ true
 proper-row k i h = elim (decLt k nodeCount) [
   | yes low ↦
-      let of-kind = all-at (λ k. all (λ i. proper (rowAt (nodeOf k .rows) i .kind)) widest) nodeCount proper-rows k low in
+      let of-kind =
+      all-at (λ k. all (λ i. proper (rowAt (nodeOf k .rows) i .kind)) widest) nodeCount proper-rows k low in
       all-at (λ i. proper (rowAt (nodeOf k .rows) i .kind)) widest of-kind i h
   | no high ↦ rw (none k (omega arith))
 ]

@@ -53,8 +53,8 @@ const WIDEST: usize = 5;
 // A row: the kind of an equation, and the names of its three numbers.
 pub struct Row(pub u32, pub u32, pub u32, pub u32);
 
-// A node: how many rows it has, and these first among five; how many operands it takes off the stack, which value it puts
-// there, and which value is the negated start flow from here on.
+// A node: how many rows it has, and these first among five; how many operands it takes off the stack, which value it
+// puts there, and which value is the negated start flow from here on.
 pub struct Node {
     pub count: u32,
     pub rows: [Row; WIDEST],

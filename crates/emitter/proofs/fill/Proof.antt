@@ -19,12 +19,24 @@ Inv-loop t₀ o vs d rows j₀ t j =
 abbrev μ-loop : tie.MeasureT-loop
 μ-loop t₀ o vs d rows j₀ t j = d .count - j
 
--- The places: a turn has put its row; the turn begins; the start.
+-- The places: a turn has put its row; it has passed its test; it begins; the start.
+abbrev tested : tie.After-slice-known2 Inv-loop μ-loop → tie.Then1 Inv-loop μ-loop
+tested c = c .before .before .before .before .before
+
 abbrev turn : tie.After-slice-known2 Inv-loop μ-loop → tie.After-struct-known Inv-loop μ-loop
-turn c = c .before .before .before .before .before .before
+turn c = tested c .before
 
 abbrev start : tie.After-struct-known Inv-loop μ-loop → tie.Start Inv-loop μ-loop
 start c = c .before .before .before .before
+
+-- The row's place is no number out of range, and there is such a row.
+place-fits : tie.Need-add-put-row Inv-loop μ-loop
+place-fits c =
+    let entry = start (c .before .before) in
+    omega (arith, entry .pre .0, entry .pre .1 .few, c .before .if1 .taken)
+
+row-there : tie.Need-array-copy-out-put-row Inv-loop μ-loop
+row-there c = omega (arith, start (c .before .before) .pre .1 .few, c .before .if1 .taken)
 
 loop-holds : tie.Need-loop-holds Inv-loop μ-loop
 loop-holds c =
@@ -36,7 +48,7 @@ loop-again c =
     let here = turn c in
     let args = start here .args in
     let put = c .before .before .put-row in
-    let test = c .before .before .before .before .before .if1 in
+    let test = tested c .if1 in
     let loop = here .before .loop in (
       omega (arith, test .taken),
       put .kept .0 ∙ loop .inv .1,
@@ -49,9 +61,10 @@ returns c =
     let here = c .before in
     let args = start here .args in
     let loop = here .before .loop in
+    let rows = map (lookedUp (args .vs .now)) (args .d .rows) in
     let all : loop .j ≡ args .d .count = omega (arith, c .if1 .left, loop .inv .0) in
     loop .inv .2
-    ∙ ap (λ (n : ℕ). withEquations (args .t .now) (args .o) (take n (map (lookedUp (args .vs .now)) (args .d .rows)))) all
+    ∙ ap (λ (n : ℕ). withEquations (args .t .now) (args .o) (take n rows)) all
 
 pub fill-spec : {M : Type 1} → statement M
 fill-spec =
@@ -60,13 +73,13 @@ fill-spec =
     Inv-loop
     μ-loop
     loop-holds
-    (λ c. omega (arith, start (c .before .before) .pre .0, start (c .before .before) .pre .1 .few, c .before .if1 .taken))
+    place-fits
     (λ c. search needs)
     (λ c. search needs)
-    (λ c. omega (arith, start (c .before .before) .pre .1 .few, c .before .if1 .taken))
+    row-there
     (λ c κs. start (c .before .before .before) .pre .1 .known (c .before .before .before .before .loop .j))
-    (λ c. omega (arith, start (turn c) .pre .1 .few, c .before .before .before .before .before .if1 .taken))
-    (λ c. omega (arith, c .before .before .before .before .before .if1 .taken))
+    (λ c. omega (arith, start (turn c) .pre .1 .few, tested c .if1 .taken))
+    (λ c. omega (arith, tested c .if1 .taken))
     loop-again
     (λ c. c .before .before .loop .inv .1)
     returns)
