@@ -5,11 +5,9 @@ use mathlib.Core.Bool.{Bool, true, false}
 use mathlib.Core.List.{List, [], _∷_, _++_}
 use Prim.Native.Nat.{ℕ, zero, suc, _+_, _≤_, _<_}
 use native.Mathlib.Omega.{arith}
-use native.Mathlib.Numerals.{add-one}
 use lib.Dec.{eqb}
-use lib.ListN.{length, getD, take, drop, length-take, drop-of-length-le}
-use lib.Seq.{drop-cons, take-length}
-use borrow.Author.Tests.{ne-eqb}
+use lib.ListN.{length, take, drop, length-take}
+use lib.Seq.{take-length}
 use Rattle.lists.specs.Line.{lineEnd, line}
 use Rattle.lists.proofs.Lines.{take-line}
 use Rattle.cards.specs.Lines.{Cut, cutAs, withLine, pushOn, cut}

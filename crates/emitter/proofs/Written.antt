@@ -5,13 +5,13 @@ use Prim.Native.Nat.{ℕ, zero, suc, _+_, _*_, _≤_, _<_}
 use native.Mathlib.Numerals.{add-one, add-two, add-three}
 use native.Mathlib.Omega.{arith}
 use lib.ListN.{length, getD, set, take}
-use lib.Seq.{sets, take-all}
+use lib.Seq.{sets}
 use Rattle.lists.proofs.Buffers.{sets-append}
 use Rattle.tables.specs.Table.{Equation}
 use Rattle.tables.specs.Table.{equation}
 use Rattle.scheme.specs.Scheme.{widest, Row as SchemeRow, rowAt, nodeOf, Values, resolved, filled}
 use Rattle.scheme.specs.Emit.{placeAfter, numbersOf}
-use Rattle.scheme.proofs.Places.{after-append, after-length, length-numbers}
+use Rattle.scheme.proofs.Places.{after-length, length-numbers}
 use Rattle.scheme.proofs.ByKind.{rows-few}
 use Rattle.nodes.specs.Numbers.{nameCount, valueList, kindBy, asRow, fiveOf, lookedUp}
 use Rattle.nodes.specs.declared.Row.{Row}

@@ -2,7 +2,7 @@
 -- number. Assumes nothing.
 use mathlib.Core.List.{List}
 use mathlib.Core.Path.{_≡_, sym, ap}
-use Prim.Native.Nat.{ℕ, _≤_, _<_}
+use Prim.Native.Nat.{ℕ, _<_}
 use lib.ListN.{getD}
 use Rattle.tables.proofs.Checks.{checked-fitting}
 use Rattle.lustre.specs.Write.{AfterWrite, afterWrite, writeEffect}

@@ -4,7 +4,7 @@ use mathlib.Core.Path.{_≡_}
 use Prim.Native.Nat.{ℕ, _≤_}
 use Rattle.limits.specs.Limits.{equationLimit}
 use Rattle.tables.specs.Reply.{Reply}
-use Rattle.flows.specs.Step.{AfterStep, AfterFresh, freshened, stepped, freshReply, stepReply}
+use Rattle.flows.specs.Step.{AfterStep, AfterFresh, freshReply, stepReply}
 use Rattle.rules.specs.declared.Read as rules
 use Rattle.rules.specs.declared.Same.{Same}
 use Rattle.rules.specs.Contract as read

@@ -17,7 +17,6 @@ ghost use Rattle.traces.specs.Trace.{tickOf};
 ghost use Rattle.lustre.specs.Write.{writeEffect};
 ghost use Rattle.firmware.specs.Face.{writeAnswer, write, loadAnswer, LoadTold, short, few};
 ghost use Rattle.firmware.specs.Face.{readAnswer, sameAnswer, compiledAnswer, compile, SameTold};
-ghost use Prim.Native.Nat.{_≤_};
 ghost use Rattle.firmware.specs.Face.{small};
 
 // An answer as C gets it: the refusal's number, 0 for none, and the result, 0 where there is none.

@@ -1,6 +1,6 @@
 -- One tick of a table, over the cap of its counts: the flows, the fresh state and the next state. Definitions only.
 -- The sentences quoted are document 01's, from "Equations".
-use mathlib.Core.Bool.{Bool, true, false, not, _&&_, _||_, cond}
+use mathlib.Core.Bool.{Bool, not, _&&_, _||_, cond}
 use mathlib.Core.List.{List, [], _∷_, _++_}
 use Prim.Native.Nat.{ℕ, zero, suc, _+_, min}
 use lib.Dec.{ltb, leb}

@@ -1,15 +1,14 @@
 -- Decimal numbers: what is known while their digits are read. Assumes nothing.
-use mathlib.Core.Bool.{Bool, true, false, _&&_, cond, and-eq-true-iff}
+use mathlib.Core.Bool.{Bool, true, false, cond, and-eq-true-iff}
 use mathlib.Core.List.{List, [], _∷_}
 use mathlib.Core.Path.{_≡_, refl, sym, ap, _∙_}
 use Prim.Native.Nat.{ℕ, _+_, _-_, _*_, _≤_, _<_}
-use native.Mathlib.Decide.{decLe}
 use native.Mathlib.Numerals.{add-one}
 use native.Mathlib.Omega.{arith}
 use lib.Dec.{eqb, leb}
 use lib.ListN.{length, getD, drop, drop-of-length-le}
 use lib.Seq.{drop-cons}
-use borrow.Author.Tests.{leb-true, eq-eqb, ne-eqb, le-leb, lt-leb}
+use borrow.Author.Tests.{leb-true, ne-eqb, lt-leb}
 use Rattle.lists.specs.Decimal.{Numeral, isDigit, settled, digitsAfter, numeral}
 use Rattle.lists.specs.Decimal.{numeralOf, nextOf, settledAt, DecimalAt}
 use Rattle.lists.specs.Decimal.Numeral.{is, above, missing}

@@ -1,7 +1,7 @@
 -- The bytes of a quoted text, so that specifications can write texts as document 01 does. Definitions only.
 use mathlib.Core.List.{List}
 use Prim.Native.Nat.{ℕ}
-use Prim.Native.Char.{Char, code}
+use Prim.Native.Char.{code}
 use Prim.Native.String.{String}
 
 -- The codes of a text's characters: for the characters of document 01, its bytes.

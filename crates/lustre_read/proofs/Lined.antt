@@ -15,7 +15,6 @@ use Rattle.lists.specs.Number.{numberAt}
 use Rattle.tables.specs.Table.{Equation, equationAt}
 use Rattle.limits.specs.Limits.{equationLimit, tableRoom}
 use Rattle.lustre.specs.Text.{lineRest, lineText, lines}
-use Rattle.tables.specs.Table.{equation}
 use Rattle.lustre.specs.Form.{equationOf, own, Letter, slot, render, absent}
 use Rattle.lustre.specs.Form.Letter.{isA, isB, isC}
 use Rattle.lustre.specs.Form.{Agree, highest, Small, formCount, formAt, formText, formOf, Fits, Plain, NoLine}

@@ -2,15 +2,13 @@
 -- nothing.
 use mathlib.Core.Bool.{Bool, true, cond}
 use mathlib.Core.List.{List, _++_}
-use mathlib.Core.Option.{Option, none, some}
+use mathlib.Core.Option.{Option, some}
 use mathlib.Core.Path.{_≡_, refl, sym, ap, ap₂, _∙_, subst, subst₂}
 use Prim.Native.Nat.{ℕ, _+_, _*_, _≤_, _<_}
 use native.Mathlib.Omega.{arith}
-use lib.Dec.{ltb}
-use lib.ListN.{length, drop, take}
+use lib.ListN.{length, drop}
 use lib.Seq.{sets, length-sets, drop-at}
 use borrow.Author.Tests.{lt-ltb, le-ltb}
-use Rattle.words.specs.Split.{splitOf}
 use Rattle.words.proofs.Bounds.{word-bound, words-few}
 use Rattle.formulas.specs.Formula.{Formula}
 use Rattle.formulas.specs.Tree.{Tree, nodes, leads, formulaOf}
@@ -30,12 +28,10 @@ use Rattle.emitter.proofs.Size.{observer-front}
 use Rattle.scheme.proofs.Places.{length-numbers}
 use Rattle.rules.specs.Reading.{Outcome, ruleOf}
 use Rattle.rules.specs.Reading.Outcome.{refused, rule}
-use Rattle.rules.specs.Admitted.{Admitted}
 use Rattle.rules.proofs.Theorems.{accepted, has-formula}
-use Rattle.observers.specs.Compile.{AfterCompile, afterCompile, compiled, ofOutcome, observerOf, stored}
+use Rattle.observers.specs.Compile.{afterCompile, compiled, ofOutcome, observerOf, stored}
 use Rattle.observers.specs.Demand.{Compiles}
-use Rattle.observers.specs.Demand.Compiles.{not-read, no-room, observed}
-use Rattle.observers.specs.declared.Compiled.{Compiled}
+use Rattle.observers.specs.Demand.Compiles.{observed}
 use Rattle.observers.specs.declared.Compiled.the-variants.{Equations, Refused}
 
 -- What is known of a rule that is read: its formula, and what the observer theorem asks of it.

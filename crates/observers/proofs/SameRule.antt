@@ -1,27 +1,26 @@
 -- Two texts that are the same rule compile to tables that answer alike on every list of calls. Assumes nothing.
 use mathlib.Core.List.{List}
-use mathlib.Core.Option.{Option, some}
+use mathlib.Core.Option.{some}
 use mathlib.Core.Path.{_≡_, refl, sym, ap, _∙_, subst, subst₂}
 use Prim.Native.Nat.{ℕ, _≤_}
 use native.Mathlib.Omega.{arith}
 use lib.ListN.{length}
 use Rattle.formulas.specs.Formula.{Formula}
 use Rattle.formulas.specs.Tree.{Tree, nodes, formulaOf}
-use Rattle.formulas.specs.Meaning.{verdict}
 use Rattle.limits.specs.Limits.{standardCap, tableRoom}
-use Rattle.flows.specs.Step.{AfterFresh, freshened}
-use Rattle.flows.specs.Run.{Call, answers, ticks, expected}
-use Rattle.agreement.specs.Agreement.{SameParameters, traceOfTicks, Observes}
+use Rattle.flows.specs.Step.{freshened}
+use Rattle.flows.specs.Run.{Call, answers, ticks}
+use Rattle.agreement.specs.Agreement.{SameParameters, Observes}
 use Rattle.scheme.specs.Emit.{observer}
 use Rattle.rules.specs.Reading.{ruleOf}
-use Rattle.rules.specs.Reading.Outcome.{refused, rule}
+use Rattle.rules.specs.Reading.Outcome.{rule}
 use Rattle.rules.proofs.SameRule.{SameRule, yes-tree}
 use Rattle.observers.specs.Compile.{AfterCompile, afterCompile, compiled}
 use Rattle.observers.proofs.Demand.{room-compiled}
 use Rattle.observers.specs.Demand.{Compiles}
 use Rattle.observers.specs.Demand.Compiles.{not-read, no-room, observed}
 use Rattle.observers.specs.declared.Compiled.{Compiled}
-use Rattle.observers.specs.declared.Compiled.the-variants.{Equations, Refused}
+use Rattle.observers.specs.declared.Compiled.the-variants.{Equations}
 
 -- Two tables of as many equations that observe one formula answer alike.
 pub alike : (n : ℕ) (t u : List ℕ) (f : Formula) (k m : ℕ) → Observes standardCap t n f k → Observes standardCap u n f m

@@ -9,7 +9,7 @@ use lib.Dec.{ltb}
 use lib.ListN.{length}
 use lib.Seq.{sets}
 use Rattle.formulas.specs.Formula.{Formula}
-use Rattle.formulas.specs.Tree.{Tree, formulaOf}
+use Rattle.formulas.specs.Tree.{formulaOf}
 use Rattle.limits.specs.Limits.{tableRoom}
 use Rattle.tables.specs.Table.{Equation}
 use Rattle.scheme.specs.Emit.{observer, numbersOf}

@@ -29,7 +29,7 @@ use Rattle.scheme.specs.Scheme.{Values}
 use Rattle.scheme.specs.Emit.{flowsAt, comparing, constantAt}
 use Rattle.scheme.specs.Emit.{constant-es, not-es, and-es, or-es, begin-es, point-es, kept-es, held-es}
 use Rattle.scheme.specs.Emit.{len-es, sum-es, age-es, lead-end-es, then-es, whole-es}
-use Rattle.scheme.proofs.Places.{Each, _▹_}
+use Rattle.scheme.proofs.Places.{Each}
 use Rattle.scheme.proofs.Roles.{Role, rolesOf, rowsOk, Before, later, Fits, KindAt, Plays, rows-fit}
 use Rattle.scheme.proofs.Roles.Role.{given, free}
 

@@ -1,7 +1,7 @@
 -- The equations of a formula: its observer. Laid out as: start flow, its negation, the named signals by rising number,
 -- each node's equations together (operands first, left before right; for `then` the lead, the end of the lead, the
 -- second part, the rest), started with its memory, the verdict last. Definitions only.
-use mathlib.Core.Bool.{Bool, true, false, _||_, cond}
+use mathlib.Core.Bool.{Bool, false, _||_, cond}
 use mathlib.Core.List.{List, [], _∷_, _++_}
 use Prim.Native.Nat.{ℕ, zero, suc}
 use lib.Dec.{eqb}

@@ -2,7 +2,7 @@
 -- Assumes nothing.
 use mathlib.Core.Path.{_≡_, refl}
 use mathlib.Core.Bool.{Bool, true, false, cond, _&&_}
-use mathlib.Core.List.{List, [], _∷_, _++_}
+use mathlib.Core.List.{List, [], _++_}
 use Prim.Native.Nat.{ℕ, _*_, _-_, _≤_, _<_}
 use native.Mathlib.Omega.{arith}
 use lib.Dec.{leb, ltb}
@@ -10,7 +10,7 @@ use lib.ListN.{length}
 use borrow.Author.Tests.{le-ltb, lt-ltb, lt-leb, le-leb, ltb-true, leb-true}
 use Rattle.tables.specs.Table.{all, Equation, equationFits, operandFits, shapeFits, kindAt, sortOf, sameSort}
 use Rattle.limits.specs.Limits.{equationLimit}
-use Rattle.tables.specs.Table.{lengthFits, equationsFit, Test, test, firstFailed}
+use Rattle.tables.specs.Table.{lengthFits, equationsFit, Test, firstFailed}
 use Rattle.tables.specs.Table.{tableTests, checked}
 use Rattle.tables.specs.declared.Sort.the-variants.{Boolean}
 use Rattle.tables.specs.declared.Shape.{Shape}

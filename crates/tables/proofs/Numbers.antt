@@ -1,15 +1,15 @@
 -- The kinds by their numbers: what holds of a kind, said as tests on its number.
 -- Assumes nothing.
 use mathlib.Core.Path.{_≡_, refl, _∙_}
-use mathlib.Core.Bool.{true, false, not, _&&_}
+use mathlib.Core.Bool.{false, not, _&&_}
 use mathlib.Core.List.{List, [], _∷_, map}
 use Prim.Native.Nat.{ℕ, zero, suc, _≤_, _<_}
 use native.Mathlib.Omega.{arith}
 use native.Mathlib.Nat.{not-suc-le-zero, le-of-suc-le-suc}
 use native.Mathlib.Decide.{decLt}
-use lib.Dec.{leb, ltb, eqb}
+use lib.Dec.{leb}
 use lib.ListN.{length, getD, List·getD-map, List·getD-eq-default}
-use borrow.Author.Tests.{lt-leb, le-leb, lt-ltb, ne-eqb}
+use borrow.Author.Tests.{lt-leb, le-leb}
 use Rattle.tables.specs.Kind.{BOOLEAN-PRE, COUNT-PRE, IF, kindCount}
 use Rattle.tables.specs.Table.{kinds, kindOf, shapeOf, sortOf, sameSort, all}
 use Rattle.tables.specs.Table.Kind.{unknown}

@@ -1,6 +1,5 @@
 -- `cards::broken` meets its contract: one case for each phase. Assumes nothing.
 use borrow.Author.Needs.{needs}
-use mathlib.Core.Path.{refl}
 use Rattle.cards.proofs.broken.Statement.{statement}
 use Rattle.cards.proofs.broken.Tie as tie
 

@@ -1,5 +1,4 @@
 -- `emitter::enter` meets its contract: the record's node is added, with the record's values. Assumes nothing.
-use mathlib.Core.Path.{sym}
 use borrow.Author.Needs.{needs}
 use Rattle.nodes.proofs.Found.{node-sized}
 use Rattle.emitter.proofs.Stack.{entered}

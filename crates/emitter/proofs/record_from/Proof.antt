@@ -1,7 +1,6 @@
 -- `emitter::record_from` meets its contract: the test decides. Assumes nothing.
 use Prim.Native.Nat.{_+_}
 use native.Mathlib.Omega.{arith}
-use borrow.Author.Needs.{needs}
 use borrow.Author.Tests.{le-leb, lt-leb}
 use lib.ListN.{length}
 use Rattle.emitter.proofs.record_from.Statement.{statement}

@@ -1,8 +1,7 @@
 -- `firmware::compiled_answer` meets its contract, case by case. Assumes nothing.
-use mathlib.Core.Path.{_≡_, sym, ap, subst}
+use mathlib.Core.Path.{sym, ap, subst}
 use Prim.Native.Nat.{_≤_}
 use native.Mathlib.Omega.{arith}
-use Rattle.observers.specs.declared.Compiled.{Compiled}
 use Rattle.limits.specs.Limits.{equationLimit}
 use Rattle.firmware.specs.Face.{compiledAnswer, small}
 use borrow.Author.Needs.{needs}

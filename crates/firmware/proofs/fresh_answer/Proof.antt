@@ -1,5 +1,5 @@
 -- `firmware::fresh_answer` meets its contract, case by case. Assumes nothing.
-use mathlib.Core.Path.{_≡_, sym, ap}
+use mathlib.Core.Path.{sym, ap}
 use Rattle.flows.specs.Step.{freshReply}
 use Rattle.flows.specs.declared.Fresh.{Fresh}
 use Rattle.firmware.specs.Face.{answer}

@@ -1,5 +1,5 @@
 -- `firmware::same_answer` meets its contract, case by case. Assumes nothing.
-use mathlib.Core.Path.{_≡_, sym, ap, subst}
+use mathlib.Core.Path.{sym, ap}
 use Rattle.firmware.specs.Face.{sameAnswer}
 use borrow.Author.Needs.{needs}
 use Rattle.firmware.proofs.same_answer.Statement.{statement}

@@ -1,5 +1,5 @@
 -- `firmware::step_answer` meets its contract, case by case. Assumes nothing.
-use mathlib.Core.Path.{_≡_, sym, ap}
+use mathlib.Core.Path.{sym, ap}
 use Rattle.flows.specs.Step.{stepReply}
 use Rattle.flows.specs.declared.Stepped.{Stepped}
 use Rattle.firmware.specs.Face.{answer}

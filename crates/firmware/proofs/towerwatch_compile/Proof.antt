@@ -1,6 +1,6 @@
 -- `firmware::towerwatch_compile` meets its contract: it is `observers::compile_rule`, its answer as C gets it.
 -- Assumes nothing.
-use mathlib.Core.Path.{_≡_, ap, _∙_}
+use mathlib.Core.Path.{ap, _∙_}
 use Rattle.firmware.specs.declared.Answer.{Answer}
 use Rattle.firmware.specs.Face.{left, compile}
 use Rattle.firmware.proofs.Sizes.{few-equations}

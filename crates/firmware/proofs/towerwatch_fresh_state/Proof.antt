@@ -1,7 +1,6 @@
 -- `firmware::towerwatch_fresh_state` meets its contract: it is `tables::fresh_state`, its answer as C gets it.
 -- Assumes nothing.
-use mathlib.Core.Path.{_≡_, ap, _∙_}
-use Rattle.flows.specs.Step.{AfterFresh}
+use mathlib.Core.Path.{ap, _∙_}
 use Rattle.firmware.specs.declared.Answer.{Answer}
 use Rattle.firmware.specs.Face.{left, fresh}
 use borrow.Author.Needs.{needs}

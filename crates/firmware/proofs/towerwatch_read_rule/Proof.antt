@@ -1,6 +1,6 @@
 -- `firmware::towerwatch_read_rule` meets its contract: it is `rules::read_rule`, its answer as C gets it.
 -- Assumes nothing.
-use mathlib.Core.Path.{_≡_, ap, _∙_}
+use mathlib.Core.Path.{ap, _∙_}
 use Rattle.firmware.specs.Face.{readAnswer}
 use borrow.Author.Needs.{needs}
 use Rattle.firmware.proofs.towerwatch_read_rule.Statement.{statement}

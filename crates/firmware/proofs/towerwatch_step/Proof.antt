@@ -1,6 +1,5 @@
 -- `firmware::towerwatch_step` meets its contract: it is `tables::step`, its answer as C gets it. Assumes nothing.
-use mathlib.Core.Path.{_≡_, ap, _∙_}
-use Rattle.flows.specs.Step.{AfterStep}
+use mathlib.Core.Path.{ap, _∙_}
 use Rattle.firmware.specs.declared.Answer.{Answer}
 use Rattle.firmware.specs.Face.{leftValues, tick}
 use borrow.Author.Needs.{needs}

@@ -1,6 +1,6 @@
 -- `firmware::towerwatch_write_lustre` meets its contract: it is `lustre_write::write_lustre`, its answer as C gets it.
 -- Assumes nothing.
-use mathlib.Core.Path.{_≡_, ap, _∙_}
+use mathlib.Core.Path.{ap, _∙_}
 use native.Mathlib.Omega.{arith}
 use Rattle.firmware.specs.declared.Answer.{Answer}
 use Rattle.firmware.specs.Face.{left, write}

@@ -1,9 +1,7 @@
 -- `observers::compile_rule` meets its contract: the whole effect, and demand 3. Assumes nothing.
-use mathlib.Core.Path.{_≡_, refl, sym, _∙_}
-use Prim.Native.Nat.{_≤_}
+use mathlib.Core.Path.{sym}
 use native.Mathlib.Omega.{arith}
 use borrow.Author.Needs.{needs}
-use lib.ListN.{length, take}
 use lib.Seq.{length-take-le}
 use Rattle.rules.specs.Reading.{ruleOf}
 use Rattle.rules.proofs.Laid.{Front, front-of, refused-as}

@@ -1,11 +1,11 @@
 -- `towerwatch::run` meets its contract: the turns so far have come from the start to where the program stands, and each
 -- turn leaves fewer bytes to come. Assumes nothing.
-use mathlib.Core.Path.{_≡_, refl, _∙_, sym, subst}
+use mathlib.Core.Path.{_≡_, refl, _∙_, sym}
 use native.Mathlib.Omega.{arith}
 use borrow.Author.Needs.{needs}
 use borrow.Author.Tests.{not-true, not-false}
 use lib.ListN.{length, take}
-use Rattle.player.specs.Card.{World, worldOf}
+use Rattle.player.specs.Card.{worldOf}
 use Rattle.feeder.specs.Feed.{Ready}
 use Rattle.towerwatch.specs.Run.{outputRoom}
 use Rattle.towerwatch.proofs.Turning.{budget, Reached, reached-start, reached-on, fewer, ends-whole}

@@ -6,7 +6,7 @@ use native.Mathlib.Omega.{arith}
 use borrow.Author.Needs.{needs}
 use lib.ListN.{length, drop}
 use lib.Seq.{getD-drop}
-use Rattle.words.specs.Split.{RUN, classOf, run, runOf, longest}
+use Rattle.words.specs.Split.{run, runOf, longest}
 use Rattle.words.proofs.Runs.{run-goes, run-fits, run-part, run-some, word-run, word-none, word-operator}
 use Rattle.words.specs.Width.{operatorWidth}
 use Rattle.words.proofs.Widths.{width-run, width-none, width-operator}
