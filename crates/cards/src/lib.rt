@@ -123,8 +123,9 @@ fn plain(content: Content) -> LineRead
 
 // "`k=` eight numbers 0 to 999,999 with commas"
 fn parameters_line(s: &[u8]) -> LineRead
-    ensures { λ r. ⌜ saysBy (r .content) (r .values) (now (s .entry))
-        ≡ parametersSay (parametersOf (now (s .entry))) ⌝ }
+    ensures { λ r. ⌜ (saysBy (r .content) (r .values) (now (s .entry))
+        ≡ parametersSay (parametersOf (now (s .entry))))
+        × ((r .content ≡ Content.Parameters → ⊥) → r .values ≡ replicate parameterCount 0) ⌝ }
 {
     if !has_prefix(s, b"k=") {
         return plain(Content::Refused(17));
@@ -292,7 +293,8 @@ fn tick_content(left: u32, s: &[u8]) -> Content
 
 // "Checks go line by line": what a line says, given without its byte 10.
 pub fn read_line(stage: Stage, s: &[u8]) -> LineRead
-    ensures { λ r. ⌜ saysBy (r .content) (r .values) (now (s .entry)) ≡ lineSays stage (now (s .entry)) ⌝ }
+    ensures { λ r. ⌜ (saysBy (r .content) (r .values) (now (s .entry)) ≡ lineSays stage (now (s .entry)))
+        × ((r .content ≡ Content.Parameters → ⊥) → r .values ≡ replicate parameterCount 0) ⌝ }
 {
     let phase = stage.phase;
     if limits::LINE <= s.len() {

@@ -7,7 +7,7 @@ use native.Mathlib.Numerals.{add-one}
 use native.Mathlib.Omega.{arith}
 use lib.ListN.{getD, set, drop, length, take}
 use lib.Seq.{getD-set-same, getD-set-other}
-use Rattle.scheme.specs.Scheme.{nodeOf, valueNamed, filled}
+use Rattle.scheme.specs.Scheme.{nodeOf, Values, valueNamed, filled}
 use Rattle.scheme.proofs.Offsets.{⊕-add}
 use Rattle.scheme.proofs.ByKind.{rows-few}
 use Rattle.nodes.specs.Numbers.{numberOf, valueList, asNode, lookedUp}
@@ -15,7 +15,7 @@ use Rattle.nodes.specs.declared.Node.{Node as CodeNode}
 use Rattle.nodes.proofs.Found.{named}
 use Rattle.emitter.proofs.Written.{own-rows}
 use Rattle.emitter.specs.Machine.{withEquations, before, stacked, valuesAt, applied, step}
-use Rattle.emitter.specs.Contract.{Pushed, AddedBy, Entered}
+use Rattle.emitter.specs.Contract.{Pushed, Added, AddedBy, Entered}
 use Rattle.emitter.specs.declared.Place.{Place}
 use Rattle.emitter.specs.declared.Record.{Record}
 
@@ -74,12 +74,15 @@ pushed {stack} {h} {t} {v} {stack′} {low} e l s =
 
 -- ---- one node: what the calls of `add_node` gave
 
-pub added : {vs t stack : List ℕ} {m : Place} {d : CodeNode} {t′ stack′ : List ℕ} {out n h : ℕ}
-    → t′ ≡ withEquations t (m .next) (take (d .count) (map (lookedUp vs) (d .rows)))
-    → out ≡ getD vs (d .result) 0 → n ≡ getD vs (d .idle) 0 → Pushed stack (m .height) (d .takes) out stack′ h
-    → AddedBy d vs t stack m t′ stack′ (record { next = m .next + d .count; idle = n; height = h })
+added : {vs t stack : List ℕ} {m : Place} {d : CodeNode} {t′ stack′ : List ℕ} {m′ : Place} (k : ℕ) (v : Values)
+    → d ≡ asNode (nodeOf k) → vs ≡ valueList v → AddedBy d vs t stack m t′ stack′ m′
+    → Added (nodeOf k) v t stack m t′ stack′ m′
 unfolding applied
-added {vs} {t} {stack} {m} {d} {t′} e-t e-out e-n e-h = λ k v e-d e-vs.
+added {vs} {t} {stack} {m} {d} {t′} k v e-d e-vs h =
+    let e-t = h .rows in
+    let e-h = h .result in
+    let e-next = h .next in
+    let e-idle = h .idle in
     let few = rows-few k in
     let count : d .count ≡ length (nodeOf k .rows) = ap (λ (x : CodeNode). x .count) e-d in
     let takes : d .takes ≡ nodeOf k .takes = ap (λ (x : CodeNode). x .takes) e-d in
@@ -106,5 +109,5 @@ pub entered : {places : List ℕ} {x : Record} {t stack : List ℕ} {m : Place} 
     → AddedBy d vs t stack m t′ stack′ m′ → Entered places x t stack m t′ stack′ m′
 unfolding step
 entered {places} {x} {stack = stack} {m = m} e-d e-v h =
-    let a = h (x .kind) (valuesAt places (m .next) (m .idle) (stacked stack (m .height)) x) e-d e-v in
+    let a = added (x .kind) (valuesAt places (m .next) (m .idle) (stacked stack (m .height)) x) e-d e-v h in
     record { stands = a .stands; near = a .near; low = a .low }

@@ -1,18 +1,18 @@
 -- What the contracts of the pass say. `Emitted` is the one that other crates cite. Definitions only.
-use mathlib.Core.List.{List, _∷_}
+use mathlib.Core.List.{List, _∷_, map}
 use mathlib.Core.Path.{_≡_}
 use Prim.Native.Nat.{ℕ, _+_, _*_, _≤_, _<_}
-use lib.ListN.{length, drop}
+use lib.ListN.{length, drop, take, getD}
 use lib.Seq.{sets}
 use Rattle.formulas.specs.Formula.{Formula}
 use Rattle.formulas.specs.Arena.{flat}
 use Rattle.formulas.specs.Raw.{raw}
 use Rattle.limits.specs.Limits.{equationLimit, signalCount}
 use Rattle.scheme.specs.Emit.{observer, numbersOf}
-use Rattle.scheme.specs.Scheme.{Node, Values, nodeOf, widest}
-use Rattle.nodes.specs.Numbers.{asNode, valueList}
+use Rattle.scheme.specs.Scheme.{Node, Values, widest}
+use Rattle.nodes.specs.Numbers.{lookedUp}
 use Rattle.nodes.specs.declared.Node.{Node as CodeNode}
-use Rattle.emitter.specs.Machine.{State, state, applied, step, ran, stacked, headerOf, headed}
+use Rattle.emitter.specs.Machine.{State, state, withEquations, applied, step, ran, stacked, headerOf, headed}
 use Rattle.emitter.specs.declared.Place.{Place}
 use Rattle.emitter.specs.declared.Record.{Record}
 
@@ -46,10 +46,12 @@ pub record Added (d : Node) (v : Values) (t stack : List ℕ) (m : Place) (t′ 
   pub near : m′ .next ≤ m .next + widest
   pub low : m′ .height ≤ m .height + 1
 
--- The node that d has as numbers was, with the values that the list has.
-abbrev pub AddedBy : CodeNode → List ℕ → List ℕ → List ℕ → Place → List ℕ → List ℕ → Place → Type 0
-AddedBy d vs t stack m t′ stack′ m′ =
-    (k : ℕ) (v : Values) → d ≡ asNode (nodeOf k) → vs ≡ valueList v → Added (nodeOf k) v t stack m t′ stack′ m′
+-- The node d of the code was, with the values vs.
+pub record AddedBy (d : CodeNode) (vs t stack : List ℕ) (m : Place) (t′ stack′ : List ℕ) (m′ : Place) : Type 0 where
+  pub rows : t′ ≡ withEquations t (m .next) (take (d .count) (map (lookedUp vs) (d .rows)))
+  pub next : m′ .next ≡ m .next + d .count
+  pub idle : m′ .idle ≡ getD vs (d .idle) 0
+  pub result : Pushed stack (m .height) (d .takes) (getD vs (d .result) 0) stack′ (m′ .height)
 
 -- One record was entered.
 pub record Entered (places : List ℕ) (x : Record) (t stack : List ℕ) (m : Place) (t′ stack′ : List ℕ) (m′ : Place)

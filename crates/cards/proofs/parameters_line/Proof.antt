@@ -1,6 +1,6 @@
 -- `cards::parameters_line` meets its contract: what is left of the line reads as the line does (`Listing`). Assumes
 -- nothing.
-use mathlib.Core.Path.{sym, _∙_, ap}
+use mathlib.Core.Path.{refl, sym, _∙_, ap}
 use Prim.Native.Nat.{_-_}
 use native.Mathlib.Omega.{arith}
 use borrow.Author.Needs.{needs}
@@ -20,8 +20,10 @@ abbrev μ-loop : tie.MeasureT-loop
 
 returns : tie.Need-returns Inv-loop μ-loop
 unfolding parametersOf
-returns c =
-    rw (c .plain .ensures .0, sym (c .before .before .has-prefix .ensures) ∙ not-true _ (c .before .if1 .taken))
+returns c = (
+  rw (c .plain .ensures .0, sym (c .before .before .has-prefix .ensures) ∙ not-true _ (c .before .if1 .taken)),
+  λ h. c .plain .ensures .1,
+)
 
 loop-holds : tie.Need-loop-holds Inv-loop μ-loop
 loop-holds c =
@@ -30,11 +32,13 @@ loop-holds c =
 -- One of the first seven numbers: broken, or before a comma.
 returns-2 : tie.Need-returns-2 Inv-loop μ-loop
 returns-2 c =
-    let number = c .before .before .before in
-    rw (c .plain2 .ensures .0)
-    (ap parametersSay
-    (listing-broken (number .before .before .loop .inv) (omega arith) (number .decimal-before-comma .ensures)
-    (c .before .enum-told .given .1)))
+    let number = c .before .before .before in (
+      rw (c .plain2 .ensures .0)
+          (ap parametersSay
+          (listing-broken (number .before .before .loop .inv) (omega arith) (number .decimal-before-comma .ensures)
+          (c .before .enum-told .given .1))),
+      λ h. c .plain2 .ensures .1,
+    )
 
 loop-again : tie.Need-loop-again Inv-loop μ-loop
 loop-again c =
@@ -45,28 +49,34 @@ loop-again c =
 -- The eighth: broken, before another byte, at the end of the line.
 returns-3 : tie.Need-returns-3 Inv-loop μ-loop
 returns-3 c =
-    let number = c .before .before .before in
-    rw (c .plain3 .ensures .0)
-    (ap parametersSay
-    (listing-none (number .before .before .loop .inv) (omega arith) (number .decimal-at .ensures)
-    (c .before .enum-told2 .given .1)))
+    let number = c .before .before .before in (
+      rw (c .plain3 .ensures .0)
+          (ap parametersSay
+          (listing-none (number .before .before .loop .inv) (omega arith) (number .decimal-at .ensures)
+          (c .before .enum-told2 .given .1))),
+      λ h. c .plain3 .ensures .1,
+    )
 
 returns-4 : tie.Need-returns-4 Inv-loop μ-loop
 returns-4 c =
     let value = c .before .before .before in
-    let number = value .before .before in
-    rw (c .plain4 .ensures .0)
-    (ap parametersSay
-    (listing-not (number .before .before .loop .inv) (omega arith) (number .decimal-at .ensures)
-    (value .value2 .given .1) (c .before .if2 .taken)))
+    let number = value .before .before in (
+      rw (c .plain4 .ensures .0)
+          (ap parametersSay
+          (listing-not (number .before .before .loop .inv) (omega arith) (number .decimal-at .ensures)
+          (value .value2 .given .1) (c .before .if2 .taken))),
+      λ h. c .plain4 .ensures .1,
+    )
 
 returns-5 : tie.Need-returns-5 Inv-loop μ-loop
 returns-5 c =
     let value = c .before .before in
-    let number = value .before .before in
-    ap parametersSay
-    (listing-last (number .before .before .loop .inv) (omega arith) (number .decimal-at .ensures)
-    (value .value2 .given .1) (c .if2 .left))
+    let number = value .before .before in (
+      ap parametersSay
+          (listing-last (number .before .before .loop .inv) (omega arith) (number .decimal-at .ensures)
+          (value .value2 .given .1) (c .if2 .left)),
+      λ h. absurd (h refl),
+    )
 
 pub parameters-line-spec : {M : Type 1} → statement M
 parameters-line-spec =

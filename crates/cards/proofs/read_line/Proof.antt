@@ -9,88 +9,107 @@ use Rattle.cards.proofs.read_line.Tie as tie
 -- An over-long line.
 returns : tie.Need-returns
 unfolding lineSays
-returns c = rw (c .plain .ensures .0, le-leb _ _ (c .before .before .if1 .taken)) (c .before .broken .ensures _ _)
+returns c = (
+  rw (c .plain .ensures .0, le-leb _ _ (c .before .before .if1 .taken)) (c .before .broken .ensures _ _),
+  λ h. c .plain .ensures .1,
+)
 
 -- The edition: fine, or not.
 returns-2 : tie.Need-returns-2
 unfolding lineSays
 returns-2 c =
-    let line = c .before .before .before in
-    rw (
-      c .plain2 .ensures .0,
-      lt-leb _ _ (line .before .before .if1 .left),
-      line .enum-told .given .1,
-      ← c .before .before .edition-line .ensures,
-      c .before .if2 .taken,
+    let line = c .before .before .before in (
+      rw (
+        c .plain2 .ensures .0,
+        lt-leb _ _ (line .before .before .if1 .left),
+        line .enum-told .given .1,
+        ← c .before .before .edition-line .ensures,
+        c .before .if2 .taken,
+      ),
+      λ h. c .plain2 .ensures .1,
     )
 
 returns-4 : tie.Need-returns-4
 unfolding lineSays
 returns-4 c =
-    let line = c .before .before .before in
-    rw (
-      c .plain3 .ensures .0,
-      lt-leb _ _ (line .before .before .if1 .left),
-      line .enum-told .given .1,
-      ← c .before .before .edition-line .ensures,
-      c .before .if2 .left,
+    let line = c .before .before .before in (
+      rw (
+        c .plain3 .ensures .0,
+        lt-leb _ _ (line .before .before .if1 .left),
+        line .enum-told .given .1,
+        ← c .before .before .edition-line .ensures,
+        c .before .if2 .left,
+      ),
+      λ h. c .plain3 .ensures .1,
     )
 
 -- The parameters.
 returns-5 : tie.Need-returns-5
 unfolding lineSays
 returns-5 c =
-    let line = c .before in
-    rw (lt-leb _ _ (line .before .before .if1 .left), line .enum-told2 .given .1) (c .parameters-line .ensures)
+    let line = c .before in (
+      rw (lt-leb _ _ (line .before .before .if1 .left), line .enum-told2 .given .1) (c .parameters-line .ensures .0),
+      c .parameters-line .ensures .1,
+    )
 
 -- The rule: `watch=`, or not.
 returns-3 : tie.Need-returns-3
 unfolding lineSays
 returns-3 c =
     let begun = c .before .before in
-    let line = begun .before .before in
-    rw (
-      c .plain4 .ensures .0,
-      lt-leb _ _ (line .before .before .if1 .left),
-      line .enum-told3 .given .1,
-      ← begun .has-prefix .ensures,
-      c .before .if3 .taken,
+    let line = begun .before .before in (
+      rw (
+        c .plain4 .ensures .0,
+        lt-leb _ _ (line .before .before .if1 .left),
+        line .enum-told3 .given .1,
+        ← begun .has-prefix .ensures,
+        c .before .if3 .taken,
+      ),
+      λ h. c .plain4 .ensures .1,
     )
 
 returns-6 : tie.Need-returns-6
 unfolding lineSays
 returns-6 c =
     let begun = c .before .before in
-    let line = begun .before .before in
-    rw (
-      c .plain5 .ensures .0,
-      lt-leb _ _ (line .before .before .if1 .left),
-      line .enum-told3 .given .1,
-      ← begun .has-prefix .ensures,
-      c .before .if3 .left,
+    let line = begun .before .before in (
+      rw (
+        c .plain5 .ensures .0,
+        lt-leb _ _ (line .before .before .if1 .left),
+        line .enum-told3 .given .1,
+        ← begun .has-prefix .ensures,
+        c .before .if3 .left,
+      ),
+      λ h. c .plain5 .ensures .1,
     )
 
 -- The number of ticks, and a tick.
 returns-7 : tie.Need-returns-7
 unfolding lineSays
 returns-7 c =
-    let line = c .before .before in
-    rw (c .plain6 .ensures .0, lt-leb _ _ (line .before .before .if1 .left), line .enum-told4 .given .1)
-    (c .before .count-content .ensures _ _)
+    let line = c .before .before in (
+      rw (c .plain6 .ensures .0, lt-leb _ _ (line .before .before .if1 .left), line .enum-told4 .given .1)
+          (c .before .count-content .ensures _ _),
+      λ h. c .plain6 .ensures .1,
+    )
 
 returns-8 : tie.Need-returns-8
 unfolding lineSays
 returns-8 c =
-    let line = c .before .before in
-    rw (c .plain7 .ensures .0, lt-leb _ _ (line .before .before .if1 .left), line .enum-told5 .given .1)
-    (c .before .tick-content .ensures _ _)
+    let line = c .before .before in (
+      rw (c .plain7 .ensures .0, lt-leb _ _ (line .before .before .if1 .left), line .enum-told5 .given .1)
+          (c .before .tick-content .ensures _ _),
+      λ h. c .plain7 .ensures .1,
+    )
 
 -- The card is over.
 returns-9 : tie.Need-returns-9
 unfolding lineSays
 returns-9 c =
-    let line = c .before in
-    rw (c .plain8 .ensures .0, lt-leb _ _ (line .before .before .if1 .left), line .enum-told6 .given .1)
+    let line = c .before in (
+      rw (c .plain8 .ensures .0, lt-leb _ _ (line .before .before .if1 .left), line .enum-told6 .given .1),
+      λ h. c .plain8 .ensures .1,
+    )
 
 pub read-line-spec : {M : Type 1} → statement M
 read-line-spec =

@@ -1,8 +1,7 @@
--- `emitter::add_node` meets its contract: `added` gathers what its calls gave. Assumes nothing.
+-- `emitter::add_node` meets its contract: what its calls gave, gathered. Assumes nothing.
 use mathlib.Core.Path.{refl}
 use native.Mathlib.Omega.{arith}
 use borrow.Author.Needs.{needs}
-use Rattle.emitter.proofs.Stack.{added}
 use Rattle.emitter.proofs.add_node.Statement.{statement}
 use Rattle.emitter.proofs.add_node.Tie as tie
 
@@ -30,7 +29,7 @@ add-next c =
 returns : tie.Need-returns
 returns c =
     let at = pushed c in
-    added (filled (valued (idled at)) .fill .ensures) refl refl (at .push .ensures)
+    record { rows = filled (valued (idled at)) .fill .ensures; next = refl; idle = refl; result = at .push .ensures }
 
 pub add-node-spec : {M : Type 1} → statement M
 add-node-spec =

@@ -52,7 +52,7 @@ module _ (c : tie.After-stage-after) where
 
   -- so it says what the line says.
   says : saysBy told eight line ≡ lineSays (world .watch .stage) line
-  says = rw is-line at (c .before .read-line .ensures)
+  says = rw is-line at (c .before .read-line .ensures .0)
 
   -- What is played of it.
   ends : (x : Content) → told ≡ x → playedTo next (saysBy x eight line) world ≡ lined world line
