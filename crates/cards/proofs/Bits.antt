@@ -12,7 +12,7 @@ use lib.Seq.{getD-drop}
 use borrow.Author.Tests.{eqb-true, ltb-true, ltb-false}
 use Rattle.traces.specs.Trace.{bit}
 use Rattle.cards.specs.Ticks.{hexOf, hexes, tickLine}
-use Rattle.cards.specs.declared.TickLine.the-variants.{Is}
+use Rattle.cards.specs.declared.TickLine.the-variants.{Is, Broken}
 use Rattle.cards.proofs.Hex.{passed, not-failed}
 
 -- One more digit is the four lowest bits, and moves the others up by four.
@@ -55,10 +55,14 @@ module _ (c : ℕ) (l : List ℕ) (x y : ℕ) (small : hexOf c ≤ 15) (h : Digi
             ap (bit y) z ∙ h .above (4 + k) ∙ bit-high x (hexOf c) k small;
       }
 
+-- A broken line is no tick.
+broken-is : {s y : ℕ} → Broken ≡ Is s y → ⊥
+broken-is e = let z : _≡_ {A = ℕ} 0 1 = cc in omega arith
+
 split : (c : ℕ) (l : List ℕ) (s x s' y : ℕ) (t : Bool) → ltb 15 (hexOf c) ≡ t
     → ((z : ℕ) → hexes s z l ≡ Is s' y → Digits l z y) → hexes s x (c ∷ l) ≡ Is s' y → Digits (c ∷ l) x y
 unfolding hexes
-split c l s x s' y true e ih h = absurd (let g = rw e at h in let z : _≡_ {A = ℕ} 0 1 = cc in omega arith)
+split c l s x s' y true e ih h = absurd (broken-is (rw e at h))
 split c l s x s' y false e ih h = more c l x y (ltb-false _ _ e) (ih (x * 16 + hexOf c) (rw e at h))
 
 made : (l : List ℕ) (s x s' y : ℕ) → hexes s x l ≡ Is s' y → Digits l x y

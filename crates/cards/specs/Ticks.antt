@@ -25,14 +25,20 @@ hexes start x (b ∷ l) = cond (ltb 15 (hexOf b)) Broken (hexes start (x * 16 + 
 abbrev pub started : ℕ → List ℕ → TickLine
 started b l = cond (ltb b 48) Broken (cond (ltb 49 b) Broken (hexes (b - 48) 0 l))
 
--- The line has 20 bytes: `t=`, the start at place 2, a comma at place 3, 16 digits from place 4 on.
+-- The bytes of a tick line, its byte 10 not counted.
+abbrev pub tickLength : ℕ
+tickLength = 20
+
+-- The line has so many bytes: `t=`, the start at place 2, a comma at place 3, 16 digits from place 4 on.
 unfoldable pub tickLine : List ℕ → TickLine
 tickLine l =
-    cond (eqb (length l) 20)
+    cond (eqb (length l) tickLength)
     (cond (eqb (getD l 0 0) 116)
     (cond (eqb (getD l 1 0) 61)
     (cond (eqb (getD l 3 0) 44) (started (getD l 2 0) (drop 4 l)) Broken) Broken) Broken) Broken
 
 -- The tick line at the front of these bytes, where it is there with its byte 10.
 unfoldable pub tickFirst : List ℕ → TickLine
-tickFirst s = cond (leb (length s) 20) Broken (cond (eqb (getD s 20 0) lineEnd) (tickLine (take 20 s)) Broken)
+tickFirst s =
+    cond (leb (length s) tickLength) Broken
+    (cond (eqb (getD s tickLength 0) lineEnd) (tickLine (take tickLength s)) Broken)

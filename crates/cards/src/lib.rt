@@ -12,6 +12,12 @@ ghost use Rattle.cards.specs.Ticks.{hexOf, tickLine, tickFirst};
 ghost use Rattle.cards.specs.Says.{editionOf, parametersSay, countSays, tickIn, saysBy, brokenBy, lineSays};
 ghost use Rattle.cards.specs.Says.{endSays, stageAt, stageAfter, first, isOver};
 
+// The place of the last parameter.
+const LAST: usize = limits::PARAMETERS - 1;
+
+// The bytes of a tick line, its byte 10 not counted.
+pub const TICK_LINE: usize = 20;
+
 // The number at a place of a line, and the place after it.
 enum Number {
     Is { value: u32, next: usize },
@@ -61,7 +67,7 @@ pub enum Content {
 // What a line says, with the parameters where it says these.
 pub struct LineRead {
     pub content: Content,
-    pub values: [u32; 8],
+    pub values: [u32; limits::PARAMETERS],
 }
 
 // Whether s begins with the bytes w.
@@ -117,7 +123,7 @@ fn plain(content: Content) -> LineRead
 {
     LineRead {
         content: content,
-        values: [0u32; 8],
+        values: [0u32; limits::PARAMETERS],
     }
 }
 
@@ -130,10 +136,10 @@ fn parameters_line(s: &[u8]) -> LineRead
     if !has_prefix(s, b"k=") {
         return plain(Content::Refused(17));
     }
-    let mut ps = [0u32; 8];
+    let mut ps = [0u32; limits::PARAMETERS];
     let mut at = 2;
     let mut i = 0;
-    while i < 7 {
+    while i < LAST {
         let Number::Is { value, next } = decimal_before_comma(s, at) else {
             return plain(Content::Refused(17));
         };
@@ -147,7 +153,7 @@ fn parameters_line(s: &[u8]) -> LineRead
     if next < s.len() {
         return plain(Content::Refused(17));
     }
-    ps[7] = value;
+    ps[LAST] = value;
     LineRead {
         content: Content::Parameters,
         values: ps,
@@ -190,7 +196,7 @@ fn hex_digit(b: u8) -> u64
 fn tick_line(s: &[u8]) -> TickLine
     ensures { λ r. ⌜ r ≡ tickLine (now (s .entry)) ⌝ }
 {
-    if s.len() != 20 {
+    if s.len() != TICK_LINE {
         return TickLine::Broken;
     }
     if s[0] != b't' {
@@ -211,7 +217,7 @@ fn tick_line(s: &[u8]) -> TickLine
     }
     let mut x = 0u64;
     let mut i = 4;
-    while i < 20 {
+    while i < TICK_LINE {
         let d = hex_digit(s[i]);
         if 15 < d {
             return TickLine::Broken;
@@ -239,13 +245,13 @@ fn edition_line(s: &[u8]) -> bool
 pub fn tick_at(s: &[u8], at: usize) -> TickLine
     ensures { λ r. ⌜ r ≡ tickFirst (drop at (now (s .entry))) ⌝ }
 {
-    if s.len() <= 20 {
+    if s.len() <= TICK_LINE {
         return TickLine::Broken;
     }
-    if s.len() - 20 <= at {
+    if s.len() - TICK_LINE <= at {
         return TickLine::Broken;
     }
-    let stop = at + 20;
+    let stop = at + TICK_LINE;
     if s[stop] != 10 {
         return TickLine::Broken;
     }

@@ -10,9 +10,9 @@ use lib.Seq.{getD-set-same, getD-set-other}
 use Rattle.scheme.specs.Scheme.{nodeOf, Values, valueNamed, filled}
 use Rattle.scheme.proofs.Offsets.{⊕-add}
 use Rattle.scheme.proofs.ByKind.{rows-few}
-use Rattle.nodes.specs.Numbers.{numberOf, valueList, asNode, lookedUp}
-use Rattle.nodes.specs.declared.Node.{Node as CodeNode}
-use Rattle.nodes.proofs.Found.{named}
+use Rattle.node_table.specs.Numbers.{numberOf, valueList, asNode, lookedUp}
+use Rattle.node_table.specs.declared.Node.{Node as CodeNode}
+use Rattle.node_table.proofs.Found.{named}
 use Rattle.emitter.proofs.Written.{own-rows}
 use Rattle.emitter.specs.Machine.{withEquations, before, stacked, valuesAt, applied, step}
 use Rattle.emitter.specs.Contract.{Pushed, Added, AddedBy, Entered}

@@ -13,9 +13,9 @@ use Rattle.scheme.specs.Scheme.{widest, Row as SchemeRow, rowAt, nodeOf, Values
 use Rattle.scheme.specs.Emit.{placeAfter, numbersOf}
 use Rattle.scheme.proofs.Places.{after-length, length-numbers}
 use Rattle.scheme.proofs.ByKind.{rows-few}
-use Rattle.nodes.specs.Numbers.{nameCount, valueList, kindBy, asRow, fiveOf, lookedUp}
-use Rattle.nodes.specs.declared.Row.{Row}
-use Rattle.nodes.proofs.Found.{row-looked-up}
+use Rattle.node_table.specs.Numbers.{nameCount, valueList, kindBy, asRow, fiveOf, lookedUp}
+use Rattle.node_table.specs.declared.Row.{Row}
+use Rattle.node_table.proofs.Found.{row-looked-up}
 use Rattle.emitter.specs.Machine.{withEquations}
 
 -- ---- the numbers of equations

@@ -10,8 +10,8 @@ use Rattle.formulas.specs.Raw.{raw}
 use Rattle.limits.specs.Limits.{equationLimit, signalCount}
 use Rattle.scheme.specs.Emit.{observer, numbersOf}
 use Rattle.scheme.specs.Scheme.{Node, Values, widest}
-use Rattle.nodes.specs.Numbers.{lookedUp}
-use Rattle.nodes.specs.declared.Node.{Node as CodeNode}
+use Rattle.node_table.specs.Numbers.{lookedUp}
+use Rattle.node_table.specs.declared.Node.{Node as CodeNode}
 use Rattle.emitter.specs.Machine.{State, state, withEquations, applied, step, ran, stacked, headerOf, headed}
 use Rattle.emitter.specs.declared.Place.{Place}
 use Rattle.emitter.specs.declared.Record.{Record}

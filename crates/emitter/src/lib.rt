@@ -2,8 +2,8 @@
 // first, as a stack machine. A record's kind picks a node of the observer scheme (crate scheme), and the node's rows
 // go to the table. The pass as a definition is in specs/Machine.antt; that it gives the observer's equations is what
 // `emit_observer` promises.
-use nodes::Node;
-use nodes::Row;
+use node_table::Node;
+use node_table::Row;
 ghost use mathlib.Core.Path.{_≡_};
 ghost use mathlib.Core.List.{[], _∷_, map};
 ghost use Prim.Native.Nat.{_≤_, _<_, _+_, _-_};
@@ -11,7 +11,7 @@ ghost use lib.ListN.{getD, set, length, take};
 ghost use Rattle.limits.specs.Limits.{arenaLimit, equationLimit, signalCount};
 ghost use Rattle.tables.specs.Table.{equation};
 ghost use Rattle.scheme.specs.Scheme.{nodeOf};
-ghost use Rattle.nodes.specs.Numbers.{valueList, asNode, Known, Sized, lookedUp};
+ghost use Rattle.node_table.specs.Numbers.{valueList, asNode, Known, Sized, lookedUp};
 ghost use Rattle.emitter.specs.Machine.{withEquations, before, recordAt, recordFrom, valuesAt, stacked, marked};
 ghost use Rattle.emitter.specs.Machine.{marks, headerOf};
 ghost use Rattle.emitter.specs.Machine.{withSignal};
@@ -24,7 +24,7 @@ const SIGNALS: usize = limits::SIGNALS as usize;
 const STACK: usize = limits::RECORDS + 1;
 
 // The values of the names, and the kind of the record's comparison.
-const VALUES: usize = nodes::NAMES + 1;
+const VALUES: usize = node_table::NAMES + 1;
 
 // ---- buffers
 
@@ -69,7 +69,7 @@ fn put_row(t: &mut [u32], o: u32, vs: &[u32; VALUES], r: Row)
     requires { ⌜ Known r ⌝ }
     ensures { λ _. ⌜ now (t .exit) ≡ withEquations (now (t .entry)) o (lookedUp (now (vs .entry)) r ∷ []) ⌝ }
 {
-    let kind = nodes::kind_by(vs[nodes::NAMES], r.0);
+    let kind = node_table::kind_by(vs[node_table::NAMES], r.0);
     let a = vs[r.1 as usize];
     let b = vs[r.2 as usize];
     let c = vs[r.3 as usize];
@@ -160,7 +160,7 @@ fn values_at(stack: &[u32], places: &[u32], m: Place, x: Record) -> [u32; VALUES
     let last = operand(stack, m.height, 0);
     let previous = operand(stack, m.height, 1);
     let signal = lists::number_at(places, x.a as usize);
-    let comparison = nodes::comparison_of(x.b);
+    let comparison = node_table::comparison_of(x.b);
     let o = m.next;
     [
         0,
@@ -237,7 +237,7 @@ fn enter_all(arena: &[u32], places: &[u32], table: &mut [u32], next: u32) -> u32
     requires { ⌜ (length (now arena) ≤ arenaLimit) × (next ≤ 2 + signalCount) ⌝ }
     ensures { λ r. ⌜ Ran (now (arena .entry)) (now (places .entry)) (now (table .entry)) next (now (table .exit)) r ⌝ }
 {
-    let nodes = nodes::all_nodes();
+    let nodes = node_table::all_nodes();
     let mut stack = [0u32; STACK];
     let mut m = Place {
         next,
@@ -247,7 +247,7 @@ fn enter_all(arena: &[u32], places: &[u32], table: &mut [u32], next: u32) -> u32
     let mut i = 0;
     loop {
         let x = record_from(arena, i);
-        let d = nodes[nodes::place_of(x.kind)];
+        let d = nodes[node_table::place_of(x.kind)];
         m = enter(table, &mut stack, places, m, x, d);
         if arena.len() < i + 4 {
             return m.next;

@@ -16,6 +16,9 @@ ghost use Rattle.player.specs.Card.{brought, entering, leaving, watchOf, output
 ghost use Rattle.feeder.specs.Feed.{Room, Stops, Admitted, fedTo, Runs, tailBytes, tailFed, Feeds};
 ghost use Rattle.feeder.specs.Feed.{shifted, Turns, Short, Finishes, placed};
 
+// The bytes of a tick line with its byte 10.
+const TICK: usize = cards::TICK_LINE + 1;
+
 // After a piece of a card: how many of its bytes are used up, and how many bytes of the output are filled.
 struct Fed {
     pub watch: Watch,
@@ -110,7 +113,7 @@ fn fed_to(watch: Watch, used: usize, filled: usize) -> Fed
 fn run_ticks(
     watch: Watch,
     bytes: &[u8],
-    parameters: &[u32; 8],
+    parameters: &[u32; limits::PARAMETERS],
     table: &[u32],
     state: &mut [u32],
     values: &mut [u32],
@@ -139,7 +142,7 @@ fn run_ticks(
         };
         let v = flows::step_passed(table, n, state, values, now);
         at = put_verdict(out, at, v);
-        used += 21;
+        used += TICK;
         left -= 1;
     }
     fed_to(watch_at(phase, left, n), used, at)
@@ -150,7 +153,7 @@ fn run_ticks(
 fn feed_ticks(
     w: Watch,
     bytes: &[u8],
-    parameters: &[u32; 8],
+    parameters: &[u32; limits::PARAMETERS],
     table: &[u32],
     state: &mut [u32],
     values: &mut [u32],
@@ -190,7 +193,7 @@ fn feed_tail(w: Watch, used: usize, to: usize, out: &mut [u8], at: usize) -> Fed
     if to - used < limits::LINE {
         return fed_to(w, used, at);
     }
-    let over = player::over_long(w);
+    let over = player::end_over_long(w);
     let last = over.watch;
     let word = over.output;
     let past = put(out, at, word);
@@ -201,7 +204,7 @@ fn feed_tail(w: Watch, used: usize, to: usize, out: &mut [u8], at: usize) -> Fed
 fn feed(
     watch: Watch,
     bytes: &[u8],
-    parameters: &mut [u32; 8],
+    parameters: &mut [u32; limits::PARAMETERS],
     table: &mut [u32],
     state: &mut [u32],
     values: &mut [u32],
@@ -252,7 +255,7 @@ pub fn run_turn(
     watch: Watch,
     buf: &mut [u8],
     to: usize,
-    parameters: &mut [u32; 8],
+    parameters: &mut [u32; limits::PARAMETERS],
     table: &mut [u32],
     state: &mut [u32],
     values: &mut [u32],

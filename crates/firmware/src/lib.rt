@@ -75,7 +75,7 @@ pub extern "C" fn towerwatch_step(
     values: &mut [u32],
     start: u32,
     signals: u64,
-    parameters: &[u32; 8],
+    parameters: &[u32; limits::PARAMETERS],
 ) -> Answer
     ensures { λ r. ⌜ leftValues r (now (state .exit)) (now (values .exit))
         ≡ tick (stepped standardCap (now (table .entry)) n (now (state .entry)) (now (values .entry))

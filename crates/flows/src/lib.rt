@@ -28,24 +28,18 @@ pub enum Stepped {
     Refused(u32),
 }
 
-// The numbers of the operators; 4 is `>=`.
-const LE: u32 = 0;
-
-const LT: u32 = 1;
-
-const EQ: u32 = 2;
-
-const GT: u32 = 3;
+// How many parameters a tick has.
+const PARAMETERS: u32 = limits::PARAMETERS as u32;
 
 // x op y, by the operator's number.
 fn compare(op: u32, x: u32, y: u32) -> bool
     ensures { λ r. ⌜ r ≡ compares (opOf op) x y ⌝ }
 {
     match op {
-        LE => x <= y,
-        LT => x < y,
-        EQ => x == y,
-        GT => x > y,
+        tables::AT_MOST => x <= y,
+        tables::BELOW => x < y,
+        tables::EQUAL => x == y,
+        tables::ABOVE => x > y,
         _ => x >= y,
     }
 }
@@ -208,7 +202,7 @@ fn parameters_fit(cap: u32, tick: Tick) -> bool
     ensures { λ r. ⌜ r ≡ all (parameterFits cap tick) parameterCount ⌝ }
 {
     let mut j = 0;
-    while j < limits::PARAMETERS {
+    while j < PARAMETERS {
         if cap <= parameter(tick, j) {
             return false;
         }

@@ -31,33 +31,12 @@ OR = 4
 abbrev pub TEST : ℕ
 TEST = 5
 
-abbrev pub BEGIN : ℕ
-BEGIN = TEST
-
-abbrev pub END : ℕ
-END = 6
-
-abbrev pub POINT : ℕ
-POINT = 7
-
-abbrev pub HELD : ℕ
-HELD = 8
-
-abbrev pub KEPT : ℕ
-KEPT = 9
-
 abbrev pub LEN : ℕ
 LEN = 10
 
 -- `sum`, and then `age`
 abbrev pub COUNT : ℕ
 COUNT = 11
-
-abbrev pub SUM : ℕ
-SUM = COUNT
-
-abbrev pub AGE : ℕ
-AGE = 12
 
 abbrev pub LEAD-END : ℕ
 LEAD-END = 13

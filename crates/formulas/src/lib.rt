@@ -12,27 +12,13 @@ pub const AND: u32 = 3;
 
 pub const OR: u32 = 4;
 
-// `begin`, and then the other tests.
+// `begin`, and then the other tests: `end`, `point`, `held`, `kept`.
 pub const TEST: u32 = 5;
-
-pub const BEGIN: u32 = TEST;
-
-pub const END: u32 = 6;
-
-pub const POINT: u32 = 7;
-
-pub const HELD: u32 = 8;
-
-pub const KEPT: u32 = 9;
 
 pub const LEN: u32 = 10;
 
 // `sum`, and then `age`.
 pub const COUNT: u32 = 11;
-
-pub const SUM: u32 = COUNT;
-
-pub const AGE: u32 = 12;
 
 // Between the two parts of a `then`.
 pub const LEAD_END: u32 = 13;

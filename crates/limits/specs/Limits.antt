@@ -1,5 +1,5 @@
 -- The numbers of document 01 that several crates name, each in this one place. Definitions only.
-use Prim.Native.Nat.{ℕ}
+use Prim.Native.Nat.{ℕ, _*_}
 
 -- "1 to 2,048 bytes"
 abbrev pub textLimit : ℕ
@@ -9,13 +9,12 @@ textLimit = 2048
 abbrev pub wordLimit : ℕ
 wordLimit = 240
 
--- The numbers of a tree's records: at most two records of four for each word.
-abbrev pub arenaLimit : ℕ
-arenaLimit = 1920
-
--- The records of a tree.
+-- The records of a tree: at most two for each word. Each is four numbers.
 abbrev pub recordLimit : ℕ
-recordLimit = 480
+recordLimit = 2 * wordLimit
+
+abbrev pub arenaLimit : ℕ
+arenaLimit = 4 * recordLimit
 
 -- "signal 0 to 63"
 abbrev pub signalCount : ℕ
@@ -47,7 +46,7 @@ equationLimit = 4096
 
 -- "9: the lent table has under 16,384 numbers": four for each equation.
 abbrev pub tableRoom : ℕ
-tableRoom = 16384
+tableRoom = 4 * equationLimit
 
 -- "at most 4,096 bytes with it": a line of a card, with its byte 10.
 abbrev pub lineLimit : ℕ

@@ -1,4 +1,5 @@
-// The numbers of document 01 that several crates name, each in this one place. specs/Limits.antt has the same names.
+// The numbers of document 01 that several crates name, each in this one place. specs/Limits.antt has the same
+// numbers.
 
 // The bytes that a rule text can have.
 pub const TEXT: usize = 2048;
@@ -6,22 +7,21 @@ pub const TEXT: usize = 2048;
 // The words that a rule text can have.
 pub const WORDS: usize = 240;
 
-// The numbers of a tree's records: at most two records of four for each word.
-pub const ARENA: usize = 1920;
+// The records of a tree: at most two for each word. Each is four numbers.
+pub const RECORDS: usize = 2 * WORDS;
 
-// The records of a tree.
-pub const RECORDS: usize = 480;
+pub const ARENA: usize = 4 * RECORDS;
 
-// How many signals, truth values, operators, literals and parameters there are.
+// How many signals, truth values, comparisons, literals and parameters there are.
 pub const SIGNALS: u32 = 64;
 
 pub const TRUTHS: u32 = 2;
 
-pub const OPERATORS: u32 = 5;
+pub const COMPARISONS: u32 = 5;
 
 pub const LITERALS: u32 = 1000000;
 
-pub const PARAMETERS: u32 = 8;
+pub const PARAMETERS: usize = 8;
 
 // The highest count. The definitions of a step take any cap, and this is the one of document 01.
 pub const CAP: u32 = 1000000;
@@ -30,7 +30,7 @@ pub const CAP: u32 = 1000000;
 pub const EQUATIONS: usize = 4096;
 
 // The numbers that a table lent for a result needs: four for each equation.
-pub const TABLE: usize = 16384;
+pub const TABLE: usize = 4 * EQUATIONS;
 
 // The bytes that a line of a card can have, its byte 10 included.
 pub const LINE: usize = 4096;

@@ -6,7 +6,6 @@ use Prim.Native.Nat.{ℕ}
 use native.Mathlib.Omega.{arith}
 use Rattle.lists.specs.Decimal.Numeral.{is, missing}
 use Rattle.tables.specs.Table.{Equation}
-use Rattle.tables.specs.declared.Checked.the-variants.{Passed, Refused as Failed}
 use Rattle.lustre.specs.Scan.{unlike, scanned}
 use Rattle.lustre.specs.declared.Written.the-variants.{Length, Refused as No-text}
 use Rattle.lustre.specs.declared.Loaded.the-variants.{Equations, Refused as No-table}
@@ -19,9 +18,6 @@ is-missing e = let z : _≡_ {A = ℕ} 0 1 = cc in omega arith
 
 pub unlike-scanned : {e : Equation} {l : List ℕ} → unlike ≡ scanned e l → ⊥
 unlike-scanned e = let z : _≡_ {A = ℕ} 0 1 = cc in omega arith
-
-pub failed-passed : {r : ℕ} → Failed r ≡ Passed → ⊥
-failed-passed e = let z : _≡_ {A = ℕ} 0 1 = cc in omega arith
 
 pub refused-length : {r l : ℕ} → No-text r ≡ Length l → ⊥
 refused-length e = let z : _≡_ {A = ℕ} 0 1 = cc in omega arith

@@ -8,6 +8,8 @@ use lib.Dec.{ltb, eqb}
 use lib.ListN.{length, getD, take}
 use Prim.Native.String.{String}
 use Rattle.lists.specs.Text.{bytes}
+use Rattle.traces.specs.Compare.{opNumber}
+use Rattle.traces.specs.Compare.Op.{le, lt, eq, gt, ge}
 use Rattle.limits.specs.Limits.{equationLimit, literalCount}
 use Rattle.tables.specs.Kind.{SIGNAL, START, CONSTANT, NOT, AND, OR, BOOLEAN-PRE, COUNT-PRE, CAPPED, IF}
 use Rattle.tables.specs.Kind.{COMPARE-LITERAL, COMPARE-PARAMETER}
@@ -103,16 +105,16 @@ forms =
     ∷ form (numbers COUNT-PRE 0 0 0) "0->pre(fA);\n"
     ∷ form (numbers CAPPED 0 0 0) "cap(fA,fB);\n"
     ∷ form (numbers IF 0 0 0) "if fA then fB else 0;\n"
-    ∷ form (numbers COMPARE-LITERAL 0 0 0) "fA<=C;\n"
-    ∷ form (numbers COMPARE-LITERAL 0 1 0) "fA<C;\n"
-    ∷ form (numbers COMPARE-LITERAL 0 2 0) "fA=C;\n"
-    ∷ form (numbers COMPARE-LITERAL 0 3 0) "fA>C;\n"
-    ∷ form (numbers COMPARE-LITERAL 0 4 0) "fA>=C;\n"
-    ∷ form (numbers COMPARE-PARAMETER 0 0 0) "fA<=kC;\n"
-    ∷ form (numbers COMPARE-PARAMETER 0 1 0) "fA<kC;\n"
-    ∷ form (numbers COMPARE-PARAMETER 0 2 0) "fA=kC;\n"
-    ∷ form (numbers COMPARE-PARAMETER 0 3 0) "fA>kC;\n"
-    ∷ form (numbers COMPARE-PARAMETER 0 4 0) "fA>=kC;\n"
+    ∷ form (numbers COMPARE-LITERAL 0 (opNumber le) 0) "fA<=C;\n"
+    ∷ form (numbers COMPARE-LITERAL 0 (opNumber lt) 0) "fA<C;\n"
+    ∷ form (numbers COMPARE-LITERAL 0 (opNumber eq) 0) "fA=C;\n"
+    ∷ form (numbers COMPARE-LITERAL 0 (opNumber gt) 0) "fA>C;\n"
+    ∷ form (numbers COMPARE-LITERAL 0 (opNumber ge) 0) "fA>=C;\n"
+    ∷ form (numbers COMPARE-PARAMETER 0 (opNumber le) 0) "fA<=kC;\n"
+    ∷ form (numbers COMPARE-PARAMETER 0 (opNumber lt) 0) "fA<kC;\n"
+    ∷ form (numbers COMPARE-PARAMETER 0 (opNumber eq) 0) "fA=kC;\n"
+    ∷ form (numbers COMPARE-PARAMETER 0 (opNumber gt) 0) "fA>kC;\n"
+    ∷ form (numbers COMPARE-PARAMETER 0 (opNumber ge) 0) "fA>=kC;\n"
     ∷ []
 
 abbrev pub formCount : ℕ

@@ -179,7 +179,7 @@ pub const FORMS: [Form; FORM_COUNT] = [
         settled: Numbers {
             kind: tables::COMPARE_LITERAL,
             a: 0,
-            b: 0,
+            b: tables::AT_MOST,
             c: 0,
         },
         len: 7,
@@ -189,7 +189,7 @@ pub const FORMS: [Form; FORM_COUNT] = [
         settled: Numbers {
             kind: tables::COMPARE_LITERAL,
             a: 0,
-            b: 1,
+            b: tables::BELOW,
             c: 0,
         },
         len: 6,
@@ -199,7 +199,7 @@ pub const FORMS: [Form; FORM_COUNT] = [
         settled: Numbers {
             kind: tables::COMPARE_LITERAL,
             a: 0,
-            b: 2,
+            b: tables::EQUAL,
             c: 0,
         },
         len: 6,
@@ -209,7 +209,7 @@ pub const FORMS: [Form; FORM_COUNT] = [
         settled: Numbers {
             kind: tables::COMPARE_LITERAL,
             a: 0,
-            b: 3,
+            b: tables::ABOVE,
             c: 0,
         },
         len: 6,
@@ -219,7 +219,7 @@ pub const FORMS: [Form; FORM_COUNT] = [
         settled: Numbers {
             kind: tables::COMPARE_LITERAL,
             a: 0,
-            b: 4,
+            b: tables::AT_LEAST,
             c: 0,
         },
         len: 7,
@@ -230,7 +230,7 @@ pub const FORMS: [Form; FORM_COUNT] = [
         settled: Numbers {
             kind: tables::COMPARE_PARAMETER,
             a: 0,
-            b: 0,
+            b: tables::AT_MOST,
             c: 0,
         },
         len: 8,
@@ -240,7 +240,7 @@ pub const FORMS: [Form; FORM_COUNT] = [
         settled: Numbers {
             kind: tables::COMPARE_PARAMETER,
             a: 0,
-            b: 1,
+            b: tables::BELOW,
             c: 0,
         },
         len: 7,
@@ -250,7 +250,7 @@ pub const FORMS: [Form; FORM_COUNT] = [
         settled: Numbers {
             kind: tables::COMPARE_PARAMETER,
             a: 0,
-            b: 2,
+            b: tables::EQUAL,
             c: 0,
         },
         len: 7,
@@ -260,7 +260,7 @@ pub const FORMS: [Form; FORM_COUNT] = [
         settled: Numbers {
             kind: tables::COMPARE_PARAMETER,
             a: 0,
-            b: 3,
+            b: tables::ABOVE,
             c: 0,
         },
         len: 7,
@@ -270,7 +270,7 @@ pub const FORMS: [Form; FORM_COUNT] = [
         settled: Numbers {
             kind: tables::COMPARE_PARAMETER,
             a: 0,
-            b: 4,
+            b: tables::AT_LEAST,
             c: 0,
         },
         len: 8,
@@ -301,7 +301,7 @@ pub fn only(i: usize) -> Numbers
     Numbers {
         kind: 0,
         a: i as u32,
-        b: 0,
+        b: tables::AT_MOST,
         c: 0,
     }
 }

@@ -17,7 +17,7 @@ use Rattle.lustre.specs.declared.Loaded.the-variants.{Equations}
 use Rattle.lustre_read.specs.declared.Proposal.{Proposal}
 use Rattle.lustre_read.specs.declared.Proposal.the-variants.{Nothing, Table}
 use Rattle.lustre.proofs.Tables.{well-plain, same-equations, same-check}
-use Rattle.lustre.proofs.Differ.{failed-passed}
+use Rattle.tables.proofs.Checks.{failed-passed}
 
 -- What a proposal says, by its cases.
 pub none-proposed : (text u : List ℕ) (r : Proposal) → r ≡ Nothing → proposalSeen text u r

@@ -20,7 +20,7 @@ use Rattle.observers.proofs.Demand.{room-compiled}
 use Rattle.observers.specs.Demand.{Compiles}
 use Rattle.observers.specs.Demand.Compiles.{not-read, no-room, observed}
 use Rattle.observers.specs.declared.Compiled.{Compiled}
-use Rattle.observers.specs.declared.Compiled.the-variants.{Equations}
+use Rattle.observers.specs.declared.Compiled.the-variants.{Equations, Refused}
 
 -- Two tables of as many equations that observe one formula answer alike.
 pub alike : (n : ℕ) (t u : List ℕ) (f : Formula) (k m : ℕ) → Observes standardCap t n f k → Observes standardCap u n f m
@@ -58,10 +58,14 @@ of-observed text before n m after t f e is room h number c =
     number-of : {x y : ℕ} → Equations x ≡ Equations y → x ≡ y
     number-of e = cc
 
+-- A refusal has no equations.
+refused-equations : {r n : ℕ} → Refused r ≡ Equations n → ⊥
+refused-equations e = let z : _≡_ {A = ℕ} 0 1 = cc in omega arith
+
 left : (text before : List ℕ) (n : ℕ) (after : List ℕ) (r : Compiled) → Compiles text before r after → r ≡ Equations n
     → afterCompile (Equations n) after ≡ compiled text before → Left text n after
-left text before n after r (not-read e) q c = absurd (let z : _≡_ {A = ℕ} 0 1 = cc in omega arith)
-left text before n after r (no-room e h) q c = absurd (let z : _≡_ {A = ℕ} 0 1 = cc in omega arith)
+left text before n after r (not-read e) q c = absurd (refused-equations q)
+left text before n after r (no-room e h) q c = absurd (refused-equations q)
 left text before n after r (observed {n = m} {after = l} {t} {f} e is room same rest h) q c =
     of-observed text before n m l t f e is room h (cc) c
 

@@ -206,9 +206,12 @@ silent-owed w w' l ls e = rw e
 -- ---- the rule
 
 -- A text that is a rule has at most 2,048 bytes.
+refused-made : {n : ℕ} {ws : List ℕ} → Out.refused n ≡ made ws → ⊥
+refused-made e = let z : _≡_ {A = ℕ} 0 1 = cc in omega arith
+
 not-long : (a b : Bool) (x : Out) (ws : List ℕ) → cond (a || b) (Out.refused 1) x ≡ made ws → b ≡ false
-not-long true b x ws e = absurd (let z : _≡_ {A = ℕ} 0 1 = cc in omega arith)
-not-long false true x ws e = absurd (let z : _≡_ {A = ℕ} 0 1 = cc in omega arith)
+not-long true b x ws e = absurd (refused-made e)
+not-long false true x ws e = absurd (refused-made e)
 not-long false false x ws e = refl
 
 split-short : (text ws : List ℕ) → splitOf text ≡ made ws → length text ≤ textLimit

@@ -96,7 +96,7 @@ pub fn last_output(content: Content) -> Output
 }
 
 // The start of a line that is over-long already: the card is over.
-pub fn over_long(w: Watch) -> Answered
+pub fn end_over_long(w: Watch) -> Answered
     ensures { λ r. ⌜ r ≡ stopped (lastOutput (brokenBy (w .stage .phase))) ⌝ }
 {
     let stage = w.stage;
@@ -105,7 +105,7 @@ pub fn over_long(w: Watch) -> Answered
 }
 
 // The answer to a rule line: a rule with a refusal ends the card.
-fn after_rule(next: Stage, compiled: Compiled) -> Answered
+fn rule_answer(next: Stage, compiled: Compiled) -> Answered
     ensures { λ r. ⌜ r ≡ ruleAnswer next compiled ⌝ }
 {
     match compiled {
@@ -120,7 +120,7 @@ fn on_tick(
     w: Watch,
     start: u32,
     signals: u64,
-    parameters: &[u32; 8],
+    parameters: &[u32; limits::PARAMETERS],
     table: &[u32],
     state: &mut [u32],
     values: &mut [u32],
@@ -148,7 +148,7 @@ pub fn on_line(
     bytes: &[u8],
     at: usize,
     to: usize,
-    parameters: &mut [u32; 8],
+    parameters: &mut [u32; limits::PARAMETERS],
     table: &mut [u32],
     state: &mut [u32],
     values: &mut [u32],
@@ -168,7 +168,7 @@ pub fn on_line(
             *parameters = eight;
             go_on(next, 0, Output::Quiet)
         }
-        Content::Rule => after_rule(next, rule_line(bytes, at, table, state)),
+        Content::Rule => rule_answer(next, rule_line(bytes, at, table, state)),
         Content::Count(k) => go_on(next, w.n, Output::Quiet),
         Content::Tick { start, signals } => {
             on_tick(next, w, start, signals, parameters, table, state, values)

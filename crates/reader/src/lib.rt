@@ -4,23 +4,26 @@
 ghost use mathlib.Core.Path.{_≡_};
 ghost use Rattle.reader.specs.Part.{ruleFrom};
 
+// The bytes of `watch=`.
+const PREFIX: usize = 6;
+
 // The lent bytes, and the place in them where the line `watch=` stands.
 struct Reader<'a> {
     pub bytes: &'a [u8],
     pub at: usize,
 }
 
-// What stands after the six bytes `watch=` at a place, up to the line's end, as a part of s; nothing past the end.
+// What stands after `watch=` at a place, up to the line's end, as a part of s; nothing past the end.
 fn rule_at(s: &[u8], at: usize) -> &[u8]
     ensures { λ r. ⌜ now r ≡ ruleFrom (now (s .entry)) at ⌝ }
 {
-    if s.len() < 6 {
+    if s.len() < PREFIX {
         return &s[..0];
     }
-    if s.len() - 6 < at {
+    if s.len() - PREFIX < at {
         return &s[..0];
     }
-    let from = at + 6;
+    let from = at + PREFIX;
     let stop = from + lists::line_length(s, from);
     &s[from..stop]
 }

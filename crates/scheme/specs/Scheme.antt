@@ -6,7 +6,7 @@ use mathlib.Core.List.{List, [], _∷_, _++_}
 use Prim.Native.Nat.{ℕ, zero, suc}
 use lib.Dec.{eqb}
 use lib.ListN.{getD}
-use Rattle.formulas.specs.Arena.{LITERAL}
+use Rattle.formulas.specs.Arena.{LITERAL, WHOLE}
 use Rattle.tables.specs.Table.{Equation, equation}
 use Rattle.tables.specs.Kind.{CONSTANT, NOT, AND, OR, BOOLEAN-PRE, COUNT-PRE, CAPPED, IF}
 use Rattle.tables.specs.Kind.{COMPARE-LITERAL, COMPARE-PARAMETER}
@@ -180,7 +180,7 @@ nodeList =
     ∷ lenNode ∷ sumNode ∷ ageNode ∷ leadEndNode ∷ thenNode ∷ wholeNode ∷ []
 
 abbrev pub nodeCount : ℕ
-nodeCount = 16
+nodeCount = suc WHOLE
 
 -- The node of that kind of record; none past the last.
 abbrev pub noNode : Node

@@ -99,3 +99,7 @@ unfolding checked
 passed-both t n e =
     let p = passed-one (lengthFits t n) _ 10 e in
     (p .0, passed-one (equationsFit t n) Passed 11 (p .1) .0)
+
+-- A check that fails does not pass.
+pub failed-passed : {r : ℕ} → Refused r ≡ Passed → ⊥
+failed-passed e = let z : _≡_ {A = ℕ} 0 1 = cc in omega arith

@@ -65,6 +65,17 @@ pub const COMPARE_LITERAL: u32 = 10;
 
 pub const COMPARE_PARAMETER: u32 = 11;
 
+// The numbers of the comparisons `<=`, `<`, `=`, `>`, `>=`.
+pub const AT_MOST: u32 = 0;
+
+pub const BELOW: u32 = 1;
+
+pub const EQUAL: u32 = 2;
+
+pub const ABOVE: u32 = 3;
+
+pub const AT_LEAST: u32 = 4;
+
 // How many kinds there are.
 const KIND_COUNT: usize = 12;
 
@@ -143,15 +154,15 @@ const KINDS: [Shape; KIND_COUNT] = [
     // 10: count A, op B, literal C.
     Shape {
         a: Operand::Earlier(Sort::Count),
-        b: Operand::Below(limits::OPERATORS),
+        b: Operand::Below(limits::COMPARISONS),
         c: Operand::Below(limits::LITERALS),
         gives: Sort::Boolean,
     },
     // 11: count A, op B, parameter C.
     Shape {
         a: Operand::Earlier(Sort::Count),
-        b: Operand::Below(limits::OPERATORS),
-        c: Operand::Below(limits::PARAMETERS),
+        b: Operand::Below(limits::COMPARISONS),
+        c: Operand::Below(limits::PARAMETERS as u32),
         gives: Sort::Boolean,
     },
 ];

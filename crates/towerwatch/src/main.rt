@@ -123,7 +123,7 @@ fn piece(
     buf: &mut [u8],
     to: usize,
     got: usize,
-    parameters: &mut [u32; 8],
+    parameters: &mut [u32; limits::PARAMETERS],
     table: &mut [u32],
     state: &mut [u32],
     values: &mut [u32],
@@ -156,7 +156,7 @@ fn once(
     watch: Watch,
     buf: &mut [u8],
     to: usize,
-    parameters: &mut [u32; 8],
+    parameters: &mut [u32; limits::PARAMETERS],
     table: &mut [u32],
     state: &mut [u32],
     values: &mut [u32],
@@ -178,7 +178,7 @@ fn once(
 // Reads until the input ends, the card is over or a write fails.
 fn run(
     buf: &mut [u8],
-    parameters: &mut [u32; 8],
+    parameters: &mut [u32; limits::PARAMETERS],
     table: &mut [u32],
     state: &mut [u32],
     values: &mut [u32],
@@ -210,7 +210,7 @@ fn run(
 fn main() {
     let mut buf = [0u8; 32768];
     let mut out = io::large_buffer();
-    let mut parameters = [0u32; 8];
+    let mut parameters = [0u32; limits::PARAMETERS];
     let mut table = [0u32; limits::TABLE];
     let mut state = [0u32; limits::EQUATIONS];
     let mut values = [0u32; limits::EQUATIONS];

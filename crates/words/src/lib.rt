@@ -68,7 +68,7 @@ pub const LITERAL: u32 = 1000000;
 // The highest number of a signal, a parameter and a literal.
 const LAST_SIGNAL: u32 = limits::SIGNALS - 1;
 
-const LAST_PARAMETER: u32 = limits::PARAMETERS - 1;
+const LAST_PARAMETER: u32 = limits::PARAMETERS as u32 - 1;
 
 const LAST_LITERAL: u32 = limits::LITERALS - 1;
 

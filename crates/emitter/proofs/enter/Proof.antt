@@ -1,6 +1,6 @@
 -- `emitter::enter` meets its contract: the record's node is added, with the record's values. Assumes nothing.
 use borrow.Author.Needs.{needs}
-use Rattle.nodes.proofs.Found.{node-sized}
+use Rattle.node_table.proofs.Found.{node-sized}
 use Rattle.emitter.proofs.Stack.{entered}
 use Rattle.emitter.proofs.enter.Statement.{statement}
 use Rattle.emitter.proofs.enter.Tie as tie

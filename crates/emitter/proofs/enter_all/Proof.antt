@@ -4,7 +4,7 @@ use native.Mathlib.Omega.{arith}
 use mathlib.Core.Path.{refl, sym, _∙_}
 use borrow.Author.Needs.{needs}
 use lib.ListN.{length}
-use Rattle.nodes.proofs.Found.{node-found}
+use Rattle.node_table.proofs.Found.{node-found}
 use Rattle.emitter.proofs.Records.{Entering, entering-none, entering-one, entering-all}
 use Rattle.emitter.proofs.enter_all.Statement.{statement}
 use Rattle.emitter.proofs.enter_all.Tie as tie

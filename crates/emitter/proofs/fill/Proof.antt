@@ -6,7 +6,7 @@ use Prim.Native.Nat.{ℕ, _-_, _≤_}
 use native.Mathlib.Omega.{arith}
 use borrow.Author.Needs.{needs}
 use lib.ListN.{length, take}
-use Rattle.nodes.specs.Numbers.{lookedUp}
+use Rattle.node_table.specs.Numbers.{lookedUp}
 use Rattle.emitter.specs.Machine.{withEquations}
 use Rattle.emitter.proofs.Written.{written-none, row-written}
 use Rattle.emitter.proofs.fill.Statement.{statement}

@@ -28,8 +28,8 @@ returns c =
 
 -- It is over-long, and what is put is what a broken line prints.
 says : (c : tie.After-over-long) →
-    outputBytes (c .over-long .result .output) ≡ brokenBytes (begun (c .before) .args .w .stage .phase)
-says c = ap (λ (a : Answered). outputBytes (a .output)) (c .over-long .ensures)
+    outputBytes (c .end-over-long .result .output) ≡ brokenBytes (begun (c .before) .args .w .stage .phase)
+says c = ap (λ (a : Answered). outputBytes (a .output)) (c .end-over-long .ensures)
 
 put-requires : tie.Need-put-requires
 put-requires c κs =
@@ -46,7 +46,7 @@ returns-2 c =
     let args = begun (over .before) .args in
     let h = over .before .if1 .left in (
       c .fed-to2 .ensures
-          ∙ rw (put .put .ensures .0, says over, over .over-long .ensures)
+          ∙ rw (put .put .ensures .0, says over, over .end-over-long .ensures)
           (sym (tail-long (args .w) (args .used) (args .to) (args .at) h)),
       put .put .ensures .1
           ∙ ap (placed (args .out .now) (args .at))

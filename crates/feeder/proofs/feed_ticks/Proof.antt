@@ -5,8 +5,8 @@ use Prim.Native.Nat.{ℕ}
 use native.Mathlib.Omega.{arith}
 use types.Run.{miss}
 use borrow.Author.Needs.{needs}
-use Rattle.tables.specs.declared.Checked.the-variants.{Passed, Refused as Failed}
 use Rattle.player.specs.Card.{brought}
+use Rattle.tables.proofs.Checks.{failed-passed}
 use Rattle.feeder.specs.Feed.{Admitted}
 use Rattle.feeder.proofs.Ticking.{passes-any, runs-none}
 use Rattle.feeder.proofs.feed_ticks.Statement.{statement}
@@ -41,9 +41,6 @@ admitted c =
       passes = passes-any _ _ _ _ _ (sym (checked .step-checked .ensures) ∙ c .enum-told2 .given .1);
     }
 
-clash : {r : ℕ} → Failed r ≡ Passed → ⊥
-clash e = let z : _≡_ {A = ℕ} 0 1 = cc in omega arith
-
 -- Another phase; a step that would be refused.
 returns : tie.Need-returns
 returns c =
@@ -57,7 +54,7 @@ returns-2 : tie.Need-returns-2
 returns-2 c =
     let refused = sym (c .before .enum-told3 .given .1) ∙ c .before .before .before .step-checked .ensures in
     rw (c .fed-to2 .ensures)
-    (runs-none _ _ _, (λ admits more. absurd (clash (refused ∙ admits .passes 0 0)), λ no. refl))
+    (runs-none _ _ _, (λ admits more. absurd (failed-passed (refused ∙ admits .passes 0 0)), λ no. refl))
 
 run-ticks-requires : tie.Need-run-ticks-requires
 run-ticks-requires c κs =

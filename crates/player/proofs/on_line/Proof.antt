@@ -102,7 +102,7 @@ returns-3 : tie.Need-returns-3
 returns-3 c =
     let made = c .before .before .before .before .before in
     let told = made .before .before .before in
-    rw (c .after-rule .ensures)
+    rw (c .rule-answer .ensures)
     (rule-ends (told .before .before) (told .enum-told3 .given .1) _ _ _ (made .rule-line .ensures))
 
 -- A tick.

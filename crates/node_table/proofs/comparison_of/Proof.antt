@@ -1,8 +1,8 @@
--- `nodes::comparison_of` meets its contract: the test decides. Assumes nothing.
+-- `node_table::comparison_of` meets its contract: the test decides. Assumes nothing.
 use borrow.Author.Tests.{eq-eqb, ne-eqb}
 use Rattle.formulas.specs.Arena.{LITERAL}
-use Rattle.nodes.proofs.comparison_of.Statement.{statement}
-use Rattle.nodes.proofs.comparison_of.Tie as tie
+use Rattle.node_table.proofs.comparison_of.Statement.{statement}
+use Rattle.node_table.proofs.comparison_of.Tie as tie
 
 returns : tie.Need-returns
 returns c = simp (eq-eqb (c .before .args .b) LITERAL (c .if1 .taken))

@@ -1,7 +1,7 @@
--- `nodes::place_of` meets its contract: the test decides. Assumes nothing.
+-- `node_table::place_of` meets its contract: the test decides. Assumes nothing.
 use native.Mathlib.Omega.{arith}
-use Rattle.nodes.proofs.place_of.Statement.{statement}
-use Rattle.nodes.proofs.place_of.Tie as tie
+use Rattle.node_table.proofs.place_of.Statement.{statement}
+use Rattle.node_table.proofs.place_of.Tie as tie
 
 returns : tie.Need-returns
 returns c = omega (arith, c .if1 .taken)

@@ -3,7 +3,7 @@
 ghost use mathlib.Core.Path.{_≡_};
 ghost use Prim.Native.Nat.{min};
 ghost use Rattle.scheme.specs.Scheme.{nodeCount, comparisonOf};
-ghost use Rattle.nodes.specs.Numbers.{nodeTable, kindBy};
+ghost use Rattle.node_table.specs.Numbers.{nodeTable, kindBy};
 
 // ---- the names
 

@@ -1,8 +1,8 @@
--- `nodes::kind_by` meets its contract: the test decides. Assumes nothing.
+-- `node_table::kind_by` meets its contract: the test decides. Assumes nothing.
 use borrow.Author.Tests.{eq-eqb, ne-eqb}
 use Rattle.tables.specs.Kind.{COMPARE-LITERAL}
-use Rattle.nodes.proofs.kind_by.Statement.{statement}
-use Rattle.nodes.proofs.kind_by.Tie as tie
+use Rattle.node_table.proofs.kind_by.Statement.{statement}
+use Rattle.node_table.proofs.kind_by.Tie as tie
 
 returns : tie.Need-returns
 returns c = simp (eq-eqb (c .before .args .k) COMPARE-LITERAL (c .if1 .taken))

@@ -14,8 +14,8 @@ use Rattle.tables.specs.Table.{equation}
 use Rattle.scheme.specs.Scheme.Name.{Nought, Idle, Start, Last, Previous, Signal, A, C}
 use Rattle.scheme.specs.Scheme.Name.{First, Second, Third, Fourth, Fifth}
 use Rattle.scheme.specs.Scheme.RowKind.{Plain, Comparison}
-use Rattle.nodes.specs.declared.Row.{Row}
-use Rattle.nodes.specs.declared.Node.{Node}
+use Rattle.node_table.specs.declared.Row.{Row}
+use Rattle.node_table.specs.declared.Node.{Node}
 
 abbrev pub numberOf : Name → ℕ
 numberOf Nought = 0

@@ -1,7 +1,7 @@
--- `player::after_rule` meets its contract: the rule is refused, or compiled. Assumes nothing.
+-- `player::rule_answer` meets its contract: the rule is refused, or compiled. Assumes nothing.
 use borrow.Author.Needs.{needs}
-use Rattle.player.proofs.after_rule.Statement.{statement}
-use Rattle.player.proofs.after_rule.Tie as tie
+use Rattle.player.proofs.rule_answer.Statement.{statement}
+use Rattle.player.proofs.rule_answer.Tie as tie
 
 returns : tie.Need-returns
 returns c = rw (c .stop .ensures, c .before .before .compiled .given .1)
@@ -9,8 +9,8 @@ returns c = rw (c .stop .ensures, c .before .before .compiled .given .1)
 returns-2 : tie.Need-returns-2
 returns-2 c = rw (c .go-on .ensures, c .before .before .compiled2 .given .1)
 
-pub after-rule-spec : {M : Type 1} → statement M
-after-rule-spec =
+pub rule-answer-spec : {M : Type 1} → statement M
+rule-answer-spec =
     tie.close
     (tie.spec
     (λ c. search needs)

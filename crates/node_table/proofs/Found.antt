@@ -16,9 +16,9 @@ use Rattle.scheme.specs.Scheme.Name.{Nought, Idle, Start, Last, Previous, Signa
 use Rattle.scheme.specs.Scheme.Name.{First, Second, Third, Fourth, Fifth}
 use Rattle.scheme.specs.Scheme.RowKind.{Plain, Comparison}
 use Rattle.scheme.proofs.ByKind.{rows-few}
-use Rattle.nodes.specs.Numbers.{numberOf, nameCount, valueList, kindNumber, kindBy, asRow, fiveOf, asNode}
-use Rattle.nodes.specs.Numbers.{nodeTable, Known, Sized, lookedUp}
-use Rattle.nodes.specs.declared.Node.{Node}
+use Rattle.node_table.specs.Numbers.{numberOf, nameCount, valueList, kindNumber, kindBy, asRow, fiveOf, asNode}
+use Rattle.node_table.specs.Numbers.{nodeTable, Known, Sized, lookedUp}
+use Rattle.node_table.specs.declared.Node.{Node}
 
 -- ---- the table
 
