@@ -1,4 +1,4 @@
--- A card handed over piece by piece. Definitions only. The theorem on them is `whole` in proofs/Pieces.antt.
+-- A card handed over piece by piece. Definitions only. The theorem on them is `program` in proofs/Pieces.antt.
 use mathlib.Core.List.{List, [], _∷_, _++_}
 use mathlib.Core.Path.{_≡_}
 use Prim.Native.Nat.{ℕ}

@@ -1,8 +1,6 @@
 -- `feeder::feed_ticks` meets its contract: no line is run, or those of `run_ticks`. Assumes nothing.
-use mathlib.Core.Path.{_≡_, refl, sym, _∙_}
+use mathlib.Core.Path.{refl, sym, _∙_}
 use mathlib.Core.List.{[], _∷_}
-use Prim.Native.Nat.{ℕ}
-use native.Mathlib.Omega.{arith}
 use types.Run.{miss}
 use borrow.Author.Needs.{needs}
 use Rattle.player.specs.Card.{brought}
