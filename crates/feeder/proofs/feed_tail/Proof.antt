@@ -27,7 +27,7 @@ returns c =
     )
 
 -- It is over-long, and what is put is what a broken line prints.
-says : (c : tie.After-over-long) →
+says : (c : tie.After-end-over-long) →
     outputBytes (c .end-over-long .result .output) ≡ brokenBytes (begun (c .before) .args .w .stage .phase)
 says c = ap (λ (a : Answered). outputBytes (a .output)) (c .end-over-long .ensures)
 
