@@ -5,8 +5,8 @@ use lib.ListN.{List·getD-eq-default}
 use Rattle.lists.proofs.byte_at.Statement.{statement}
 use Rattle.lists.proofs.byte_at.Tie as tie
 
-returns-2 : tie.Need-returns-2
-returns-2 c = sym (List·getD-eq-default (c .before .args .bytes .now) 0 (c .if1 .left))
+past-end : tie.Need-returns-2
+past-end c = sym (List·getD-eq-default (c .before .args .bytes .now) 0 (c .if1 .left))
 
 pub byte-at-spec : {M : Type 1} → statement M
-byte-at-spec = tie.close (tie.spec (λ c. search needs) (λ c. search needs) returns-2)
+byte-at-spec = tie.close (tie.spec (λ c. search needs) (λ c. search needs) past-end)

@@ -4,13 +4,13 @@ use Rattle.lists.specs.Decimal.{isDigit}
 use Rattle.lists.proofs.is_digit.Statement.{statement}
 use Rattle.lists.proofs.is_digit.Tie as tie
 
-returns : tie.Need-returns
+below-zero : tie.Need-returns
 unfolding isDigit
-returns c = simp (lt-leb _ _ (c .if1 .taken))
+below-zero c = simp (lt-leb _ _ (c .if1 .taken))
 
-returns-2 : tie.Need-returns-2
+from-zero : tie.Need-returns-2
 unfolding isDigit
-returns-2 c = simp (le-leb _ _ (c .if1 .left))
+from-zero c = simp (le-leb _ _ (c .if1 .left))
 
 pub is-digit-spec : {M : Type 1} → statement M
-is-digit-spec = tie.close (tie.spec returns returns-2)
+is-digit-spec = tie.close (tie.spec below-zero from-zero)

@@ -15,14 +15,14 @@ Inv-loop s at i₀ i = Lining s at i
 abbrev μ-loop : tie.MeasureT-loop
 μ-loop s at i₀ i = length s - i
 
-returns : tie.Need-returns Inv-loop μ-loop
-returns c = omega (arith, lining-stop (c .before .before .before .loop .inv) (omega arith) (c .if1 .taken))
+at-newline : tie.Need-returns Inv-loop μ-loop
+at-newline c = omega (arith, lining-stop (c .before .before .before .loop .inv) (omega arith) (c .if1 .taken))
 
 loop-again : tie.Need-loop-again Inv-loop μ-loop
 loop-again c = lining-more (c .before .before .before .loop .inv) (omega arith) (c .if1 .left)
 
-returns-2 : tie.Need-returns-2 Inv-loop μ-loop
-returns-2 c = omega (arith, lining-past (c .before .loop .inv) (omega arith))
+at-end : tie.Need-returns-2 Inv-loop μ-loop
+at-end c = omega (arith, lining-past (c .before .loop .inv) (omega arith))
 
 pub line-length-spec : {M : Type 1} → statement M
 line-length-spec =
@@ -33,9 +33,9 @@ line-length-spec =
     (λ c. record { passed = refl; from = omega arith })
     (λ c. search needs)
     (λ c. search needs)
-    returns
+    at-newline
     (λ c. search needs)
     (λ c. omega arith)
     loop-again
     (λ c. search needs)
-    returns-2)
+    at-end)

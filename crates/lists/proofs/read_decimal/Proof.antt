@@ -39,8 +39,8 @@ later : (c : tie.Else4 Inv-loop μ-loop)
     → isDigit (getD (begun (turn c .before .before) .args .s .now) (turn c .loop .next) 0) ≡ true
 later c = sym (c .before .is-digit2 .ensures) ∙ not-false _ (c .if4 .left)
 
-returns-3 : tie.Need-returns-3 Inv-loop μ-loop
-returns-3 c =
+no-digit : tie.Need-returns-3 Inv-loop μ-loop
+no-digit c =
     numeral-none (omega arith) (c .before .before .if2 .left)
     (sym (c .before .is-digit .ensures) ∙ not-true _ (c .if3 .taken))
 
@@ -48,8 +48,8 @@ loop-holds : tie.Need-loop-holds Inv-loop μ-loop
 loop-holds c =
     digits-begun (omega arith) (c .before .before .before .if2 .left) (first (c .before)) (c .wide .ensures)
 
-returns-4 : tie.Need-returns-4 Inv-loop μ-loop
-returns-4 c =
+at-other-byte : tie.Need-returns-4 Inv-loop μ-loop
+at-other-byte c =
     let stop = c .before in
     let loop = stop .before .before .before .before in
     let other = sym (stop .before .is-digit2 .ensures) ∙ not-true _ (stop .if4 .taken) in
@@ -64,8 +64,8 @@ loop-again c =
     (λ w. digits-held known (omega arith) (later digit) _ (w .0 .left) (w .1))
     (c .if5 .came)
 
-returns-5 : tie.Need-returns-5 Inv-loop μ-loop
-returns-5 c =
+at-end : tie.Need-returns-5 Inv-loop μ-loop
+at-end c =
     let loop = c .before .before in
     rw (c .settled2 .ensures) (digits-past (loop .loop .inv) (omega arith))
 
@@ -80,7 +80,7 @@ read-decimal-spec =
     (λ c. search needs)
     (λ c. numeral-zero (omega arith) (c .if2 .taken))
     (λ c κs. search needs)
-    returns-3
+    no-digit
     (λ c. omega (arith, digit-range _ (first c)))
     (λ c κs. search needs)
     (λ c. search needs)
@@ -88,7 +88,7 @@ read-decimal-spec =
     (λ c. search needs)
     (λ c κs. search needs)
     (λ c κs. search needs)
-    returns-4
+    at-other-byte
     (λ c. omega arith)
     (λ c. omega (arith, digit-range _ (later (c .before))))
     (λ c κs. search needs)
@@ -97,4 +97,4 @@ read-decimal-spec =
     (λ c. omega arith)
     loop-again
     (λ c κs. search needs)
-    returns-5)
+    at-end)

@@ -13,17 +13,17 @@ Inv-loop a b i₀ i = Comparing a b i
 abbrev μ-loop : tie.MeasureT-loop
 μ-loop a b i₀ i = length a - i
 
-returns : tie.Need-returns Inv-loop μ-loop
-returns c = same-not (c .before .args .a .now) (c .before .args .b .now) (c .if1 .taken)
+lengths-differ : tie.Need-returns Inv-loop μ-loop
+lengths-differ c = same-not (c .before .args .a .now) (c .before .args .b .now) (c .if1 .taken)
 
-returns-2 : tie.Need-returns-2 Inv-loop μ-loop
-returns-2 c = compare-differ (c .before .before .before .before .loop .inv) (omega arith) (c .if2 .taken)
+numbers-differ : tie.Need-returns-2 Inv-loop μ-loop
+numbers-differ c = compare-differ (c .before .before .before .before .loop .inv) (omega arith) (c .if2 .taken)
 
 loop-again : tie.Need-loop-again Inv-loop μ-loop
 loop-again c = compare-more (c .before .before .before .before .loop .inv) (omega arith) (c .if2 .left)
 
-returns-3 : tie.Need-returns-3 Inv-loop μ-loop
-returns-3 c = compare-all (c .before .loop .inv) (omega arith)
+all-same : tie.Need-returns-3 Inv-loop μ-loop
+all-same c = compare-all (c .before .loop .inv) (omega arith)
 
 pub same-numbers-spec : {M : Type 1} → statement M
 same-numbers-spec =
@@ -31,14 +31,14 @@ same-numbers-spec =
     (tie.spec
     Inv-loop
     μ-loop
-    returns
+    lengths-differ
     (λ c. compare-none (c .if1 .left))
     (λ c. search needs)
     (λ c. search needs)
     (λ c. search needs)
     (λ c. search needs)
-    returns-2
+    numbers-differ
     (λ c. search needs)
     (λ c. omega arith)
     loop-again
-    returns-3)
+    all-same)

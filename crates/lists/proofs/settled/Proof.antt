@@ -4,11 +4,11 @@ use borrow.Author.Tests.{le-leb, lt-leb}
 use Rattle.lists.proofs.settled.Statement.{statement}
 use Rattle.lists.proofs.settled.Tie as tie
 
-returns : tie.Need-returns
-returns c = simp (le-leb _ _ (c .if1 .taken))
+within-max : tie.Need-returns
+within-max c = simp (le-leb _ _ (c .if1 .taken))
 
-returns-2 : tie.Need-returns-2
-returns-2 c = simp (lt-leb _ _ (c .if1 .left))
+above-max : tie.Need-returns-2
+above-max c = simp (lt-leb _ _ (c .if1 .left))
 
 pub settled-spec : {M : Type 1} → statement M
-settled-spec = tie.close (tie.spec (λ c. search needs) returns returns-2)
+settled-spec = tie.close (tie.spec (λ c. search needs) within-max above-max)
