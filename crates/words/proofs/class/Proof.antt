@@ -12,29 +12,29 @@ known : {b k : ℕ} → b ≡ k → classOf k ≡ classOf b
 known e = sym (ap classOf e)
 
 -- Digits, then letters.
-returns-12 : tie.Need-returns-12
-returns-12 c = let b = c .before .before .before .args .b in sym (digit b (c .before .if1 .left) (c .if2 .taken))
+digit-run : tie.Need-returns-12
+digit-run c = let b = c .before .before .before .args .b in sym (digit b (c .before .if1 .left) (c .if2 .taken))
 
-returns-13 : tie.Need-returns-13
-returns-13 c =
+letter-run : tie.Need-returns-13
+letter-run c =
     let b = c .before .before .before .before .before .args .b in
     sym (letter b (c .before .if3 .left) (c .if4 .taken))
 
 -- Any other byte, below the digits, between digits and letters, above the letters.
-returns-14 : tie.Need-returns-14
-returns-14 c =
+below-digits : tie.Need-returns-14
+below-digits c =
     let b = c .before .before .args .b in
     let no = no-run b (within-below 97 122 b (omega arith)) (within-below 48 57 b (c .if1 .taken)) in
     sym (other b no (c .before .match .rest))
 
-returns-15 : tie.Need-returns-15
-returns-15 c =
+between : tie.Need-returns-15
+between c =
     let b = c .before .before .before .before .args .b in
     let no = no-run b (within-below 97 122 b (c .if3 .taken)) (within-above 48 57 b (c .before .if2 .left)) in
     sym (other b no (c .before .before .before .match .rest))
 
-returns-16 : tie.Need-returns-16
-returns-16 c =
+above-letters : tie.Need-returns-16
+above-letters c =
     let b = c .before .before .before .before .before .args .b in
     let no = no-run b (within-above 97 122 b (c .if4 .left)) (within-above 48 57 b (c .before .before .if2 .left)) in
     sym (other b no (c .before .before .before .before .match .rest))
@@ -55,8 +55,8 @@ class-spec =
     (λ c. known (c .match .keys9))
     (λ c. known (c .match .keys10))
     (λ c. known (c .match .keys11))
-    returns-12
-    returns-13
-    returns-14
-    returns-15
-    returns-16)
+    digit-run
+    letter-run
+    below-digits
+    between
+    above-letters)

@@ -5,13 +5,13 @@ use Rattle.words.specs.Word.{isNum}
 use Rattle.words.proofs.is_num.Statement.{statement}
 use Rattle.words.proofs.is_num.Tie as tie
 
-returns : tie.Need-returns
+a-parameter : tie.Need-returns
 unfolding isNum
-returns c = simp (sym (c .before .is-within .ensures) ∙ c .if1 .taken)
+a-parameter c = simp (sym (c .before .is-within .ensures) ∙ c .if1 .taken)
 
-returns-2 : tie.Need-returns-2
+no-parameter : tie.Need-returns-2
 unfolding isNum
-returns-2 c = simp (sym (c .before .is-within .ensures) ∙ c .if1 .left)
+no-parameter c = simp (sym (c .before .is-within .ensures) ∙ c .if1 .left)
 
 pub is-num-spec : {M : Type 1} → statement M
-is-num-spec = tie.close (tie.spec (λ c. search needs) (λ c κs. search needs) returns returns-2)
+is-num-spec = tie.close (tie.spec (λ c. search needs) (λ c κs. search needs) a-parameter no-parameter)

@@ -3,11 +3,11 @@ use borrow.Author.Tests.{le-leb, lt-leb}
 use Rattle.words.proofs.is_within.Statement.{statement}
 use Rattle.words.proofs.is_within.Tie as tie
 
-returns : tie.Need-returns
-returns c = simp (lt-leb _ _ (c .if1 .taken))
+below-lo : tie.Need-returns
+below-lo c = simp (lt-leb _ _ (c .if1 .taken))
 
-returns-2 : tie.Need-returns-2
-returns-2 c = simp (le-leb _ _ (c .if1 .left))
+from-lo : tie.Need-returns-2
+from-lo c = simp (le-leb _ _ (c .if1 .left))
 
 pub is-within-spec : {M : Type 1} → statement M
-is-within-spec = tie.close (tie.spec returns returns-2)
+is-within-spec = tie.close (tie.spec below-lo from-lo)

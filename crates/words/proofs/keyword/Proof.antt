@@ -28,16 +28,16 @@ alone : (i : ℕ) (c : tie.After-byte-at) {b r : ℕ} → c .byte-at .result ≡
 alone i = arm (one i)
 
 -- `end` and `exists` begin with the same byte.
-returns-2 : tie.Need-returns-2
+end-or-exists : tie.Need-returns-2
 unfolding keywordOf keywordAmong
-returns-2 c =
+end-or-exists c =
     let e = c .before .before .before .before in
     arm (λ r. spelledAs 1 r (one 10 r)) (e .before) (e .match .keys2) tt (λ l. refl)
     (c .spelled-or3 .ensures ∙ rw (c .before .spelled-or2 .ensures))
 
 -- No keyword begins with the byte.
-returns-11 : tie.Need-returns-11
-returns-11 c = no-keyword (run (c .before)) (rw (c .before .byte-at .ensures) at (c .match .rest))
+none-begins : tie.Need-returns-11
+none-begins c = no-keyword (run (c .before)) (rw (c .before .byte-at .ensures) at (c .match .rest))
 
 pub keyword-spec : {M : Type 1} → statement M
 unfolding keywordOf keywordAmong
@@ -68,7 +68,7 @@ keyword-spec =
     (λ c. search needs)
     (λ c κs. search needs)
     (λ c. let k = c .before .before in alone 0 (k .before) (k .match .keys1) tt (λ l. refl) (c .spelled-or .ensures))
-    returns-2
+    end-or-exists
     (λ c. let k = c .before .before in alone 2 (k .before) (k .match .keys3) tt (λ l. refl) (c .spelled-or4 .ensures))
     (λ c. let k = c .before .before in alone 3 (k .before) (k .match .keys4) tt (λ l. refl) (c .spelled-or5 .ensures))
     (λ c. let k = c .before .before in alone 4 (k .before) (k .match .keys5) tt (λ l. refl) (c .spelled-or6 .ensures))
@@ -77,4 +77,4 @@ keyword-spec =
     (λ c. let k = c .before .before in alone 7 (k .before) (k .match .keys8) tt (λ l. refl) (c .spelled-or9 .ensures))
     (λ c. let k = c .before .before in alone 8 (k .before) (k .match .keys9) tt (λ l. refl) (c .spelled-or10 .ensures))
     (λ c. let k = c .before .before in alone 9 (k .before) (k .match .keys10) tt (λ l. refl) (c .spelled-or11 .ensures))
-    returns-11)
+    none-begins)

@@ -14,23 +14,23 @@ abbrev high : tie.After-known-told2 → tie.After-read-decimal
 high c = c .before .before .before
 
 -- The number fits beside its base.
-add-t9 : tie.Need-add-t9
-add-t9 c =
+sum-fits : tie.Need-add-t9
+sum-fits c =
     let small = number-small (read c .read-decimal .ensures) (c .before .value .given .1) in
     omega (arith, small, read c .before .before .pre)
 
-returns : tie.Need-returns
-returns c =
+a-number : tie.Need-returns
+a-number c =
     let at = c .before in
     c .if-ended .ensures ∙ number-made _ (read at .read-decimal .ensures) (at .before .value .given .1)
 
-returns-2 : tie.Need-returns-2
-returns-2 c =
+above-max : tie.Need-returns-2
+above-max c =
     let at = c .before in
     c .if-ended2 .ensures ∙ number-high _ (high at .read-decimal .ensures) (at .before .next .given .1)
 
-returns-3 : tie.Need-returns-3
-returns-3 c = number-missing _ (c .before .before .read-decimal .ensures) (c .enum-told .given .1)
+no-number : tie.Need-returns-3
+no-number c = number-missing _ (c .before .before .read-decimal .ensures) (c .enum-told .given .1)
 
 pub number-spec : {M : Type 1} → statement M
 number-spec =
@@ -38,11 +38,11 @@ number-spec =
     (tie.spec
     (λ c κs. search needs)
     (λ c. search needs)
-    add-t9
+    sum-fits
     (λ c κs. search needs)
     (λ c. search needs)
     (λ c κs. search needs)
     (λ c. search needs)
-    returns
-    returns-2
-    returns-3)
+    a-number
+    above-max
+    no-number)

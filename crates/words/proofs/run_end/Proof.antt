@@ -26,8 +26,8 @@ head c = c .before .before .before
 abbrev text : tie.At-loop Inv-loop μ-loop → List ℕ
 text c = c .before .before .args .text .now
 
-returns : tie.Need-returns Inv-loop μ-loop
-returns c =
+at-other-byte : tie.Need-returns Inv-loop μ-loop
+at-other-byte c =
     let at = c .before in
     let other = sym (at .in-run .ensures) ∙ not-true _ (c .if1 .taken) in
     let inside = at .before .before .loop-test .taken in
@@ -42,8 +42,8 @@ loop-again c =
     let goes = run-goes (text (head at)) (head at .loop .end) inside (eqb-true _ RUN in-run) in
     (omega arith, omega (arith, head at .loop .inv .1, ap length goes))
 
-returns-2 : tie.Need-returns-2 Inv-loop μ-loop
-returns-2 c =
+at-text-end : tie.Need-returns-2 Inv-loop μ-loop
+at-text-end c =
     let at = c .before in
     omega (arith, at .loop .inv .1, ap length (run-past (text at) _ (c .loop-test .left)))
 
@@ -56,8 +56,8 @@ run-end-spec =
     (λ c. omega arith)
     (λ c. omega arith)
     (λ c. search needs)
-    returns
+    at-other-byte
     (λ c. omega arith)
     (λ c. omega arith)
     loop-again
-    returns-2)
+    at-text-end)

@@ -20,26 +20,26 @@ run c = c .before .before .before .args .run .now
 no-keyword : (c : tie.Else1) → keywordOf (run c) ≡ 0
 no-keyword c = omega (arith, c .before .keyword .ensures, c .if1 .left)
 
-returns : tie.Need-returns
+a-keyword : tie.Need-returns
 unfolding runOf
-returns c =
+a-keyword c =
     let word = c .before .keyword .result in
     simp (sym (c .before .keyword .ensures), lt-ltb 0 word (c .if1 .taken))
 
-returns-2 : tie.Need-returns-2
-returns-2 c =
+a-signal : tie.Need-returns-2
+a-signal c =
     let at = c .before .before .before .before in
     let word = run-signal (run at) (no-keyword at) (c .before .before .match .keys1) in
     c .number .ensures ∙ ap (numberOf SIGNAL (signalCount - 1)) (part-to-end (run at) 1) ∙ sym word
 
-returns-3 : tie.Need-returns-3
-returns-3 c =
+a-parameter : tie.Need-returns-3
+a-parameter c =
     let at = c .before .before .before .before in
     let word = run-parameter (run at) (no-keyword at) (c .before .before .match .keys2) in
     c .number2 .ensures ∙ ap (numberOf PARAMETER (parameterCount - 1)) (part-to-end (run at) 1) ∙ sym word
 
-returns-4 : tie.Need-returns-4
-returns-4 c =
+a-literal : tie.Need-returns-4
+a-literal c =
     let at = c .before .before .before in
     let others = c .before .match .rest in
     c .number3 .ensures ∙ sym (run-literal (run at) (no-keyword at) (others .0 .1) (others .1))
@@ -49,7 +49,7 @@ run-word-spec =
     tie.close
     (tie.spec
     (λ c κs. search needs)
-    returns
+    a-keyword
     (λ c. search needs)
     (λ c. search needs)
     (λ c. search needs)
@@ -60,6 +60,6 @@ run-word-spec =
     (λ c. search needs)
     (λ c κs. search needs)
     (λ c κs. search needs)
-    returns-2
-    returns-3
-    returns-4)
+    a-signal
+    a-parameter
+    a-literal)

@@ -4,11 +4,11 @@ use borrow.Author.Needs.{needs}
 use Rattle.words.proofs.spelled_or.Statement.{statement}
 use Rattle.words.proofs.spelled_or.Tie as tie
 
-returns : tie.Need-returns
-returns c = simp (sym (c .before .same-bytes .ensures) ∙ c .if1 .taken)
+spelled : tie.Need-returns
+spelled c = simp (sym (c .before .same-bytes .ensures) ∙ c .if1 .taken)
 
-returns-2 : tie.Need-returns-2
-returns-2 c = simp (sym (c .before .same-bytes .ensures) ∙ c .if1 .left)
+not-spelled : tie.Need-returns-2
+not-spelled c = simp (sym (c .before .same-bytes .ensures) ∙ c .if1 .left)
 
 pub spelled-or-spec : {M : Type 1} → statement M
-spelled-or-spec = tie.close (tie.spec (λ c κs. search needs) returns returns-2)
+spelled-or-spec = tie.close (tie.spec (λ c κs. search needs) spelled not-spelled)

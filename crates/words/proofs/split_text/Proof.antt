@@ -49,25 +49,25 @@ by-words : (c : tie.Else2 Inv-loop μ-loop) → splitOf (text c) ≡ words (text
 by-words c = split-words (text c) (c .before .if1 .left) (c .if2 .left)
 
 -- A text that is empty or too long.
-returns : tie.Need-returns Inv-loop μ-loop
-returns c =
+empty-text : tie.Need-returns Inv-loop μ-loop
+empty-text c =
     let text = c .before .before .before .args .text .now in
     refuses text _ _ 1 (split-empty text (c .if1 .taken))
 
-returns-2 : tie.Need-returns-2 Inv-loop μ-loop
-returns-2 c =
+long-text : tie.Need-returns-2 Inv-loop μ-loop
+long-text c =
     let text = c .before .before .before .before .args .text .now in
     refuses text _ _ 1 (split-long text (c .before .if1 .left) (c .if2 .taken))
 
 -- A space.
-loop-again : tie.Need-loop-again Inv-loop μ-loop
-loop-again c =
+after-space : tie.Need-loop-again Inv-loop μ-loop
+after-space c =
     let at = c .before in
     skips (head at .loop .inv) (inside at) (at .class .result) (at .class .ensures) (c .if3 .taken)
 
 -- A word too many.
-returns-3 : tie.Need-returns-3 Inv-loop μ-loop
-returns-3 c =
+word-too-many : tie.Need-returns-3 Inv-loop μ-loop
+word-too-many c =
     let at = c .before .before in
     let refusal = too-many (head at .loop .inv) (inside at) (at .class .result) (at .class .ensures) in
     refuses _ _ _ 4 (by-words (head at .before) ∙ refusal (c .before .if3 .left) (c .if4 .taken))
@@ -78,14 +78,14 @@ room c =
     let loop = head (byte c) in
     omega (arith, loop .loop .inv .few, c .if4 .left, splitting-length (loop .loop .inv), start (loop .before) .pre)
 
-loop-less-2 : tie.Need-loop-less-2 Inv-loop μ-loop
-loop-less-2 c =
+less-after-word : tie.Need-loop-less-2 Inv-loop μ-loop
+less-after-word c =
     let at = byte (made c .before) in
     let some = width-some (text (head at .before)) (head at .loop .i) _ (inside at) (at .class .ensures) in
     omega (arith, some, inside at, made c .word-at .ensures .1)
 
-loop-again-2 : tie.Need-loop-again-2 Inv-loop μ-loop
-loop-again-2 c =
+after-word : tie.Need-loop-again-2 Inv-loop μ-loop
+after-word c =
     let turn = made c .before in
     let at = byte turn in
     let token = made c .word-at .ensures in
@@ -93,8 +93,8 @@ loop-again-2 c =
     (turn .if4 .left) (sym (token .0) ∙ c .before .made .given .1) (token .1)
 
 -- A word that cannot be made.
-returns-4 : tie.Need-returns-4 Inv-loop μ-loop
-returns-4 c =
+bad-word : tie.Need-returns-4 Inv-loop μ-loop
+bad-word c =
     let turn = bad c .before in
     let at = byte turn in
     let why = sym (bad c .word-at .ensures .0) ∙ c .before .made2 .given .1 in
@@ -107,25 +107,25 @@ split-text-spec =
     (tie.spec
     Inv-loop
     μ-loop
-    returns
-    returns-2
+    empty-text
+    long-text
     (λ c. splitting-begun (text c) _)
     (λ c. c .before .loop-test .taken)
     (λ c. search needs)
     (λ c. omega arith)
     (λ c. omega arith)
-    loop-again
+    after-space
     (λ c. splitting-length (head (c .before .before) .loop .inv))
-    returns-3
+    word-too-many
     (λ c κs. (inside (byte c), byte c .class .ensures))
     (λ c. search needs)
     (λ c. omega (arith, head (byte (made c .before)) .loop .inv .few))
     (λ c. room (made c .before))
     (λ c. omega (arith, head (byte (made c .before)) .loop .inv .few))
-    loop-less-2
-    loop-again-2
+    less-after-word
+    after-word
     (λ c. search needs)
     (λ c. splitting-length (head (byte (bad c .before)) .loop .inv))
-    returns-4
+    bad-word
     (λ c. splitting-length (c .before .loop .inv))
     (λ c. splitting-done (c .before .loop .inv) (by-words (c .before .before)) (c .loop-test .left)))

@@ -46,8 +46,8 @@ run-word-requires c κs =
     let first = sym (start .pre .1) ∙ at .before .if1 .taken in
     omega (arith, ap length part, run-some (start .args .text .now) (start .args .i) (start .pre .0) first)
 
-returns : tie.Need-returns
-returns c =
+a-run : tie.Need-returns
+a-run c =
     let at = c .before .before in
     let start = in-run at in
     let i = start .args .i in
@@ -56,14 +56,14 @@ returns c =
     let width = width-run (rest start) (start .args .c) (at .before .if1 .taken) in
     (c .run-word .ensures ∙ ap runOf part ∙ sym word, run-ends at ∙ ap (λ (n : ℕ). i + n) (sym width))
 
-returns-2 : tie.Need-returns-2
-returns-2 c =
+no-word : tie.Need-returns-2
+no-word c =
     let start = no-run (c .before) in
     let width = width-none (rest start) (start .args .c) (c .if2 .taken) in
     (sym (word-none _ (start .args .c) (c .if2 .taken)), ap (λ (n : ℕ). start .args .i + n) (sym width))
 
-returns-3 : tie.Need-returns-3
-returns-3 c =
+an-operator : tie.Need-returns-3
+an-operator c =
     let at = c .before .before in
     let start = no-run (at .before) in
     let class = start .args .c in
@@ -85,10 +85,10 @@ word-at-spec =
     (λ c. search needs)
     part-run-word-end
     run-word-requires
-    returns
+    a-run
     (λ c. search needs)
-    returns-2
+    no-word
     (λ c. search needs)
     (λ c κs. search needs)
     (λ c κs. search needs)
-    returns-3)
+    an-operator)
