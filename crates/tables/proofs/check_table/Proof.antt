@@ -24,32 +24,32 @@ decide : (c : tie.After-equations-fit) → (
     → checked t n ≡ cond (b && l) Passed (Refused 11))
 decide c = long-enough _ _ (omega arith) (omega arith) (omega arith)
 
-returns : tie.Need-returns
-returns c = too-few _ _ (c .if1 .taken)
+no-equations : tie.Need-returns
+no-equations c = too-few _ _ (c .if1 .taken)
 
-returns-2 : tie.Need-returns-2
-returns-2 c = too-many _ _ (c .if2 .taken)
+over-limit : tie.Need-returns-2
+over-limit c = too-many _ _ (c .if2 .taken)
 
-returns-3 : tie.Need-returns-3
-returns-3 c =
+short-table : tie.Need-returns-3
+short-table c =
     let args = c .before .before .before .before .args in
     too-short (args .table .now) (args .n) (omega arith) (omega arith) (c .if3 .taken)
 
-returns-4 : tie.Need-returns-4
-returns-4 c =
+ill-formed : tie.Need-returns-4
+ill-formed c =
     let fit = c .before .equations-fit in
     sym (decide (c .before) false _ (sym (fit .ensures) ∙ not-true (fit .result) (c .if4 .taken)) refl)
 
-returns-5 : tie.Need-returns-5
-returns-5 c =
+count-last : tie.Need-returns-5
+count-last c =
     let tested = c .before .before .before .before in
     let fit = tested .equations-fit in
     let fits = sym (fit .ensures) ∙ not-false (fit .result) (c .before .before .before .if4 .left) in
     let counts = sym (c .before .is-count .ensures) ∙ c .if5 .taken in
     sym (decide tested true false fits (boolean-or-count _ ∙ ap not counts))
 
-returns-6 : tie.Need-returns-6
-returns-6 c =
+passed : tie.Need-returns-6
+passed c =
     let tested = c .before .before .before .before in
     let fit = tested .equations-fit in
     let fits = sym (fit .ensures) ∙ not-false (fit .result) (c .before .before .before .if4 .left) in
@@ -60,16 +60,16 @@ pub check-table-spec : {M : Type 1} → statement M
 check-table-spec =
     tie.close
     (tie.spec
-    returns
-    returns-2
+    no-equations
+    over-limit
     (λ c. search needs)
-    returns-3
+    short-table
     (λ c κs. search needs)
-    returns-4
+    ill-formed
     (λ c. search needs)
     (λ c. search needs)
     (λ c. search needs)
     (λ c. search needs)
     (λ c κs. search needs)
-    returns-5
-    returns-6)
+    count-last
+    passed)

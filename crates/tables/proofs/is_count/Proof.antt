@@ -5,14 +5,14 @@ use Rattle.tables.proofs.Numbers.{counts}
 use Rattle.tables.proofs.is_count.Statement.{statement}
 use Rattle.tables.proofs.is_count.Tie as tie
 
-returns : tie.Need-returns
-returns c = let k = c .before .before .args .k in rw (counts k, le-leb 7 k (omega arith), le-leb k 9 (omega arith))
+a-count : tie.Need-returns
+a-count c = let k = c .before .before .args .k in rw (counts k, le-leb 7 k (omega arith), le-leb k 9 (omega arith))
 
-returns-2 : tie.Need-returns-2
-returns-2 c = let k = c .before .args .k in rw (counts k, lt-leb 7 k (omega arith))
+below : tie.Need-returns-2
+below c = let k = c .before .args .k in rw (counts k, lt-leb 7 k (omega arith))
 
-returns-3 : tie.Need-returns-3
-returns-3 c = let k = c .before .before .args .k in rw (counts k, le-leb 7 k (omega arith), lt-leb k 9 (omega arith))
+above : tie.Need-returns-3
+above c = let k = c .before .before .args .k in rw (counts k, le-leb 7 k (omega arith), lt-leb k 9 (omega arith))
 
 pub is-count-spec : {M : Type 1} → statement M
-is-count-spec = tie.close (tie.spec returns returns-2 returns-3)
+is-count-spec = tie.close (tie.spec a-count below above)

@@ -8,20 +8,20 @@ use borrow.Author.Needs.{needs}
 use Rattle.tables.proofs.is_flow.Statement.{statement}
 use Rattle.tables.proofs.is_flow.Tie as tie
 
-returns : tie.Need-returns
+not-among : tie.Need-returns
 unfolding isFlow
-returns c = rw (le-ltb _ _ (c .if1 .taken))
+not-among c = rw (le-ltb _ _ (c .if1 .taken))
 
-returns-2 : tie.Need-returns-2
+of-boolean : tie.Need-returns-2
 unfolding isFlow
-returns-2 c =
+of-boolean c =
     let count = c .before .before .is-count in
     let below = c .before .before .before .before .if1 .left in
     rw (lt-ltb _ _ below, c .enum-told .given .1, boolean-or-count) (ap not (count .ensures))
 
-returns-3 : tie.Need-returns-3
+of-count : tie.Need-returns-3
 unfolding isFlow
-returns-3 c =
+of-count c =
     let count = c .before .before .is-count in
     let below = c .before .before .before .before .if1 .left in
     rw (lt-ltb _ _ below, c .enum-told2 .given .1) (count .ensures)
@@ -30,12 +30,12 @@ pub is-flow-spec : {M : Type 1} → statement M
 is-flow-spec =
     tie.close
     (tie.spec
-    returns
+    not-among
     (λ c. search needs)
     (λ c. search needs)
     (λ c. search needs)
     (λ c κs. search needs)
     (λ c. search needs)
     (λ c. search needs)
-    returns-2
-    returns-3)
+    of-boolean
+    of-count)

@@ -5,14 +5,14 @@ use Rattle.tables.proofs.Numbers.{memories}
 use Rattle.tables.proofs.is_memory.Statement.{statement}
 use Rattle.tables.proofs.is_memory.Tie as tie
 
-returns : tie.Need-returns
-returns c = let k = c .before .before .args .k in rw (memories k, le-leb 6 k (omega arith), le-leb k 7 (omega arith))
+a-memory : tie.Need-returns
+a-memory c = let k = c .before .before .args .k in rw (memories k, le-leb 6 k (omega arith), le-leb k 7 (omega arith))
 
-returns-2 : tie.Need-returns-2
-returns-2 c = let k = c .before .args .k in rw (memories k, lt-leb 6 k (omega arith))
+below : tie.Need-returns-2
+below c = let k = c .before .args .k in rw (memories k, lt-leb 6 k (omega arith))
 
-returns-3 : tie.Need-returns-3
-returns-3 c = let k = c .before .before .args .k in rw (memories k, le-leb 6 k (omega arith), lt-leb k 7 (omega arith))
+above : tie.Need-returns-3
+above c = let k = c .before .before .args .k in rw (memories k, le-leb 6 k (omega arith), lt-leb k 7 (omega arith))
 
 pub is-memory-spec : {M : Type 1} → statement M
-is-memory-spec = tie.close (tie.spec returns returns-2 returns-3)
+is-memory-spec = tie.close (tie.spec a-memory below above)

@@ -6,45 +6,45 @@ use borrow.Author.Needs.{needs}
 use Rattle.tables.proofs.shape_of.Statement.{statement}
 use Rattle.tables.proofs.shape_of.Tie as tie
 
-returns : tie.Need-returns
-returns c = rw (c .before .match .keys1) (c .shape-at .ensures)
+of-signal : tie.Need-returns
+of-signal c = rw (c .before .match .keys1) (c .shape-at .ensures)
 
-returns-2 : tie.Need-returns-2
-returns-2 c = rw (c .before .match .keys2) (c .shape-at2 .ensures)
+of-start : tie.Need-returns-2
+of-start c = rw (c .before .match .keys2) (c .shape-at2 .ensures)
 
-returns-3 : tie.Need-returns-3
-returns-3 c = rw (c .before .match .keys3) (c .shape-at3 .ensures)
+of-constant : tie.Need-returns-3
+of-constant c = rw (c .before .match .keys3) (c .shape-at3 .ensures)
 
-returns-4 : tie.Need-returns-4
-returns-4 c = rw (c .before .match .keys4) (c .shape-at4 .ensures)
+of-not : tie.Need-returns-4
+of-not c = rw (c .before .match .keys4) (c .shape-at4 .ensures)
 
-returns-5 : tie.Need-returns-5
-returns-5 c = rw (c .before .match .keys5) (c .shape-at5 .ensures)
+of-and : tie.Need-returns-5
+of-and c = rw (c .before .match .keys5) (c .shape-at5 .ensures)
 
-returns-6 : tie.Need-returns-6
-returns-6 c = rw (c .before .match .keys6) (c .shape-at6 .ensures)
+of-or : tie.Need-returns-6
+of-or c = rw (c .before .match .keys6) (c .shape-at6 .ensures)
 
-returns-7 : tie.Need-returns-7
-returns-7 c = rw (c .before .match .keys7) (c .shape-at7 .ensures)
+of-boolean-pre : tie.Need-returns-7
+of-boolean-pre c = rw (c .before .match .keys7) (c .shape-at7 .ensures)
 
-returns-8 : tie.Need-returns-8
-returns-8 c = rw (c .before .match .keys8) (c .shape-at8 .ensures)
+of-count-pre : tie.Need-returns-8
+of-count-pre c = rw (c .before .match .keys8) (c .shape-at8 .ensures)
 
-returns-9 : tie.Need-returns-9
-returns-9 c = rw (c .before .match .keys9) (c .shape-at9 .ensures)
+of-capped : tie.Need-returns-9
+of-capped c = rw (c .before .match .keys9) (c .shape-at9 .ensures)
 
-returns-10 : tie.Need-returns-10
-returns-10 c = rw (c .before .match .keys10) (c .shape-at10 .ensures)
+of-if : tie.Need-returns-10
+of-if c = rw (c .before .match .keys10) (c .shape-at10 .ensures)
 
-returns-11 : tie.Need-returns-11
-returns-11 c = rw (c .before .match .keys11) (c .shape-at11 .ensures)
+of-compare-literal : tie.Need-returns-11
+of-compare-literal c = rw (c .before .match .keys11) (c .shape-at11 .ensures)
 
-returns-12 : tie.Need-returns-12
-returns-12 c = rw (c .before .match .keys12) (c .shape-at12 .ensures)
+of-compare-parameter : tie.Need-returns-12
+of-compare-parameter c = rw (c .before .match .keys12) (c .shape-at12 .ensures)
 
-returns-13 : tie.Need-returns-13
+of-no-kind : tie.Need-returns-13
 unfolding shapeOf
-returns-13 c = rw (kind-beyond _ (none-below _ kindCount (c .match .rest)))
+of-no-kind c = rw (kind-beyond _ (none-below _ kindCount (c .match .rest)))
 
 pub shape-of-spec : {M : Type 1} → statement M
 shape-of-spec =
@@ -62,16 +62,16 @@ shape-of-spec =
     (λ c κs. search needs)
     (λ c κs. search needs)
     (λ c κs. search needs)
-    returns
-    returns-2
-    returns-3
-    returns-4
-    returns-5
-    returns-6
-    returns-7
-    returns-8
-    returns-9
-    returns-10
-    returns-11
-    returns-12
-    returns-13)
+    of-signal
+    of-start
+    of-constant
+    of-not
+    of-and
+    of-or
+    of-boolean-pre
+    of-count-pre
+    of-capped
+    of-if
+    of-compare-literal
+    of-compare-parameter
+    of-no-kind)
