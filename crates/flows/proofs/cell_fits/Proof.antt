@@ -7,17 +7,17 @@ use Rattle.flows.specs.Step.{cellFits}
 use Rattle.flows.proofs.cell_fits.Statement.{statement}
 use Rattle.flows.proofs.cell_fits.Tie as tie
 
-returns : tie.Need-returns
+boolean-cell : tie.Need-returns
 unfolding cellFits kindOf shapeOf isMemory inRange
-returns c = rw (c .match .keys1)
+boolean-cell c = rw (c .match .keys1)
 
-returns-2 : tie.Need-returns-2
+count-cell : tie.Need-returns-2
 unfolding cellFits kindOf shapeOf isMemory inRange
-returns-2 c = rw (c .match .keys2)
+count-cell c = rw (c .match .keys2)
 
-returns-3 : tie.Need-returns-3
+other-cell : tie.Need-returns-3
 unfolding cellFits
-returns-3 c = rw (no-memory _ (c .match .rest .0 .1) (c .match .rest .1))
+other-cell c = rw (no-memory _ (c .match .rest .0 .1) (c .match .rest .1))
 
 pub cell-fits-spec : {M : Type 1} → statement M
-cell-fits-spec = tie.close (tie.spec returns returns-2 returns-3)
+cell-fits-spec = tie.close (tie.spec boolean-cell count-cell other-cell)

@@ -19,8 +19,8 @@ abbrev μ-loop : tie.MeasureT-loop
 loop-holds : tie.Need-loop-holds Inv-loop μ-loop
 loop-holds c = (omega arith, all-none _)
 
-returns : tie.Need-returns Inv-loop μ-loop
-returns c =
+one-unfit : tie.Need-returns Inv-loop μ-loop
+one-unfit c =
     let fits = c .before .cell-fits in
     let loop = c .before .before .before .before .before .loop in
     let taken = c .before .before .before .before .loop-test .taken in
@@ -32,8 +32,8 @@ loop-again c =
     let loop = c .before .before .before .before .before .loop in
     (omega arith, all-more _ (loop .i) (loop .inv .1) (sym (fits .ensures) ∙ not-false (fits .result) (c .if1 .left)))
 
-returns-2 : tie.Need-returns-2 Inv-loop μ-loop
-returns-2 c =
+all-fit : tie.Need-returns-2 Inv-loop μ-loop
+all-fit c =
     let loop = c .before .loop in
     let z : loop .i ≡ c .before .before .before .before .args .n = omega arith in
     rw z at (sym (loop .inv .1))
@@ -51,8 +51,8 @@ cells-fit-spec =
     (λ c. omega arith)
     (λ c. omega arith)
     (λ c κs. search needs)
-    returns
+    one-unfit
     (λ c. omega arith)
     (λ c. omega arith)
     loop-again
-    returns-2)
+    all-fit)

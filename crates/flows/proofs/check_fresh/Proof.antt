@@ -8,28 +8,30 @@ use borrow.Author.Needs.{needs}
 use Rattle.flows.proofs.check_fresh.Statement.{statement}
 use Rattle.flows.proofs.check_fresh.Tie as tie
 
-returns : tie.Need-returns
+table-refused : tie.Need-returns
 unfolding freshChecked
-returns c =
+table-refused c =
     let args = c .before .before .before .before .before .args in
     let told = c .enum-told2 .given .1 in
     let others = drop 2 (freshTests (args .table .now) (args .n) (args .state .now)) in
     told ∙ sym (refused-table _ _ _ others (sym (c .before .before .check-table .ensures) ∙ told))
 
-returns-2 : tie.Need-returns-2
+state-short : tie.Need-returns-2
 unfolding freshChecked
-returns-2 c =
+state-short c =
     let told = c .before .enum-told .given .1 in
     let p = passed-both _ _ (sym (c .before .before .before .check-table .ensures) ∙ told) in
     rw (p .0, p .1, lt-leb _ _ (c .if1 .taken))
 
-returns-3 : tie.Need-returns-3
+all-passed : tie.Need-returns-3
 unfolding freshChecked
-returns-3 c =
+all-passed c =
     let told = c .before .enum-told .given .1 in
     let p = passed-both _ _ (sym (c .before .before .before .check-table .ensures) ∙ told) in
     rw (p .0, p .1, le-leb _ _ (c .if1 .left))
 
 pub check-fresh-spec : {M : Type 1} → statement M
 check-fresh-spec =
-    tie.close (tie.spec (λ c κs. search needs) (λ c. search needs) (λ c. search needs) returns returns-2 returns-3)
+    tie.close
+    (tie.spec
+    (λ c κs. search needs) (λ c. search needs) (λ c. search needs) table-refused state-short all-passed)

@@ -29,30 +29,30 @@ checkedAt c =
     let args = start (told .before .before) .args in
     stepChecked (args .cap) (args .table .now) (args .n) (args .state .now) (args .values .now) (args .tick)
 
-returns : tie.Need-returns
+table-refused : tie.Need-returns
 unfolding stepChecked
-returns c =
+table-refused c =
     let args = start (c .before .before) .args in
     let told = c .enum-told2 .given .1 in
     let t = args .table .now in
     let tests = stepTests (args .cap) t (args .n) (args .state .now) (args .values .now) (args .tick) in
     told ∙ sym (refused-table _ _ _ (drop 2 tests) (sym (c .before .before .check-table .ensures) ∙ told))
 
-returns-2 : tie.Need-returns-2
+state-short : tie.Need-returns-2
 unfolding stepChecked
-returns-2 c =
+state-short c =
     let p = passed-both _ _ (passed (c .before)) in
     rw (p .0, p .1, lt-leb _ _ (c .if1 .taken))
 
-returns-3 : tie.Need-returns-3
+values-short : tie.Need-returns-3
 unfolding stepChecked
-returns-3 c =
+values-short c =
     let p = passed-both _ _ (passed (c .before .before)) in
     rw (p .0, p .1, le-leb _ _ (c .before .if1 .left), lt-leb _ _ (c .if2 .taken))
 
-returns-4 : tie.Need-returns-4
+parameter-unfit : tie.Need-returns-4
 unfolding stepChecked
-returns-4 c =
+parameter-unfit c =
     let p = passed-both _ _ (passed (c .before .before .before .before)) in
     let room = c .before .before in
     let params = c .before .parameters-fit in
@@ -89,11 +89,11 @@ decided c b e =
       e,
     )
 
-returns-5 : tie.Need-returns-5
-returns-5 c = decided (c .before) false (not-true (c .before .cells-fit .result) (c .if4 .taken))
+cell-unfit : tie.Need-returns-5
+cell-unfit c = decided (c .before) false (not-true (c .before .cells-fit .result) (c .if4 .taken))
 
-returns-6 : tie.Need-returns-6
-returns-6 c = decided (c .before) true (not-false (c .before .cells-fit .result) (c .if4 .left))
+all-passed : tie.Need-returns-6
+all-passed c = decided (c .before) true (not-false (c .before .cells-fit .result) (c .if4 .left))
 
 pub check-step-spec : {M : Type 1} → statement M
 check-step-spec =
@@ -102,11 +102,11 @@ check-step-spec =
     (λ c κs. search needs)
     (λ c. search needs)
     (λ c. search needs)
-    returns
-    returns-2
-    returns-3
+    table-refused
+    state-short
+    values-short
     (λ c κs. search needs)
-    returns-4
+    parameter-unfit
     cells-fit-requires
-    returns-5
-    returns-6)
+    cell-unfit
+    all-passed)

@@ -4,14 +4,14 @@ use Rattle.flows.proofs.Numbers.{nonzero-none}
 use Rattle.flows.proofs.conjunction.Statement.{statement}
 use Rattle.flows.proofs.conjunction.Tie as tie
 
-returns : tie.Need-returns
-returns c = rw (nonzero-pos _ (c .before .if1 .taken), nonzero-pos _ (c .if2 .taken))
+both-yes : tie.Need-returns
+both-yes c = rw (nonzero-pos _ (c .before .if1 .taken), nonzero-pos _ (c .if2 .taken))
 
-returns-2 : tie.Need-returns-2
-returns-2 c = rw (nonzero-pos _ (c .before .if1 .taken), nonzero-none _ (c .if2 .left))
+second-no : tie.Need-returns-2
+second-no c = rw (nonzero-pos _ (c .before .if1 .taken), nonzero-none _ (c .if2 .left))
 
-returns-3 : tie.Need-returns-3
-returns-3 c = rw (nonzero-none _ (c .if1 .left))
+first-no : tie.Need-returns-3
+first-no c = rw (nonzero-none _ (c .if1 .left))
 
 pub conjunction-spec : {M : Type 1} → statement M
-conjunction-spec = tie.close (tie.spec returns returns-2 returns-3)
+conjunction-spec = tie.close (tie.spec both-yes second-no first-no)

@@ -13,16 +13,16 @@ reset-requires c κs =
     let p = fresh-passed _ _ _ (sym (c .before .before .before .check-fresh .ensures) ∙ told) in
     (p .0 .whole, p .1)
 
-returns : tie.Need-returns
+made : tie.Need-returns
 unfolding freshened
-returns c =
+made c =
     let passed = c .before .before .before .before in
     rw (← passed .before .before .check-fresh .ensures, passed .enum-told .given .1)
     (ap (afterFresh Made) (c .before .before .reset .ensures))
 
-returns-2 : tie.Need-returns-2
+refused : tie.Need-returns-2
 unfolding freshened
-returns-2 c = rw (← c .before .before .before .check-fresh .ensures, c .before .number .given .1)
+refused c = rw (← c .before .before .before .check-fresh .ensures, c .before .number .given .1)
 
 pub fresh-state-spec : {M : Type 1} → statement M
 fresh-state-spec =
@@ -33,6 +33,6 @@ fresh-state-spec =
     (λ c. search needs)
     reset-requires
     (λ c. search needs)
-    returns
+    made
     (λ c. search needs)
-    returns-2)
+    refused)

@@ -4,11 +4,11 @@ use Rattle.flows.proofs.Numbers.{nonzero-none}
 use Rattle.flows.proofs.gate.Statement.{statement}
 use Rattle.flows.proofs.gate.Tie as tie
 
-returns : tie.Need-returns
-returns c = rw (nonzero-pos _ (c .if1 .taken))
+when-yes : tie.Need-returns
+when-yes c = rw (nonzero-pos _ (c .if1 .taken))
 
-returns-2 : tie.Need-returns-2
-returns-2 c = rw (nonzero-none _ (c .if1 .left))
+when-no : tie.Need-returns-2
+when-no c = rw (nonzero-none _ (c .if1 .left))
 
 pub gate-spec : {M : Type 1} → statement M
-gate-spec = tie.close (tie.spec returns returns-2)
+gate-spec = tie.close (tie.spec when-yes when-no)

@@ -5,11 +5,11 @@ use borrow.Author.Needs.{needs}
 use Rattle.flows.proofs.initial_value.Statement.{statement}
 use Rattle.flows.proofs.initial_value.Tie as tie
 
-returns : tie.Need-returns
-returns c = initial-count _ _ (sym (c .before .is-count .ensures) ∙ c .if1 .taken)
+a-count : tie.Need-returns
+a-count c = initial-count _ _ (sym (c .before .is-count .ensures) ∙ c .if1 .taken)
 
-returns-2 : tie.Need-returns-2
-returns-2 c = initial-boolean _ _ (sym (c .before .is-count .ensures) ∙ c .if1 .left)
+a-boolean : tie.Need-returns-2
+a-boolean c = initial-boolean _ _ (sym (c .before .is-count .ensures) ∙ c .if1 .left)
 
 pub initial-value-spec : {M : Type 1} → statement M
-initial-value-spec = tie.close (tie.spec (λ c κs. search needs) returns returns-2)
+initial-value-spec = tie.close (tie.spec (λ c κs. search needs) a-count a-boolean)

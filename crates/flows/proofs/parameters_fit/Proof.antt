@@ -22,9 +22,9 @@ abbrev μ-loop : tie.MeasureT-loop
 loop-holds : tie.Need-loop-holds Inv-loop μ-loop
 loop-holds c = (omega arith, all-none _)
 
-returns : tie.Need-returns Inv-loop μ-loop
+one-unfit : tie.Need-returns Inv-loop μ-loop
 unfolding parameterFits
-returns c =
+one-unfit c =
     let args = c .before .before .before .before .args in
     let j = c .before .before .before .loop .j in
     sym (all-stop (parameterFits (args .cap) (args .tick)) j 8 (omega arith)
@@ -41,8 +41,8 @@ loop-again c =
           (lt-ltb (parameterAt (args .tick) j) (args .cap) (omega (arith, c .before .parameter .ensures))),
     )
 
-returns-2 : tie.Need-returns-2 Inv-loop μ-loop
-returns-2 c = let z : c .before .loop .j ≡ 8 = omega arith in rw z at (sym (c .before .loop .inv .1))
+all-fit : tie.Need-returns-2 Inv-loop μ-loop
+all-fit c = let z : c .before .loop .j ≡ 8 = omega arith in rw z at (sym (c .before .loop .inv .1))
 
 pub parameters-fit-spec : {M : Type 1} → statement M
 parameters-fit-spec =
@@ -52,8 +52,8 @@ parameters-fit-spec =
     μ-loop
     loop-holds
     (λ c κs. search needs)
-    returns
+    one-unfit
     (λ c. omega arith)
     (λ c. omega arith)
     loop-again
-    returns-2)
+    all-fit)

@@ -8,11 +8,11 @@ use borrow.Author.Needs.{needs}
 use Rattle.flows.proofs.signal_at.Statement.{statement}
 use Rattle.flows.proofs.signal_at.Tie as tie
 
-returns : tie.Need-returns
-returns c = sym (truth-nonzero _ (omega arith))
+a-signal : tie.Need-returns
+a-signal c = sym (truth-nonzero _ (omega arith))
 
-returns-2 : tie.Need-returns-2
-returns-2 c = rw (div-eq-of-lt (lt-of-lt-of-le (c .before .fits .signals .fits) (pow-mono (c .if1 .left))))
+past-signals : tie.Need-returns-2
+past-signals c = rw (div-eq-of-lt (lt-of-lt-of-le (c .before .fits .signals .fits) (pow-mono (c .if1 .left))))
 
 pub signal-at-spec : {M : Type 1} → statement M
-signal-at-spec = tie.close (tie.spec (λ c. search needs) (λ c. search needs) returns returns-2)
+signal-at-spec = tie.close (tie.spec (λ c. search needs) (λ c. search needs) a-signal past-signals)

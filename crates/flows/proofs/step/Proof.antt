@@ -12,16 +12,16 @@ run-requires c κs =
     let p = step-passed _ _ _ _ _ _ (sym (c .before .before .before .before .check-step .ensures) ∙ told) in
     (p .0 .some, p .0 .whole, p .1, p .2)
 
-returns : tie.Need-returns
+verdict : tie.Need-returns
 unfolding stepped
-returns c =
+verdict c =
     let ran = c .before .before .before .before in
     let passed = ran .before .before .before in
     rw (← passed .before .before .check-step .ensures, passed .enum-told .given .1) (ran .run .ensures)
 
-returns-2 : tie.Need-returns-2
+refused : tie.Need-returns-2
 unfolding stepped
-returns-2 c = rw (← c .before .before .before .check-step .ensures, c .before .number .given .1)
+refused c = rw (← c .before .before .before .check-step .ensures, c .before .number .given .1)
 
 pub step-spec : {M : Type 1} → statement M
 step-spec =
@@ -33,7 +33,7 @@ step-spec =
     run-requires
     (λ c. search needs)
     (λ c. search needs)
-    returns
+    verdict
     (λ c. search needs)
     (λ c. search needs)
-    returns-2)
+    refused)
