@@ -25,8 +25,8 @@ shared-slice-read-w c = omega arith
 open-after-requires : tie.Need-open-after-requires Inv-loop μ-loop
 open-after-requires c κs = omega arith
 
-returns : tie.Need-returns Inv-loop μ-loop
-returns c =
+too-deep : tie.Need-returns Inv-loop μ-loop
+too-deep c =
     let head = c .before .before .before .before .loop in
     let now-open = c .before .open-after .ensures in
     let is-deep = passed-deep (head .inv) (omega arith) (omega arith) in
@@ -55,8 +55,8 @@ loop-again c =
     (λ w. passed-one known false in-words now-open low (same ∙ w .0 .left) (omega arith) beyond)
     (c .before .if2 .came)
 
-returns-2 : tie.Need-returns-2 Inv-loop μ-loop
-returns-2 c =
+all-passed : tie.Need-returns-2 Inv-loop μ-loop
+all-passed c =
     let known = c .before .loop .inv in
     (passed-over known (c .loop-test .left), passed-beyond known (c .loop-test .left))
 
@@ -64,5 +64,5 @@ pub limits-of-spec : {M : Type 1} → statement M
 limits-of-spec =
     tie.close
     (tie.spec
-    Inv-loop μ-loop loop-holds (λ c. search needs) shared-slice-read-w open-after-requires returns
-    (λ c κs. search needs) add-n (λ c κs. search needs) add-i loop-less loop-again returns-2)
+    Inv-loop μ-loop loop-holds (λ c. search needs) shared-slice-read-w open-after-requires too-deep
+    (λ c κs. search needs) add-n (λ c κs. search needs) add-i loop-less loop-again all-passed)

@@ -7,21 +7,21 @@ use borrow.Author.Tests.{eq-eqb, ne-eqb}
 use Rattle.rules.proofs.open_after.Statement.{statement}
 use Rattle.rules.proofs.open_after.Tie as tie
 
-returns : tie.Need-returns
-returns c = simp (eq-eqb _ _ (c .if1 .taken), add-one)
+opens : tie.Need-returns
+opens c = simp (eq-eqb _ _ (c .if1 .taken), add-one)
 
-returns-2 : tie.Need-returns-2
-returns-2 c =
+none-open : tie.Need-returns-2
+none-open c =
     simp (ne-eqb _ _ (c .before .before .if1 .left), eq-eqb _ _ (c .before .if2 .taken)) (ap pred (sym (c .if3 .taken)))
 
-returns-3 : tie.Need-returns-3
-returns-3 c = simp (ne-eqb _ _ (c .before .before .if1 .left), eq-eqb _ _ (c .before .if2 .taken), sub-one)
+closes : tie.Need-returns-3
+closes c = simp (ne-eqb _ _ (c .before .before .if1 .left), eq-eqb _ _ (c .before .if2 .taken), sub-one)
 
-returns-4 : tie.Need-returns-4
-returns-4 c = simp (ne-eqb _ _ (c .before .if1 .left), ne-eqb _ _ (c .if2 .left))
+of-other : tie.Need-returns-4
+of-other c = simp (ne-eqb _ _ (c .before .if1 .left), ne-eqb _ _ (c .if2 .left))
 
 pub open-after-spec : {M : Type 1} → statement M
 open-after-spec =
     tie.close
     (tie.spec
-    (λ c. search needs) returns returns-2 (λ c. search needs) returns-3 returns-4)
+    (λ c. search needs) opens none-open (λ c. search needs) closes of-other)

@@ -9,15 +9,15 @@ use Rattle.rules.proofs.read_rule.Tie as tie
 abbrev start : tie.After-read-tree → tie.Start
 start c = c .before .before .before
 
-returns : tie.Need-returns
-returns c =
+refused : tie.Need-returns
+refused c =
     let call = c .before .before .before .before in
     let refusal = c .before .enum-told .given in
     let e = answer-refused (call .read-tree .ensures) (refusal .0 .0) _ (refusal .1) (c .records-refusal .ensures) in
     (e, told (start call .args .text .now) _ e)
 
-returns-2 : tie.Need-returns-2
-returns-2 c =
+a-rule : tie.Need-returns-2
+a-rule c =
     let call = c .before .before .before .before in
     let records = c .before .records .given in
     let e = answer-rule (call .read-tree .ensures) (records .0 .0) (records .0 .1 .0) (records .1) in
@@ -28,4 +28,4 @@ read-rule-spec =
     tie.close
     (tie.spec
     (λ c. search needs) (λ c κs. search needs) (λ c. search needs) (λ c. search needs) (λ c κs. search needs)
-    returns returns-2)
+    refused a-rule)

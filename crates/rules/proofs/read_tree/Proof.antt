@@ -33,8 +33,8 @@ abbrev buffer : tie.After-known-told → List ℕ
 buffer c = call c .split-text .last .1 .0
 
 -- A text without words.
-returns : tie.Need-returns
-returns c =
+no-words : tie.Need-returns
+no-words c =
     let told = c .before .enum-told .given in
     let at-call = c .before .before .before .before in
     laid-refused (c .split-refusal .result)
@@ -63,8 +63,8 @@ read-words-requires c κs =
     (omega (arith, h .few), start (call here) .pre)
 
 -- What `read_words` says of these words is said of the text.
-returns-2 : tie.Need-returns-2
-returns-2 c =
+from-words : tie.Need-returns-2
+from-words c =
     let reading = c .before .before in
     let here = made reading in
     let r = reading .read-words in
@@ -76,4 +76,4 @@ read-tree-spec =
     tie.close
     (tie.spec
     (λ c. search needs) (λ c κs. search needs) (λ c. search needs) (λ c. search needs) (λ c κs. search needs)
-    returns array-share-prefix-ws slice-aggregate-read-words read-words-requires (λ c. search needs) returns-2)
+    no-words array-share-prefix-ws slice-aggregate-read-words read-words-requires (λ c. search needs) from-words)

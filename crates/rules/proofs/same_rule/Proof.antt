@@ -42,14 +42,14 @@ second-tree : (c : tie.After-known-told2) →
 second-tree c = front-of (second-call c .read-tree2 .ensures) (omega arith) _ _ (c .before .others .given .1)
 
 -- A refused text.
-returns : tie.Need-returns
-returns c =
+refuses-first : tie.Need-returns
+refuses-first c =
     let told = c .before .enum-told .given in
     let call = c .before .before .before .before in
     first-refused (refused-as (call .read-tree .ensures) (told .0 .0) _ (told .1) (c .records-refusal .ensures))
 
-returns-2 : tie.Need-returns-2
-returns-2 c =
+refuses-second : tie.Need-returns-2
+refuses-second c =
     let told = c .before .enum-told2 .given in
     let call = c .before .before .before .before in
     second-refused (first-tree (first call) .is)
@@ -62,28 +62,28 @@ part-length n arena h e = sym (length-take-le n arena (omega arith))
 array-share-prefix-arena : tie.Need-array-share-prefix-arena
 array-share-prefix-arena c = let h = first-tree (first (second-call c)) in omega (arith, h .fits)
 
-slice-aggregate-same-numbers : tie.Need-slice-aggregate-same-numbers
-slice-aggregate-same-numbers c =
+first-part-length : tie.Need-slice-aggregate-same-numbers
+first-part-length c =
     let h = first-tree (first (second-call (c .before))) in
     part-length _ _ (h .fits) (omega arith)
 
 array-share-prefix-other : tie.Need-array-share-prefix-other
 array-share-prefix-other c = let h = second-tree (c .before) in omega (arith, h .fits)
 
-slice-aggregate-same-numbers-2 : tie.Need-slice-aggregate-same-numbers-2
-slice-aggregate-same-numbers-2 c =
+second-part-length : tie.Need-slice-aggregate-same-numbers-2
+second-part-length c =
     let h = second-tree (c .before .before) in
     part-length _ _ (h .fits) (omega arith)
 
 -- One tree, or two.
-returns-3 : tie.Need-returns-3
-returns-3 c =
+one-tree : tie.Need-returns-3
+one-tree c =
     let trees = second (c .before) in
     are-one (first-tree (first (second-call trees))) (second-tree trees)
     (sym (c .before .same-numbers .ensures) ∙ c .if1 .taken)
 
-returns-4 : tie.Need-returns-4
-returns-4 c =
+two-trees : tie.Need-returns-4
+two-trees c =
     let trees = second (c .before) in
     are-two (first-tree (first (second-call trees))) (second-tree trees)
     (sym (c .before .same-numbers .ensures) ∙ c .if1 .left)
@@ -93,6 +93,6 @@ same-rule-spec =
     tie.close
     (tie.spec
     (λ c. search needs) (λ c κs. search needs) (λ c. search needs) (λ c. search needs) (λ c κs. search needs)
-    returns (λ c. search needs) (λ c κs. search needs) (λ c. search needs) (λ c. search needs)
-    (λ c κs. search needs) returns-2 array-share-prefix-arena slice-aggregate-same-numbers array-share-prefix-other
-    slice-aggregate-same-numbers-2 (λ c κs. search needs) returns-3 returns-4)
+    refuses-first (λ c. search needs) (λ c κs. search needs) (λ c. search needs) (λ c. search needs)
+    (λ c κs. search needs) refuses-second array-share-prefix-arena first-part-length array-share-prefix-other
+    second-part-length (λ c κs. search needs) one-tree two-trees)
