@@ -9,13 +9,13 @@ use Rattle.lists.proofs.Lines.{take-line}
 use Rattle.reader.proofs.rule_at.Statement.{statement}
 use Rattle.reader.proofs.rule_at.Tie as tie
 
-returns : tie.Need-returns
-returns c =
+too-short : tie.Need-returns
+too-short c =
     let args = c .before .before .before .args in
     sym (line-past (args .s .now) (args .at + 6) (omega arith))
 
-returns-2 : tie.Need-returns-2
-returns-2 c =
+past-end : tie.Need-returns-2
+past-end c =
     let args = c .before .before .before .before .args in
     sym (line-past (args .s .now) (args .at + 6) (omega arith))
 
@@ -27,8 +27,8 @@ inside c =
     let args = c .before .before .before .before .args in
     omega (arith, c .line-length .ensures, line-fits (args .s .now) (args .at + 6) (omega arith))
 
-returns-3 : tie.Need-returns-3
-returns-3 c =
+the-line : tie.Need-returns-3
+the-line c =
     let args = c .before .before .before .before .before .args in
     let rest = drop (args .at + 6) (args .s .now) in
     let n = c .before .line-length .result in
@@ -40,14 +40,14 @@ rule-at-spec =
     tie.close
     (tie.spec
     (λ c. search needs)
-    returns
+    too-short
     (λ c. search needs)
     (λ c. search needs)
-    returns-2
+    past-end
     (λ c. search needs)
     (λ c κs. omega arith)
     (λ c. omega (arith, inside c))
     (λ c. search needs)
     (λ c. search needs)
     (λ c. omega (arith, inside c))
-    returns-3)
+    the-line)
