@@ -3,11 +3,11 @@ use borrow.Author.Needs.{needs}
 use Rattle.cards.proofs.count_content.Statement.{statement}
 use Rattle.cards.proofs.count_content.Tie as tie
 
-returns : tie.Need-returns
-returns c ps l = rw (← c .before .before .count-line .ensures, c .enum-told .given .1)
+broken : tie.Need-returns
+broken c ps l = rw (← c .before .before .count-line .ensures, c .enum-told .given .1)
 
-returns-2 : tie.Need-returns-2
-returns-2 c ps l = rw (← c .before .before .before .count-line .ensures, c .before .k .given .1)
+counted : tie.Need-returns-2
+counted c ps l = rw (← c .before .before .before .count-line .ensures, c .before .k .given .1)
 
 pub count-content-spec : {M : Type 1} → statement M
 count-content-spec =
@@ -16,5 +16,5 @@ count-content-spec =
     (λ c κs. search needs)
     (λ c. search needs)
     (λ c. search needs)
-    returns
-    returns-2)
+    broken
+    counted)

@@ -6,23 +6,23 @@ use Rattle.cards.proofs.decimal_before_comma.Statement.{statement}
 use Rattle.cards.proofs.decimal_before_comma.Tie as tie
 
 -- No number; no byte after it; another byte than a comma; a comma.
-returns : tie.Need-returns
-returns c = comma-missing (c .before .before .decimal-at .ensures) (c .enum-told .given .1)
+no-number : tie.Need-returns
+no-number c = comma-missing (c .before .before .decimal-at .ensures) (c .enum-told .given .1)
 
-returns-2 : tie.Need-returns-2
-returns-2 c =
+no-byte : tie.Need-returns-2
+no-byte c =
     let value = c .before .before in
     let read = value .before .before in
     comma-short (read .decimal-at .ensures) (value .value .given .1) (c .if1 .taken)
 
-returns-3 : tie.Need-returns-3
-returns-3 c =
+no-comma : tie.Need-returns-3
+no-comma c =
     let value = c .before .before .before .before in
     let read = value .before .before in
     comma-unlike (read .decimal-at .ensures) (value .value .given .1) (c .before .before .if1 .left) (c .if2 .taken)
 
-returns-4 : tie.Need-returns-4
-returns-4 c =
+comma : tie.Need-returns-4
+comma c =
     let value = c .before .before .before .before in
     let read = value .before .before in
     comma-found (read .decimal-at .ensures) (value .value .given .1) (c .before .before .if1 .left) (c .if2 .left)
@@ -34,9 +34,9 @@ decimal-before-comma-spec =
     (λ c κs. search needs)
     (λ c. search needs)
     (λ c. search needs)
-    returns
-    returns-2
+    no-number
+    no-byte
     (λ c. search needs)
-    returns-3
+    no-comma
     (λ c. search needs)
-    returns-4)
+    comma)

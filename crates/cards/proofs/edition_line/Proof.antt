@@ -5,19 +5,19 @@ use Rattle.cards.specs.Says.{editionOf}
 use Rattle.cards.proofs.edition_line.Statement.{statement}
 use Rattle.cards.proofs.edition_line.Tie as tie
 
-returns : tie.Need-returns
+other-length : tie.Need-returns
 unfolding editionOf
-returns c = simp (ne-eqb _ _ (c .if1 .taken))
+other-length c = simp (ne-eqb _ _ (c .if1 .taken))
 
-returns-2 : tie.Need-returns-2
+right-length : tie.Need-returns-2
 unfolding editionOf
-returns-2 c = rw (eq-eqb _ _ (c .before .before .if1 .left)) (c .has-prefix .ensures)
+right-length c = rw (eq-eqb _ _ (c .before .before .if1 .left)) (c .has-prefix .ensures)
 
 pub edition-line-spec : {M : Type 1} → statement M
 edition-line-spec =
     tie.close
     (tie.spec
-    returns
+    other-length
     (λ c. search needs)
     (λ c κs. search needs)
-    returns-2)
+    right-length)

@@ -14,11 +14,11 @@ Inv-loop s w k₀ k = Matching w s k
 abbrev μ-loop : tie.MeasureT-loop
 μ-loop s w k₀ k = length w - k
 
-returns : tie.Need-returns Inv-loop μ-loop
-returns c = match-short (c .before .before .loop .inv) (omega arith) (omega arith)
+too-short : tie.Need-returns Inv-loop μ-loop
+too-short c = match-short (c .before .before .loop .inv) (omega arith) (omega arith)
 
-returns-2 : tie.Need-returns-2 Inv-loop μ-loop
-returns-2 c =
+unlike : tie.Need-returns-2 Inv-loop μ-loop
+unlike c =
     let loop = c .before .before .before .before .before .loop in
     match-miss (loop .inv) (omega arith) (omega arith) (c .if2 .taken)
 
@@ -27,8 +27,8 @@ loop-again c =
     let loop = c .before .before .before .before .before .loop in
     match-more (loop .inv) (omega arith) (omega arith) (c .if2 .left)
 
-returns-3 : tie.Need-returns-3 Inv-loop μ-loop
-returns-3 c = match-all (c .before .loop .inv) (omega arith)
+all-alike : tie.Need-returns-3 Inv-loop μ-loop
+all-alike c = match-all (c .before .loop .inv) (omega arith)
 
 pub has-prefix-spec : {M : Type 1} → statement M
 has-prefix-spec =
@@ -37,11 +37,11 @@ has-prefix-spec =
     Inv-loop
     μ-loop
     (λ c. record { rest = refl; within = omega arith })
-    returns
+    too-short
     (λ c. search needs)
     (λ c. search needs)
-    returns-2
+    unlike
     (λ c. search needs)
     (λ c. omega arith)
     loop-again
-    returns-3)
+    all-alike)

@@ -7,11 +7,11 @@ use Rattle.cards.proofs.Hex.{hex-low, hex-high, digit-at, digit-small}
 use Rattle.cards.proofs.hex_digit.Statement.{statement}
 use Rattle.cards.proofs.hex_digit.Tie as tie
 
-returns : tie.Need-returns
-returns c = sym (hex-low (c .before .args .b) (c .if1 .taken))
+below : tie.Need-returns
+below c = sym (hex-low (c .before .args .b) (c .if1 .taken))
 
-returns-2 : tie.Need-returns-2
-returns-2 c = sym (hex-high (c .before .before .args .b) (c .if2 .taken))
+above : tie.Need-returns-2
+above c = sym (hex-high (c .before .before .args .b) (c .if2 .taken))
 
 sub-result : tie.Need-sub-result
 sub-result c =
@@ -23,12 +23,12 @@ cast-result c =
     let b = c .before .before .before .before .args .b in
     omega (arith, digit-small b (omega arith) (omega arith))
 
-returns-3 : tie.Need-returns-3
-returns-3 c =
+in-table : tie.Need-returns-3
+in-table c =
     let b = c .before .before .before .before .args .b in
     omega (arith, digit-at b (omega arith) (omega arith))
 
 pub hex-digit-spec : {M : Type 1} → statement M
 hex-digit-spec =
     tie.close
-    (tie.spec returns returns-2 (λ c. search needs) (λ c. search needs) sub-result cast-result returns-3)
+    (tie.spec below above (λ c. search needs) (λ c. search needs) sub-result cast-result in-table)

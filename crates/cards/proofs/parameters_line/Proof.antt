@@ -18,9 +18,9 @@ Inv-loop s ps₀ at₀ i₀ ps at i = Listing s ps at i
 abbrev μ-loop : tie.MeasureT-loop
 μ-loop s ps₀ at₀ i₀ ps at i = 7 - i
 
-returns : tie.Need-returns Inv-loop μ-loop
+no-prefix : tie.Need-returns Inv-loop μ-loop
 unfolding parametersOf
-returns c = (
+no-prefix c = (
   rw (c .plain .ensures .0, sym (c .before .before .has-prefix .ensures) ∙ not-true _ (c .before .if1 .taken)),
   λ h. c .plain .ensures .1,
 )
@@ -30,8 +30,8 @@ loop-holds c =
     listing-begun _ _ (sym (c .before .has-prefix .ensures) ∙ not-false _ (c .if1 .left)) (omega arith)
 
 -- One of the first seven numbers: broken, or before a comma.
-returns-2 : tie.Need-returns-2 Inv-loop μ-loop
-returns-2 c =
+early-broken : tie.Need-returns-2 Inv-loop μ-loop
+early-broken c =
     let number = c .before .before .before in (
       rw (c .plain2 .ensures .0)
           (ap parametersSay
@@ -47,8 +47,8 @@ loop-again c =
     (c .before .value .given .1)
 
 -- The eighth: broken, before another byte, at the end of the line.
-returns-3 : tie.Need-returns-3 Inv-loop μ-loop
-returns-3 c =
+last-broken : tie.Need-returns-3 Inv-loop μ-loop
+last-broken c =
     let number = c .before .before .before in (
       rw (c .plain3 .ensures .0)
           (ap parametersSay
@@ -57,8 +57,8 @@ returns-3 c =
       λ h. c .plain3 .ensures .1,
     )
 
-returns-4 : tie.Need-returns-4 Inv-loop μ-loop
-returns-4 c =
+bytes-after : tie.Need-returns-4 Inv-loop μ-loop
+bytes-after c =
     let value = c .before .before .before in
     let number = value .before .before in (
       rw (c .plain4 .ensures .0)
@@ -68,8 +68,8 @@ returns-4 c =
       λ h. c .plain4 .ensures .1,
     )
 
-returns-5 : tie.Need-returns-5 Inv-loop μ-loop
-returns-5 c =
+eight-read : tie.Need-returns-5 Inv-loop μ-loop
+eight-read c =
     let value = c .before .before in
     let number = value .before .before in (
       ap parametersSay
@@ -87,13 +87,13 @@ parameters-line-spec =
     (λ c. search needs)
     (λ c κs. search needs)
     (λ c κs. search needs)
-    returns
+    no-prefix
     loop-holds
     (λ c κs. search needs)
     (λ c. search needs)
     (λ c. search needs)
     (λ c κs. search needs)
-    returns-2
+    early-broken
     (λ c. search needs)
     (λ c. search needs)
     (λ c. search needs)
@@ -103,8 +103,8 @@ parameters-line-spec =
     (λ c. search needs)
     (λ c. search needs)
     (λ c κs. search needs)
-    returns-3
+    last-broken
     (λ c κs. search needs)
-    returns-4
+    bytes-after
     (λ c. search needs)
-    returns-5)
+    eight-read)

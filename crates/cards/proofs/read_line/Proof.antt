@@ -7,17 +7,17 @@ use Rattle.cards.proofs.read_line.Statement.{statement}
 use Rattle.cards.proofs.read_line.Tie as tie
 
 -- An over-long line.
-returns : tie.Need-returns
+over-long : tie.Need-returns
 unfolding lineSays
-returns c = (
+over-long c = (
   rw (c .plain .ensures .0, le-leb _ _ (c .before .before .if1 .taken)) (c .before .broken .ensures _ _),
   λ h. c .plain .ensures .1,
 )
 
 -- The edition: fine, or not.
-returns-2 : tie.Need-returns-2
+edition-fine : tie.Need-returns-2
 unfolding lineSays
-returns-2 c =
+edition-fine c =
     let line = c .before .before .before in (
       rw (
         c .plain2 .ensures .0,
@@ -29,9 +29,9 @@ returns-2 c =
       λ h. c .plain2 .ensures .1,
     )
 
-returns-4 : tie.Need-returns-4
+edition-broken : tie.Need-returns-4
 unfolding lineSays
-returns-4 c =
+edition-broken c =
     let line = c .before .before .before in (
       rw (
         c .plain3 .ensures .0,
@@ -44,18 +44,18 @@ returns-4 c =
     )
 
 -- The parameters.
-returns-5 : tie.Need-returns-5
+parameters : tie.Need-returns-5
 unfolding lineSays
-returns-5 c =
+parameters c =
     let line = c .before in (
       rw (lt-leb _ _ (line .before .before .if1 .left), line .enum-told2 .given .1) (c .parameters-line .ensures .0),
       c .parameters-line .ensures .1,
     )
 
 -- The rule: `watch=`, or not.
-returns-3 : tie.Need-returns-3
+rule-fine : tie.Need-returns-3
 unfolding lineSays
-returns-3 c =
+rule-fine c =
     let begun = c .before .before in
     let line = begun .before .before in (
       rw (
@@ -68,9 +68,9 @@ returns-3 c =
       λ h. c .plain4 .ensures .1,
     )
 
-returns-6 : tie.Need-returns-6
+rule-broken : tie.Need-returns-6
 unfolding lineSays
-returns-6 c =
+rule-broken c =
     let begun = c .before .before in
     let line = begun .before .before in (
       rw (
@@ -84,18 +84,18 @@ returns-6 c =
     )
 
 -- The number of ticks, and a tick.
-returns-7 : tie.Need-returns-7
+count : tie.Need-returns-7
 unfolding lineSays
-returns-7 c =
+count c =
     let line = c .before .before in (
       rw (c .plain6 .ensures .0, lt-leb _ _ (line .before .before .if1 .left), line .enum-told4 .given .1)
           (c .before .count-content .ensures _ _),
       λ h. c .plain6 .ensures .1,
     )
 
-returns-8 : tie.Need-returns-8
+tick : tie.Need-returns-8
 unfolding lineSays
-returns-8 c =
+tick c =
     let line = c .before .before in (
       rw (c .plain7 .ensures .0, lt-leb _ _ (line .before .before .if1 .left), line .enum-told5 .given .1)
           (c .before .tick-content .ensures _ _),
@@ -103,9 +103,9 @@ returns-8 c =
     )
 
 -- The card is over.
-returns-9 : tie.Need-returns-9
+over : tie.Need-returns-9
 unfolding lineSays
-returns-9 c =
+over c =
     let line = c .before in (
       rw (c .plain8 .ensures .0, lt-leb _ _ (line .before .before .if1 .left), line .enum-told6 .given .1),
       λ h. c .plain8 .ensures .1,
@@ -117,11 +117,11 @@ read-line-spec =
     (tie.spec
     (λ c κs. search needs)
     (λ c κs. search needs)
-    returns
+    over-long
     (λ c. search needs)
     (λ c κs. search needs)
     (λ c κs. search needs)
-    returns-2
+    edition-fine
     (λ c κs. search needs)
     (λ c. search needs)
     (λ c κs. search needs)
@@ -129,7 +129,7 @@ read-line-spec =
     (λ c. search needs)
     (λ c κs. search needs)
     (λ c κs. search needs)
-    returns-3
+    rule-fine
     (λ c κs. search needs)
     (λ c. search needs)
     (λ c κs. search needs)
@@ -139,9 +139,9 @@ read-line-spec =
     (λ c κs. search needs)
     (λ c. search needs)
     (λ c κs. search needs)
-    returns-4
-    returns-5
-    returns-6
-    returns-7
-    returns-8
-    returns-9)
+    edition-broken
+    parameters
+    rule-broken
+    count
+    tick
+    over)

@@ -32,19 +32,19 @@ module _ (s : List ℕ) (at : ℕ) where
         let z : at + 20 - at ≡ 20 = omega arith in
         rw (lt-leb (length (drop at s)) 20 long, getD-drop at s 20 0, eq-eqb _ _ e, z)
 
-returns : tie.Need-returns
-returns c = let args = c .before .before .args in short (args .s .now) (args .at) (omega arith)
+short-input : tie.Need-returns
+short-input c = let args = c .before .before .args in short (args .s .now) (args .at) (omega arith)
 
-returns-2 : tie.Need-returns-2
-returns-2 c = let args = c .before .before .before .args in short (args .s .now) (args .at) (omega arith)
+short-rest : tie.Need-returns-2
+short-rest c = let args = c .before .before .before .args in short (args .s .now) (args .at) (omega arith)
 
-returns-3 : tie.Need-returns-3
-returns-3 c =
+no-line-end : tie.Need-returns-3
+no-line-end c =
     let args = c .before .before .before .before .before .args in
     unended (args .s .now) (args .at) (omega arith) (c .if3 .taken)
 
-returns-4 : tie.Need-returns-4
-returns-4 c =
+line-ended : tie.Need-returns-4
+line-ended c =
     let line = c .before .before in
     let args = line .before .before .before .before .before .args in
     c .tick-line .ensures ∙ ended (args .s .now) (args .at) (omega arith) (line .if3 .left)
@@ -53,14 +53,14 @@ pub tick-at-spec : {M : Type 1} → statement M
 tick-at-spec =
     tie.close
     (tie.spec
-    returns
+    short-input
     (λ c. search needs)
-    returns-2
+    short-rest
     (λ c. search needs)
     (λ c. search needs)
-    returns-3
+    no-line-end
     (λ c. search needs)
     (λ c. search needs)
     (λ c. search needs)
     (λ c κs. search needs)
-    returns-4)
+    line-ended)

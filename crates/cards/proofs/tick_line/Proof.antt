@@ -16,23 +16,23 @@ abbrev μ-loop : tie.MeasureT-loop
 μ-loop s b x₀ i₀ x i = 20 - i
 
 -- Another length, another byte than `t`, `=` or the comma, a start below 0 or above 1.
-returns : tie.Need-returns Inv-loop μ-loop
+other-length : tie.Need-returns Inv-loop μ-loop
 unfolding tickLine
-returns c = simp (ne-eqb _ _ (c .if1 .taken))
+other-length c = simp (ne-eqb _ _ (c .if1 .taken))
 
-returns-2 : tie.Need-returns-2 Inv-loop μ-loop
+no-t : tie.Need-returns-2 Inv-loop μ-loop
 unfolding tickLine
-returns-2 c = simp (eq-eqb _ _ (c .before .before .if1 .left), ne-eqb _ _ (c .if2 .taken))
+no-t c = simp (eq-eqb _ _ (c .before .before .if1 .left), ne-eqb _ _ (c .if2 .taken))
 
-returns-3 : tie.Need-returns-3 Inv-loop μ-loop
+no-equals : tie.Need-returns-3 Inv-loop μ-loop
 unfolding tickLine
-returns-3 c =
+no-equals c =
     let t = c .before .before in
     simp (eq-eqb _ _ (t .before .before .if1 .left), eq-eqb _ _ (t .if2 .left), ne-eqb _ _ (c .if3 .taken))
 
-returns-4 : tie.Need-returns-4 Inv-loop μ-loop
+no-comma : tie.Need-returns-4 Inv-loop μ-loop
 unfolding tickLine
-returns-4 c =
+no-comma c =
     let equals = c .before .before in
     let t = equals .before .before in
     simp (
@@ -42,9 +42,9 @@ returns-4 c =
       ne-eqb _ _ (c .if4 .taken),
     )
 
-returns-5 : tie.Need-returns-5 Inv-loop μ-loop
+start-below : tie.Need-returns-5 Inv-loop μ-loop
 unfolding tickLine
-returns-5 c =
+start-below c =
     let comma = c .before .before in
     let equals = comma .before .before in
     let t = equals .before .before in
@@ -56,9 +56,9 @@ returns-5 c =
       lt-ltb _ _ (c .if5 .taken),
     )
 
-returns-6 : tie.Need-returns-6 Inv-loop μ-loop
+start-above : tie.Need-returns-6 Inv-loop μ-loop
 unfolding tickLine
-returns-6 c =
+start-above c =
     let comma = c .before .before .before in
     let equals = comma .before .before in
     let t = equals .before .before in
@@ -88,8 +88,8 @@ loop-holds c =
       below = omega arith;
     }
 
-returns-7 : tie.Need-returns-7 Inv-loop μ-loop
-returns-7 c =
+no-digit : tie.Need-returns-7 Inv-loop μ-loop
+no-digit c =
     let inv = c .before .before .before .before .loop .inv in
     hexing-bad inv (omega arith) (c .before .hex-digit .ensures) (c .if7 .taken)
 
@@ -108,8 +108,8 @@ loop-again c =
     let inv = c .before .before .before .before .loop .inv in
     hexing-more inv (omega arith) (c .before .hex-digit .ensures) (c .if7 .left)
 
-returns-8 : tie.Need-returns-8 Inv-loop μ-loop
-returns-8 c = hexing-end (c .before .loop .inv) (omega arith)
+all-digits : tie.Need-returns-8 Inv-loop μ-loop
+all-digits c = hexing-end (c .before .loop .inv) (omega arith)
 
 pub tick-line-spec : {M : Type 1} → statement M
 tick-line-spec =
@@ -117,24 +117,24 @@ tick-line-spec =
     (tie.spec
     Inv-loop
     μ-loop
-    returns
+    other-length
     (λ c. search needs)
-    returns-2
+    no-t
     (λ c. search needs)
-    returns-3
+    no-equals
     (λ c. search needs)
-    returns-4
+    no-comma
     (λ c. search needs)
-    returns-5
-    returns-6
+    start-below
+    start-above
     loop-holds
     (λ c. omega (arith, c .before .before .loop .inv .twenty))
     (λ c κs. search needs)
-    returns-7
+    no-digit
     mul-x
     add-x
     (λ c. search needs)
     (λ c. omega arith)
     loop-again
     (λ c. search needs)
-    returns-8)
+    all-digits)
