@@ -3,15 +3,15 @@ use borrow.Author.Tests.{le-ltb, lt-ltb}
 use Rattle.lustre.proofs.is_letter.Statement.{statement}
 use Rattle.lustre.proofs.is_letter.Tie as tie
 
-returns : tie.Need-returns
-returns c = rw (lt-ltb 64 _ (c .if1 .taken))
+above-64 : tie.Need-returns
+above-64 c = rw (lt-ltb 64 _ (c .if1 .taken))
 
-returns-2 : tie.Need-returns-2
-returns-2 c = rw (le-ltb 64 _ (c .if1 .left))
+up-to-64 : tie.Need-returns-2
+up-to-64 c = rw (le-ltb 64 _ (c .if1 .left))
 
 pub is-letter-spec : {M : Type 1} → statement M
 is-letter-spec =
     tie.close
     (tie.spec
-    returns
-    returns-2)
+    above-64
+    up-to-64)
