@@ -33,8 +33,8 @@ records-refusal-requires : tie.Need-records-refusal-requires
 records-refusal-requires c κs = search needs
 
 -- The text is no rule.
-returns : tie.Need-returns
-returns c =
+no-rule : tie.Need-returns
+no-rule c =
     let told = c .before .enum-told .given in
     let call = c .before .before .before .before in
     let e = refused-as (call .read-tree .ensures) (told .0 .0) _ (told .1) (c .records-refusal .ensures) in
@@ -49,8 +49,8 @@ tree c =
     front-of (reading c .read-tree .ensures) (omega arith) (records .0 .0) _ (records .1)
 
 -- There is no room for a table.
-returns-2 : tie.Need-returns-2
-returns-2 c =
+short-table : tie.Need-returns-2
+short-table c =
     let h = tree (c .before) in
     let text = start (reading (c .before)) .args .text .now in
     (short-compiled text _ (h .tree) (h .is) (c .if1 .taken), no-room (h .is) (c .if1 .taken))
@@ -78,8 +78,8 @@ same-length : tie.Need-same-length
 same-length c = search needs
 
 -- The observer's equations are written.
-returns-3 : tie.Need-returns-3
-returns-3 c =
+emitted : tie.Need-returns-3
+emitted c =
     let roomy = c .before .before .before .before .before in
     let h = tree (roomy .before) in
     let args = start (reading (roomy .before)) .args in
@@ -95,11 +95,11 @@ compile-rule-spec =
     enum-known-records
     enum-told
     records-refusal-requires
-    returns
-    returns-2
+    no-rule
+    short-table
     array-share-prefix-arena
     slice-aggregate-emit-observer
     emit-observer-requires
     cast-t10
     same-length
-    returns-3)
+    emitted)
