@@ -76,30 +76,30 @@ module _ (c : tie.After-stage-after) where
 -- ---- the ways out
 
 -- The edition, the parameters, the number of ticks, a refusal, nothing.
-returns : tie.Need-returns
-returns c = rw (c .go-on .ensures) (ends (c .before .before .before) Line.Edition (c .before .enum-told .given .1))
+edition : tie.Need-returns
+edition c = rw (c .go-on .ensures) (ends (c .before .before .before) Line.Edition (c .before .enum-told .given .1))
 
-returns-2 : tie.Need-returns-2
-returns-2 c =
+parameters : tie.Need-returns-2
+parameters c =
     let told = c .before .before in
     rw (c .go-on2 .ensures) (ends (told .before .before) Line.Parameters (told .enum-told2 .given .1))
 
-returns-4 : tie.Need-returns-4
-returns-4 c =
+count : tie.Need-returns-4
+count c =
     let told = c .before .before in
     rw (c .go-on3 .ensures) (ends (told .before .before) (Line.Count _) (told .content .given .1))
 
-returns-6 : tie.Need-returns-6
-returns-6 c =
+refused : tie.Need-returns-6
+refused c =
     let told = c .before .before in
     rw (c .stop .ensures) (ends (told .before .before) (Line.Refused _) (told .content3 .given .1))
 
-returns-7 : tie.Need-returns-7
-returns-7 c = rw (c .stop2 .ensures) (ends (c .before .before .before) Line.Nothing (c .before .enum-told4 .given .1))
+nothing : tie.Need-returns-7
+nothing c = rw (c .stop2 .ensures) (ends (c .before .before .before) Line.Nothing (c .before .enum-told4 .given .1))
 
 -- The rule.
-returns-3 : tie.Need-returns-3
-returns-3 c =
+rule : tie.Need-returns-3
+rule c =
     let made = c .before .before .before .before .before in
     let told = made .before .before .before in
     rw (c .rule-answer .ensures)
@@ -109,8 +109,8 @@ returns-3 c =
 abbrev known : tie.After-on-tick → tie.After-content2
 known c = let lent = c .before .before .before .before in lent .before .before
 
-returns-5 : tie.Need-returns-5
-returns-5 c =
+tick : tie.Need-returns-5
+tick c =
     let made = c .before .before .before .before in
     let told = known made in
     made .on-tick .ensures ∙ ends (told .before .before) (Line.Tick _ _) (told .content2 .given .1)
@@ -139,15 +139,15 @@ on-line-spec =
     (λ c κs. search needs)
     (λ c. search needs)
     (λ c κs. search needs)
-    returns
-    returns-2
+    edition
+    parameters
     (λ c. search needs)
     (λ c. search needs)
-    returns-3
-    returns-4
+    rule
+    count
     (λ c. search needs)
     (λ c. search needs)
     (λ c. search needs)
-    returns-5
-    returns-6
-    returns-7)
+    tick
+    refused
+    nothing)

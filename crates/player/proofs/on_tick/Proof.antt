@@ -23,14 +23,14 @@ world c =
 
 -- ---- the ways out
 
-returns : tie.Need-returns
-returns c =
+verdict : tie.Need-returns
+verdict c =
     let told = c .before .before in
     rw (c .go-on .ensures)
     (step-ends _ _ _ (world (made told)) (S.Verdict _) _ _ _ (told .stepped .given .1) (made told .step .ensures))
 
-returns-2 : tie.Need-returns-2
-returns-2 c =
+refused : tie.Need-returns-2
+refused c =
     let told = c .before .before in
     rw (c .stop .ensures)
     (step-ends _ _ _ (world (made-too told)) (S.Refused _) _ _ _ (told .stepped2 .given .1)
@@ -47,7 +47,7 @@ on-tick-spec =
     (λ c κs. search needs)
     (λ c. search needs)
     (λ c. search needs)
-    returns
+    verdict
     (λ c. search needs)
     (λ c. search needs)
-    returns-2)
+    refused)

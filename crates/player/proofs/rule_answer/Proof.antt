@@ -3,11 +3,11 @@ use borrow.Author.Needs.{needs}
 use Rattle.player.proofs.rule_answer.Statement.{statement}
 use Rattle.player.proofs.rule_answer.Tie as tie
 
-returns : tie.Need-returns
-returns c = rw (c .stop .ensures, c .before .before .compiled .given .1)
+refused : tie.Need-returns
+refused c = rw (c .stop .ensures, c .before .before .compiled .given .1)
 
-returns-2 : tie.Need-returns-2
-returns-2 c = rw (c .go-on .ensures, c .before .before .compiled2 .given .1)
+compiled : tie.Need-returns-2
+compiled c = rw (c .go-on .ensures, c .before .before .compiled2 .given .1)
 
 pub rule-answer-spec : {M : Type 1} → statement M
 rule-answer-spec =
@@ -17,5 +17,5 @@ rule-answer-spec =
     (λ c κs. search needs)
     (λ c. search needs)
     (λ c κs. search needs)
-    returns
-    returns-2)
+    refused
+    compiled)

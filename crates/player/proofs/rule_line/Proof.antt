@@ -11,22 +11,22 @@ abbrev compiled : tie.After-fresh-state → tie.After-compile-rule
 compiled c = let answer = c .before .before .before .before in answer .before .before .before .before
 
 -- Refused; compiled, with no fresh state, and with one.
-returns : tie.Need-returns
+refused : tie.Need-returns
 unfolding ruleMade
-returns c =
+refused c =
     let made = c .before .before .before .before .before in
     rw (← made .before .before .rule-part .ensures, ← made .compile-rule .ensures .0, c .before .compiled .given .1)
 
-returns-2 : tie.Need-returns-2
-returns-2 c =
+fresh-refused : tie.Need-returns-2
+fresh-refused c =
     let fresh = c .before .before .before .before .before in
     let made = compiled fresh in
     rule-fresh _ _ _ _ _ _ _ _ _ _ (made .before .before .rule-part .ensures) (made .compile-rule .ensures .0)
     (fresh .before .before .before .before .compiled2 .given .1) (fresh .fresh-state .ensures)
     (ap (freshAs _) (c .before .fresh .given .1))
 
-returns-3 : tie.Need-returns-3
-returns-3 c =
+fresh-made : tie.Need-returns-3
+fresh-made c =
     let fresh = c .before .before .before .before in
     let made = compiled fresh in
     rule-fresh _ _ _ _ _ _ _ _ _ _ (made .before .before .rule-part .ensures) (made .compile-rule .ensures .0)
@@ -45,10 +45,10 @@ rule-line-spec =
     (λ c. search needs)
     (λ c. search needs)
     (λ c. search needs)
-    returns
+    refused
     (λ c. search needs)
     (λ c. search needs)
-    returns-2
+    fresh-refused
     (λ c. search needs)
     (λ c. search needs)
-    returns-3)
+    fresh-made)
