@@ -4,8 +4,8 @@ use Rattle.emitter.proofs.Stack.{before-is}
 use Rattle.emitter.proofs.before.Statement.{statement}
 use Rattle.emitter.proofs.before.Tie as tie
 
-returns-2 : tie.Need-returns-2
-returns-2 c =
+before-other : tie.Need-returns-2
+before-other c =
     let the-args = c .before .args in
     let the-if1 = c .if1 in
     before-is (the-args .n) (the-if1 .left)
@@ -13,13 +13,13 @@ returns-2 c =
 sub-result : tie.Need-sub-result
 sub-result c = search needs
 
-returns : tie.Need-returns
-returns c = search needs
+before-zero : tie.Need-returns
+before-zero c = search needs
 
 pub before-spec : {M : Type 1} → statement M
 before-spec =
     tie.close
     (tie.spec
     sub-result
-    returns
-    returns-2)
+    before-zero
+    before-other)

@@ -4,15 +4,15 @@ use Rattle.emitter.proofs.Records.{marked-signal, marked-other}
 use Rattle.emitter.proofs.mark.Statement.{statement}
 use Rattle.emitter.proofs.mark.Tie as tie
 
-returns : tie.Need-returns
-returns c =
+of-signal : tie.Need-returns
+of-signal c =
     let call = c .before .before in
     let test = call .before .before .before in
     let args = test .before .before .before .args in
     marked-signal (args .x) (args .named .now) (test .if1 .taken) (call .store .ensures)
 
-returns-2 : tie.Need-returns-2
-returns-2 c =
+of-other : tie.Need-returns-2
+of-other c =
     let args = c .before .before .before .args in
     marked-other (args .x) (args .named .now) (c .if1 .left)
 
@@ -23,5 +23,5 @@ mark-spec =
     (λ c. search needs)
     (λ c κs. search needs)
     (λ c. search needs)
-    returns
-    returns-2)
+    of-signal
+    of-other)

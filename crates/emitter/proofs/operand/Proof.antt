@@ -5,15 +5,15 @@ use Rattle.emitter.proofs.Stack.{operand-in, operand-out}
 use Rattle.emitter.proofs.operand.Statement.{statement}
 use Rattle.emitter.proofs.operand.Tie as tie
 
-returns : tie.Need-returns
-returns c =
+is-there : tie.Need-returns
+is-there c =
     let the-at = c .number-at in
     let the-args = c .before .before .before .args in
     let the-if1 = c .before .if1 in
     the-at .ensures ∙ operand-in (the-args .stack .now) (the-args .height) (the-args .back) (the-if1 .taken)
 
-returns-2 : tie.Need-returns-2
-returns-2 c =
+is-none : tie.Need-returns-2
+is-none c =
     let the-args = c .before .before .args in
     let the-if1 = c .if1 in
     operand-out (the-args .stack .now) (the-args .height) (the-args .back) (the-if1 .left)
@@ -34,5 +34,5 @@ operand-spec =
     sub-number-at
     sub-number-at-2
     number-at-requires
-    returns
-    returns-2)
+    is-there
+    is-none)

@@ -30,12 +30,12 @@ slice-write-t-3 c = simp length-set (omega arith)
 slice-write-t-4 : tie.Need-slice-write-t-4
 slice-write-t-4 c = simp length-set (omega arith)
 
-returns : tie.Need-returns
-returns c = written-one _ _ _ _ _ _
+in-table : tie.Need-returns
+in-table c = written-one _ _ _ _ _ _
 
 -- At the end of the table each number by itself.
-returns-2 : tie.Need-returns-2
-returns-2 c =
+at-end : tie.Need-returns-2
+at-end c =
     let args = start (first (second (third (c .before .before)))) .args in
     cc (written-one (args .t .now) (args .o) (args .kind) (args .a) (args .b) (args .c))
 
@@ -57,7 +57,7 @@ put-spec =
     (λ c. search needs)
     slice-write-t-4
     (λ c. simp length-set)
-    returns
+    in-table
     (λ c κs. search needs)
     (λ c. search needs)
     (λ c κs. search needs)
@@ -66,4 +66,4 @@ put-spec =
     (λ c. search needs)
     (λ c κs. search needs)
     (λ c. search needs)
-    returns-2)
+    at-end)

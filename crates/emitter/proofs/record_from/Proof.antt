@@ -6,13 +6,13 @@ use lib.ListN.{length}
 use Rattle.emitter.proofs.record_from.Statement.{statement}
 use Rattle.emitter.proofs.record_from.Tie as tie
 
-returns : tie.Need-returns
-returns c =
+of-arena : tie.Need-returns
+of-arena c =
     let args = c .before .before .before .args in
     rw (le-leb (args .i + 4) (length (args .arena .now)) (c .before .if1 .taken)) (c .record-at .ensures)
 
-returns-2 : tie.Need-returns-2
-returns-2 c =
+of-whole : tie.Need-returns-2
+of-whole c =
     let args = c .before .before .args in
     rw (lt-leb (args .i + 4) (length (args .arena .now)) (c .if1 .left))
 
@@ -22,5 +22,5 @@ record-from-spec =
     (tie.spec
     (λ c. omega (arith, c .before .pre))
     (λ c κs. omega (arith, c .if1 .taken))
-    returns
-    returns-2)
+    of-arena
+    of-whole)

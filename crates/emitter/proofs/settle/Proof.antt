@@ -11,16 +11,16 @@ flagged c = c .before .before
 abbrev start : tie.After-number-at → tie.Start
 start c = c .before .before .before .before
 
-returns : tie.Need-returns
-returns c =
+not-named : tie.Need-returns
+not-named c =
     let place = c .before .before .before in
     let flag = flagged place in
     let args = start flag .args in
     signal-other (args .table .now) (args .named .now) (args .j) (args .next) (flag .number-at .ensures)
     (c .if1 .taken) (place .store .ensures)
 
-returns-2 : tie.Need-returns-2
-returns-2 c =
+is-named : tie.Need-returns-2
+is-named c =
     let call = c .before .before in
     let test = call .before .before in
     let place = test .before .before .before in
@@ -36,10 +36,10 @@ settle-spec =
     (λ c κs. search needs)
     (λ c κs. search needs)
     (λ c. search needs)
-    returns
+    not-named
     (λ c. search needs)
     (λ c κs. search needs)
     (λ c. search needs)
     (λ c. search needs)
     (λ c. search needs)
-    returns-2)
+    is-named)

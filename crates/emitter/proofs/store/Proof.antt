@@ -5,8 +5,8 @@ use lib.Seq.{set-out}
 use Rattle.emitter.proofs.store.Statement.{statement}
 use Rattle.emitter.proofs.store.Tie as tie
 
-returns-2 : tie.Need-returns-2
-returns-2 c =
+no-room : tie.Need-returns-2
+no-room c =
     let the-args = c .before .args in
     let the-if1 = c .if1 in
     sym (set-out (the-args .t .now) (the-args .i) (the-args .v) (the-if1 .left))
@@ -20,8 +20,8 @@ slice-write-t c = search needs
 same-length : tie.Need-same-length
 same-length c = search needs
 
-returns : tie.Need-returns
-returns c = search needs
+has-room : tie.Need-returns
+has-room c = search needs
 
 pub store-spec : {M : Type 1} → statement M
 store-spec =
@@ -30,5 +30,5 @@ store-spec =
     mul-t
     slice-write-t
     same-length
-    returns
-    returns-2)
+    has-room
+    no-room)

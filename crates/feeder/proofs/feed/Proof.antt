@@ -103,8 +103,8 @@ module _ (c : tie.After-feed-ticks Inv-loop μ-loop) where
 loop-holds : tie.Need-loop-holds Inv-loop μ-loop
 loop-holds c = (begun _ _ _ (c .before .before .before .before .before .pre), refl, refl, refl)
 
-add-used : tie.Need-add-used Inv-loop μ-loop
-add-used c = let here = called (c .before) in omega (arith, run here .within, size here)
+add-used-ticks : tie.Need-add-used Inv-loop μ-loop
+add-used-ticks c = let here = called (c .before) in omega (arith, run here .within, size here)
 
 add-at : tie.Need-add-at Inv-loop μ-loop
 add-at c =
@@ -164,8 +164,8 @@ room c =
     said-room (run (ran line)) (line .line-length .result) (line .line-length .ensures)
     (ended (whole (answered c))) (answered c .on-line .ensures)
 
-add-used-2 : tie.Need-add-used-2 Inv-loop μ-loop
-add-used-2 c =
+add-used-line : tie.Need-add-used-2 Inv-loop μ-loop
+add-used-line c =
     let line = whole (answered (put c)) in
     omega (arith, ended line, size (ran (line .before)))
 
@@ -206,7 +206,7 @@ feed-spec =
     (λ c. written-room (loop-at c .loop .inv .0))
     (λ c. search needs)
     (λ c κs. rest-room (loop-at (c .before) .loop .inv .0))
-    add-used
+    add-used-ticks
     add-at
     (λ c κs. search needs)
     add-to
@@ -218,6 +218,6 @@ feed-spec =
     returns
     on-line-requires
     (λ c κs. room c)
-    add-used-2
+    add-used-line
     loop-less
     loop-again)

@@ -16,8 +16,8 @@ abbrev begun : tie.Else1 → tie.Start
 begun c = c .before .before
 
 -- It is short.
-returns : tie.Need-returns
-returns c =
+short : tie.Need-returns
+short c =
     let args = c .before .before .before .args in
     let h = c .before .if1 .taken in (
       c .fed-to .ensures ∙ sym (tail-short (args .w) (args .used) (args .to) (args .at) h),
@@ -39,8 +39,8 @@ put-requires c κs =
     rw (says over)
     (rw (bytes-long (args .w .stage .phase) (args .to - args .used) (over .before .if1 .left)) at (start .pre .1))
 
-returns-2 : tie.Need-returns-2
-returns-2 c =
+over-long : tie.Need-returns-2
+over-long c =
     let put = c .before .before .before in
     let over = put .before .before .before in
     let args = begun (over .before) .args in
@@ -59,9 +59,9 @@ feed-tail-spec =
     (tie.spec
     (λ c. search needs)
     (λ c κs. search needs)
-    returns
+    short
     (λ c κs. search needs)
     put-requires
     (λ c κs. search needs)
     (λ c. search needs)
-    returns-2)
+    over-long)

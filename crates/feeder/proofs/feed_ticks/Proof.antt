@@ -40,16 +40,16 @@ admitted c =
     }
 
 -- Another phase; a step that would be refused.
-returns : tie.Need-returns
-returns c =
+other-phase : tie.Need-returns
+other-phase c =
     let another = c .before .match .keys2 in
     rw (c .fed-to .ensures) (
       runs-none _ _ _,
       (λ admits more. absurd (miss (0 ∷ 1 ∷ 2 ∷ 3 ∷ 5 ∷ []) 4 (tt {0}) (rw (admits .phase) at another)), λ no. refl),
     )
 
-returns-2 : tie.Need-returns-2
-returns-2 c =
+step-refused : tie.Need-returns-2
+step-refused c =
     let refused = sym (c .before .enum-told3 .given .1) ∙ c .before .before .before .step-checked .ensures in
     rw (c .fed-to2 .ensures)
     (runs-none _ _ _, (λ admits more. absurd (failed-passed (refused ∙ admits .passes 0 0)), λ no. refl))
@@ -59,8 +59,8 @@ run-ticks-requires c κs =
     let known = ticks (passed c .before .before) in
     (entry known .pre (known .enum-told .given .1), admitted (passed c))
 
-returns-3 : tie.Need-returns-3
-returns-3 c =
+ticks-run : tie.Need-returns-3
+ticks-run c =
     let run = ran c .run-ticks .ensures in
     (run .0, (λ admits. run .1, λ no. absurd (no (admitted (passed (ran c .before))))))
 
@@ -70,16 +70,16 @@ feed-ticks-spec =
     (tie.spec
     (λ c. search needs)
     (λ c κs. search needs)
-    returns
+    other-phase
     (λ c κs. search needs)
     (λ c. search needs)
     (λ c. search needs)
     (λ c κs. search needs)
     (λ c. search needs)
     (λ c. search needs)
-    returns-2
+    step-refused
     run-ticks-requires
     (λ c. search needs)
     (λ c. search needs)
     (λ c. search needs)
-    returns-3)
+    ticks-run)

@@ -16,18 +16,18 @@ put-refusal-requires c κs =
     let told = c .before .before in rw (told .d2 .given .1) at (told .before .before .before .pre)
 
 -- Nothing; a verdict; a refusal.
-returns : tie.Need-returns
+quiet : tie.Need-returns
 unfolding outputBytes
-returns c =
+quiet c =
     let args = c .before .before .before .args in
     rw (c .enum-told .given .1) (omega arith, paste-zero (args .out .now) (args .at) [])
 
-returns-2 : tie.Need-returns-2
-returns-2 c =
+verdict : tie.Need-returns-2
+verdict c =
     let put = c .before .before in rw (put .before .before .before .d .given .1) (put .put-verdict .ensures)
 
-returns-3 : tie.Need-returns-3
-returns-3 c =
+refusal : tie.Need-returns-3
+refusal c =
     let put = c .before .before in rw (put .before .before .before .d2 .given .1) (put .put-refusal .ensures)
 
 pub put-spec : {M : Type 1} → statement M
@@ -39,8 +39,8 @@ put-spec =
     put-verdict-requires
     (λ c. search needs)
     put-refusal-requires
-    returns
+    quiet
     (λ c. search needs)
-    returns-2
+    verdict
     (λ c. search needs)
-    returns-3)
+    refusal)

@@ -7,29 +7,29 @@ use Rattle.feeder.proofs.put_refusal.Statement.{statement}
 use Rattle.feeder.proofs.put_refusal.Tie as tie
 
 -- One digit.
-put-word-requires : tie.Need-put-word-requires
+one-digit-requires : tie.Need-put-word-requires
 unfolding outputBytes refusalDigits
-put-word-requires c κs =
+one-digit-requires c κs =
     let small = c .before .before .before .before in
     rw (lt-ltb _ _ (small .if1 .taken)) at (small .before .before .pre)
 
-returns : tie.Need-returns
+one-digit : tie.Need-returns
 unfolding outputBytes refusalDigits
-returns c =
+one-digit c =
     let lent = c .before .before .before in
     let small = lent .before .before .before .before in
     rw (lt-ltb _ _ (small .if1 .taken)) (c .before .before .put-word .ensures)
 
 -- Two digits.
-put-word-requires-2 : tie.Need-put-word-requires-2
+two-digits-requires : tie.Need-put-word-requires-2
 unfolding outputBytes refusalDigits
-put-word-requires-2 c κs =
+two-digits-requires c κs =
     let small = c .before .before .before .before in
     rw (le-ltb _ _ (small .if1 .left)) at (small .before .before .pre)
 
-returns-2 : tie.Need-returns-2
+two-digits : tie.Need-returns-2
 unfolding outputBytes refusalDigits
-returns-2 c =
+two-digits c =
     let lent = c .before .before .before in
     let small = lent .before .before .before .before in
     rw (le-ltb _ _ (small .if1 .left)) (c .before .before .put-word2 .ensures)
@@ -42,16 +42,16 @@ put-refusal-spec =
     (λ c. search needs)
     (λ c. search needs)
     (λ c. search needs)
-    put-word-requires
+    one-digit-requires
     (λ c. search needs)
-    returns
-    (λ c. search needs)
-    (λ c. search needs)
+    one-digit
     (λ c. search needs)
     (λ c. search needs)
     (λ c. search needs)
     (λ c. search needs)
     (λ c. search needs)
-    put-word-requires-2
     (λ c. search needs)
-    returns-2)
+    (λ c. search needs)
+    two-digits-requires
+    (λ c. search needs)
+    two-digits)

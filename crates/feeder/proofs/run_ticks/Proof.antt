@@ -57,8 +57,8 @@ loop-holds c =
     (begun _ _ _ (pre .0), pre .1, refl, refl)
 
 -- The next line is broken or not whole, or no tick is left.
-returns : tie.Need-returns Inv-loop μ-loop
-returns c =
+line-broken : tie.Need-returns Inv-loop μ-loop
+line-broken c =
     let broken = c .before .before in
     let line = broken .before .before in
     let loop = line .before .before in
@@ -67,8 +67,8 @@ returns c =
       λ more. sym (line .tick-at .ensures) ∙ broken .enum-told .given .1,
     )
 
-returns-2 : tie.Need-returns-2 Inv-loop μ-loop
-returns-2 c =
+none-left : tie.Need-returns-2 Inv-loop μ-loop
+none-left c =
     let loop = c .before .before .before in
     rw (c .fed-to2 .ensures, c .before .watch-at2 .ensures) (
       runs-all (loop .loop .inv .0) (entry loop .pre .1 .phase) (loop .loop .inv .1 .phase),
@@ -128,7 +128,7 @@ run-ticks-spec =
     (λ c. stopped c .loop .inv .2)
     (λ c. stopped c .loop .inv .3)
     (λ c. stopped c .loop .inv .0 .same)
-    returns
+    line-broken
     step-passed-requires
     put-verdict-requires
     (λ c. omega (arith, inside c))
@@ -140,4 +140,4 @@ run-ticks-spec =
     (λ c. c .before .before .before .loop .inv .2)
     (λ c. c .before .before .before .loop .inv .3)
     (λ c. c .before .before .before .loop .inv .0 .same)
-    returns-2)
+    none-left)

@@ -8,8 +8,8 @@ use borrow.Author.Needs.{needs}
 use Rattle.firmware.proofs.compiled_answer.Statement.{statement}
 use Rattle.firmware.proofs.compiled_answer.Tie as tie
 
-enum-known-c : tie.Need-enum-known-c
-enum-known-c c = search needs
+known-equations : tie.Need-enum-known-c
+known-equations c = search needs
 
 cast-t5 : tie.Need-cast-t5
 cast-t5 c =
@@ -17,14 +17,14 @@ cast-t5 c =
     let few : answered .0 .0 ≤ equationLimit = subst small (answered .1) (c .before .before .before .pre) in
     omega (arith, few)
 
-enum-known-c-2 : tie.Need-enum-known-c-2
-enum-known-c-2 c = search needs
+known-refused : tie.Need-enum-known-c-2
+known-refused c = search needs
 
-returns : tie.Need-returns
-returns c = ap compiledAnswer (sym (c .before .c .given .1))
+equations : tie.Need-returns
+equations c = ap compiledAnswer (sym (c .before .c .given .1))
 
-returns-2 : tie.Need-returns-2
-returns-2 c = ap compiledAnswer (sym (c .before .c2 .given .1))
+refused : tie.Need-returns-2
+refused c = ap compiledAnswer (sym (c .before .c2 .given .1))
 
 pub compiled-answer-spec : {M : Type 1} → statement M
-compiled-answer-spec = tie.close (tie.spec enum-known-c cast-t5 enum-known-c-2 returns returns-2)
+compiled-answer-spec = tie.close (tie.spec known-equations cast-t5 known-refused equations refused)

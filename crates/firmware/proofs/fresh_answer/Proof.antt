@@ -13,11 +13,11 @@ enum-told c = search needs
 enum-known-f : tie.Need-enum-known-f
 enum-known-f c = search needs
 
-returns : tie.Need-returns
-returns c = ap (λ (x : Fresh). answer (freshReply x)) (sym (c .enum-told .given .1))
+made : tie.Need-returns
+made c = ap (λ (x : Fresh). answer (freshReply x)) (sym (c .enum-told .given .1))
 
-returns-2 : tie.Need-returns-2
-returns-2 c = ap (λ (x : Fresh). answer (freshReply x)) (sym (c .before .f .given .1))
+refused : tie.Need-returns-2
+refused c = ap (λ (x : Fresh). answer (freshReply x)) (sym (c .before .f .given .1))
 
 pub fresh-answer-spec : {M : Type 1} → statement M
-fresh-answer-spec = tie.close (tie.spec enum-told enum-known-f returns returns-2)
+fresh-answer-spec = tie.close (tie.spec enum-told enum-known-f made refused)

@@ -8,8 +8,8 @@ use borrow.Author.Needs.{needs}
 use Rattle.firmware.proofs.loaded_answer.Statement.{statement}
 use Rattle.firmware.proofs.loaded_answer.Tie as tie
 
-enum-known-l : tie.Need-enum-known-l
-enum-known-l c = search needs
+known-equations : tie.Need-enum-known-l
+known-equations c = search needs
 
 cast-t5 : tie.Need-cast-t5
 cast-t5 c =
@@ -17,14 +17,14 @@ cast-t5 c =
     let fits : answered .0 .0 ≤ equationLimit = subst few (answered .1) (c .before .before .before .pre) in
     omega (arith, fits)
 
-enum-known-l-2 : tie.Need-enum-known-l-2
-enum-known-l-2 c = search needs
+known-refused : tie.Need-enum-known-l-2
+known-refused c = search needs
 
-returns : tie.Need-returns
-returns c = ap loadAnswer (sym (c .before .l .given .1))
+equations : tie.Need-returns
+equations c = ap loadAnswer (sym (c .before .l .given .1))
 
-returns-2 : tie.Need-returns-2
-returns-2 c = ap loadAnswer (sym (c .before .l2 .given .1))
+refused : tie.Need-returns-2
+refused c = ap loadAnswer (sym (c .before .l2 .given .1))
 
 pub loaded-answer-spec : {M : Type 1} → statement M
-loaded-answer-spec = tie.close (tie.spec enum-known-l cast-t5 enum-known-l-2 returns returns-2)
+loaded-answer-spec = tie.close (tie.spec known-equations cast-t5 known-refused equations refused)

@@ -6,17 +6,17 @@ use borrow.Author.Needs.{needs}
 use Rattle.firmware.proofs.read_answer.Statement.{statement}
 use Rattle.firmware.proofs.read_answer.Tie as tie
 
-enum-known-a : tie.Need-enum-known-a
-enum-known-a c = search needs
+known-rule : tie.Need-enum-known-a
+known-rule c = search needs
 
-enum-known-a-2 : tie.Need-enum-known-a-2
-enum-known-a-2 c = search needs
+known-refused : tie.Need-enum-known-a-2
+known-refused c = search needs
 
-returns : tie.Need-returns
-returns c = ap readAnswer (sym (c .before .a .given .1))
+rule : tie.Need-returns
+rule c = ap readAnswer (sym (c .before .a .given .1))
 
-returns-2 : tie.Need-returns-2
-returns-2 c = ap readAnswer (sym (c .before .a2 .given .1))
+refused : tie.Need-returns-2
+refused c = ap readAnswer (sym (c .before .a2 .given .1))
 
 pub read-answer-spec : {M : Type 1} → statement M
-read-answer-spec = tie.close (tie.spec enum-known-a enum-known-a-2 returns returns-2)
+read-answer-spec = tie.close (tie.spec known-rule known-refused rule refused)

@@ -7,17 +7,17 @@ use borrow.Author.Needs.{needs}
 use Rattle.firmware.proofs.step_answer.Statement.{statement}
 use Rattle.firmware.proofs.step_answer.Tie as tie
 
-enum-known-s : tie.Need-enum-known-s
-enum-known-s c = search needs
+known-verdict : tie.Need-enum-known-s
+known-verdict c = search needs
 
-enum-known-s-2 : tie.Need-enum-known-s-2
-enum-known-s-2 c = search needs
+known-refused : tie.Need-enum-known-s-2
+known-refused c = search needs
 
-returns : tie.Need-returns
-returns c = ap (λ (x : Stepped). answer (stepReply x)) (sym (c .before .s .given .1))
+verdict : tie.Need-returns
+verdict c = ap (λ (x : Stepped). answer (stepReply x)) (sym (c .before .s .given .1))
 
-returns-2 : tie.Need-returns-2
-returns-2 c = ap (λ (x : Stepped). answer (stepReply x)) (sym (c .before .s2 .given .1))
+refused : tie.Need-returns-2
+refused c = ap (λ (x : Stepped). answer (stepReply x)) (sym (c .before .s2 .given .1))
 
 pub step-answer-spec : {M : Type 1} → statement M
-step-answer-spec = tie.close (tie.spec enum-known-s enum-known-s-2 returns returns-2)
+step-answer-spec = tie.close (tie.spec known-verdict known-refused verdict refused)

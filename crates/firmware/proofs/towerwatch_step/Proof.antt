@@ -12,11 +12,11 @@ step-requires c κs = search needs
 step-answer-requires : tie.Need-step-answer-requires
 step-answer-requires c κs = search needs
 
-same-length : tie.Need-same-length
-same-length c = search needs
+same-length-state : tie.Need-same-length
+same-length-state c = search needs
 
-same-length-2 : tie.Need-same-length-2
-same-length-2 c = search needs
+same-length-values : tie.Need-same-length-2
+same-length-values c = search needs
 
 returns : tie.Need-returns
 returns c =
@@ -26,4 +26,4 @@ returns c =
 
 pub towerwatch-step-spec : {M : Type 1} → statement M
 towerwatch-step-spec =
-    tie.close (tie.spec step-requires step-answer-requires same-length same-length-2 returns)
+    tie.close (tie.spec step-requires step-answer-requires same-length-state same-length-values returns)

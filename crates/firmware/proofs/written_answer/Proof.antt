@@ -8,8 +8,8 @@ use borrow.Author.Needs.{needs}
 use Rattle.firmware.proofs.written_answer.Statement.{statement}
 use Rattle.firmware.proofs.written_answer.Tie as tie
 
-enum-known-w : tie.Need-enum-known-w
-enum-known-w c = search needs
+known-written : tie.Need-enum-known-w
+known-written c = search needs
 
 cast-t5 : tie.Need-cast-t5
 cast-t5 c =
@@ -17,14 +17,14 @@ cast-t5 c =
     let fits : answered .0 .0 ≤ lengthLimit = subst short (answered .1) (c .before .before .before .pre) in
     omega (arith, fits)
 
-enum-known-w-2 : tie.Need-enum-known-w-2
-enum-known-w-2 c = search needs
+known-refused : tie.Need-enum-known-w-2
+known-refused c = search needs
 
-returns : tie.Need-returns
-returns c = ap writeAnswer (sym (c .before .w .given .1))
+written : tie.Need-returns
+written c = ap writeAnswer (sym (c .before .w .given .1))
 
-returns-2 : tie.Need-returns-2
-returns-2 c = ap writeAnswer (sym (c .before .w2 .given .1))
+refused : tie.Need-returns-2
+refused c = ap writeAnswer (sym (c .before .w2 .given .1))
 
 pub written-answer-spec : {M : Type 1} → statement M
-written-answer-spec = tie.close (tie.spec enum-known-w cast-t5 enum-known-w-2 returns returns-2)
+written-answer-spec = tie.close (tie.spec known-written cast-t5 known-refused written refused)

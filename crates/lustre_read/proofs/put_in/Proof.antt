@@ -3,19 +3,19 @@ use borrow.Author.Tests.{ne-eqb}
 use Rattle.lustre_read.proofs.put_in.Statement.{statement}
 use Rattle.lustre_read.proofs.put_in.Tie as tie
 
-returns : tie.Need-returns
-returns c = rw (c .match .keys1)
+letter-a : tie.Need-returns
+letter-a c = rw (c .match .keys1)
 
-returns-2 : tie.Need-returns-2
-returns-2 c = rw (c .match .keys2)
+letter-b : tie.Need-returns-2
+letter-b c = rw (c .match .keys2)
 
-returns-3 : tie.Need-returns-3
-returns-3 c = rw (ne-eqb _ _ (c .match .rest .0 .1), ne-eqb _ _ (c .match .rest .1))
+letter-c : tie.Need-returns-3
+letter-c c = rw (ne-eqb _ _ (c .match .rest .0 .1), ne-eqb _ _ (c .match .rest .1))
 
 pub put-in-spec : {M : Type 1} → statement M
 put-in-spec =
     tie.close
     (tie.spec
-    returns
-    returns-2
-    returns-3)
+    letter-a
+    letter-b
+    letter-c)

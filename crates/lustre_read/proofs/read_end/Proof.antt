@@ -47,9 +47,9 @@ slice-aggregate-scan-form c =
     let form = formAt (turn (c .before) .before .loop .f) in
     sym (length-take-le (form .len) (form .text) (room (c .before)))
 
-returns : tie.Need-returns Inv-loop μ-loop
+form-found : tie.Need-returns Inv-loop μ-loop
 unfolding padded forms formAt
-returns c =
+form-found c =
     let scan = c .before .before .before in
     let here = turn (text-of scan) in
     let loop = here .before in
@@ -69,8 +69,8 @@ loop-again c =
     none-more (args .text .now) (args .p) (loop .loop .f) (formAt (loop .loop .f)) refl (loop .loop .inv)
     (unlike-told (args .text .now) (scan .scan-form .result) (c .enum-told .given .1) (scan .scan-form .ensures))
 
-returns-2 : tie.Need-returns-2 Inv-loop μ-loop
-returns-2 c =
+no-form : tie.Need-returns-2 Inv-loop μ-loop
+no-form c =
     let args = start (c .before) .args in
     end-none (args .text .now) (args .p) (λ g h. c .before .loop .inv g (omega arith))
 
@@ -87,9 +87,9 @@ read-end-spec =
     slice-aggregate-scan-form
     (λ c κs. search needs)
     (λ c. search needs)
-    returns
+    form-found
     (λ c. search needs)
     (λ c. omega arith)
     (λ c. omega arith)
     loop-again
-    returns-2)
+    no-form)

@@ -34,8 +34,8 @@ begun c =
     ∙ ap (scan (bytes "fA=") (drop (args .p) (args .text .now))) (here .before .only .ensures)
 
 -- or it does not,
-returns : tie.Need-returns
-returns c =
+no-start : tie.Need-returns
+no-start c =
     let here = c .before .before in
     let args = start here .args in
     line-absent (args .text .now) (args .p) (args .i) (start here .pre)
@@ -43,16 +43,16 @@ returns c =
     ∙ ap (scan (bytes "fA=") (drop (args .p) (args .text .now))) (here .before .only .ensures))
 
 -- or N is another number.
-returns-2 : tie.Need-returns-2
-returns-2 c =
+other-number : tie.Need-returns-2
+other-number c =
     let told = c .before .before in
     let entry = start (begin told) in
     let found = told .before .s .given in
     line-other (entry .args .text .now) (entry .args .p) (entry .args .i) (entry .pre) (equationOf (found .0 .0))
     (found .0 .1 .0) (begun told) (c .if1 .taken)
 
-returns-3 : tie.Need-returns-3
-returns-3 c =
+same-number : tie.Need-returns-3
+same-number c =
     let told = c .before .before .before in
     let entry = start (begin told) in
     let found = told .before .s .given in
@@ -68,8 +68,8 @@ read-line-spec =
     (λ c κs. search needs)
     (λ c. search needs)
     (λ c. search needs)
-    returns
+    no-start
     (λ c. search needs)
-    returns-2
+    other-number
     (λ c κs. search needs)
-    returns-3)
+    same-number)

@@ -31,11 +31,11 @@ start c = c .before .before .before
 loop-holds : tie.Need-loop-holds Inv-loop μ-loop
 loop-holds c = (refl, lines-none _ _ _)
 
-same-length : tie.Need-same-length Inv-loop μ-loop
-same-length c = turn (c .before .before) .loop .inv .0
+same-length-stopped : tie.Need-same-length Inv-loop μ-loop
+same-length-stopped c = turn (c .before .before) .loop .inv .0
 
-returns : tie.Need-returns Inv-loop μ-loop
-returns c =
+stopped : tie.Need-returns Inv-loop μ-loop
+stopped c =
     let read = c .before .before in
     let loop = turn read .loop in
     lines-stop (loop .inv .1)
@@ -64,11 +64,11 @@ loop-again c =
           (omega (arith, loop .inv .0, start here .pre)) (store .store-equation .ensures),
     )
 
-same-length-2 : tie.Need-same-length-2 Inv-loop μ-loop
-same-length-2 c = c .before .loop .inv .0
+same-length-full : tie.Need-same-length-2 Inv-loop μ-loop
+same-length-full c = c .before .loop .inv .0
 
-returns-2 : tie.Need-returns-2 Inv-loop μ-loop
-returns-2 c = lines-full (c .before .loop .inv .1) (c .loop-test .left)
+full : tie.Need-returns-2 Inv-loop μ-loop
+full c = lines-full (c .before .loop .inv .1) (c .loop-test .left)
 
 pub read-lines-spec : {M : Type 1} → statement M
 read-lines-spec =
@@ -80,11 +80,11 @@ read-lines-spec =
     (λ c κs. omega arith)
     (λ c. search needs)
     (λ c. search needs)
-    same-length
-    returns
+    same-length-stopped
+    stopped
     store-equation-requires
     (λ c. omega arith)
     (λ c. omega arith)
     loop-again
-    same-length-2
-    returns-2)
+    same-length-full
+    full)

@@ -29,22 +29,22 @@ writes c =
     some-read (start here .args .text .now) (table .last .1 .0) (table .result) (given .0 .0) (given .1)
     (table .ensures)
 
-returns : tie.Need-returns
-returns c =
+no-table : tie.Need-returns
+no-table c =
     let here = c .before .before .before in
     let table = here .read-table in
     unread
     (none-read (start here .args .text .now) (table .last .1 .0) (table .result) (c .enum-told .given .1)
     (table .ensures))
 
-returns-2 : tie.Need-returns-2
-returns-2 c = no-room (writes (c .before)) (c .if1 .taken)
+short-table : tie.Need-returns-2
+short-table c = no-room (writes (c .before)) (c .if1 .taken)
 
 mul-copy : tie.Need-mul-copy
 mul-copy c = omega (arith, few-equations (writes (c .before .before)))
 
-returns-3 : tie.Need-returns-3
-returns-3 c =
+table-read : tie.Need-returns-3
+table-read c =
     let copy = c .before .before in
     let there = room copy in
     let told = there .before in
@@ -58,10 +58,10 @@ read-lustre-spec =
     (λ c κs. search needs)
     (λ c. search needs)
     (λ c. search needs)
-    returns
-    returns-2
+    no-table
+    short-table
     (λ c. search needs)
     mul-copy
     (λ c κs. search needs)
     (λ c. search needs)
-    returns-3)
+    table-read)

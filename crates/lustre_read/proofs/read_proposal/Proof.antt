@@ -58,8 +58,8 @@ closed c =
     (here .scan-form2 .ensures)
 
 -- The first line is not there.
-returns : tie.Need-returns
-returns c =
+first-absent : tie.Need-returns
+first-absent c =
     let here = c .before .before in
     let text = start here .args .text .now in
     let number = here .before .only in
@@ -67,8 +67,8 @@ returns c =
     (unlike-told text (here .scan-form .result) (c .enum-told .given .1) (here .scan-form .ensures))
 
 -- The last lines are not there.
-returns-2 : tie.Need-returns-2
-returns-2 c =
+last-absent : tie.Need-returns-2
+last-absent c =
     let here = c .before .before in
     let read = lines here in
     let number = here .before .only2 in
@@ -77,8 +77,8 @@ returns-2 c =
     (here .scan-form2 .ensures))
 
 -- Bytes follow them.
-returns-3 : tie.Need-returns-3
-returns-3 c =
+bytes-after : tie.Need-returns-3
+bytes-after c =
     let here = last (c .before) in
     let read = lines here in
     let number = here .before .only2 in
@@ -87,8 +87,8 @@ returns-3 c =
     (equationOf (found .0 .0)) (found .0 .1 .0) (number .ensures) (closed (c .before)) (c .if1 .taken)
 
 -- They name another equation than the last.
-returns-4 : tie.Need-returns-4
-returns-4 c =
+other-named : tie.Need-returns-4
+other-named c =
     let told = c .before .before .before in
     let here = last told in
     let read = lines here in
@@ -98,8 +98,8 @@ returns-4 c =
     (equationOf (found .0 .0)) (found .0 .1 .0) (number .ensures) (closed told) (c .if2 .taken)
 
 -- The text proposes the equations.
-returns-5 : tie.Need-returns-5
-returns-5 c =
+all-found : tie.Need-returns-5
+all-found c =
     let told = c .before .before .before in
     let here = last told in
     let read = lines here in
@@ -116,7 +116,7 @@ read-proposal-spec =
     (λ c κs. search needs)
     (λ c. search needs)
     (λ c. search needs)
-    returns
+    first-absent
     (λ c κs. search needs)
     (λ c. search needs)
     (λ c κs. search needs)
@@ -124,12 +124,12 @@ read-proposal-spec =
     (λ c. search needs)
     (λ c. search needs)
     (λ c. search needs)
-    returns-2
+    last-absent
     (λ c. search needs)
-    returns-3
+    bytes-after
     (λ c. search needs)
     (λ c. search needs)
     (λ c. search needs)
-    returns-4
+    other-named
     (λ c. search needs)
-    returns-5)
+    all-found)

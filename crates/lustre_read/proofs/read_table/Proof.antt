@@ -29,21 +29,21 @@ proposed c =
     some-proposed (start here .args .text .now) (proposal .last .1 .0) (proposal .result) (given .0 .0) (given .1)
     (proposal .ensures)
 
-returns : tie.Need-returns
-returns c =
+nothing-proposed : tie.Need-returns
+nothing-proposed c =
     let here = c .before .before .before .before in
     let proposal = here .read-proposal in
     none-proposed (start here .args .text .now) (proposal .last .1 .0) (proposal .result) (c .enum-told .given .1)
     (proposal .ensures)
 
-returns-2 : tie.Need-returns-2
-returns-2 c =
+check-failed : tie.Need-returns-2
+check-failed c =
     let check = c .before .before in
     let failed = c .enum-told3 .given in
     ill-formed (failed .0 .0) (proposed (told check)) (omega arith) (sym (failed .1) ∙ check .check-table .ensures)
 
-returns-3 : tie.Need-returns-3
-returns-3 c =
+check-passed : tie.Need-returns-3
+check-passed c =
     let check = c .before .before in
     well-formed (proposed (told check)) (sym (check .check-table .ensures) ∙ c .enum-told2 .given .1)
 
@@ -55,11 +55,11 @@ read-table-spec =
     (λ c. search needs)
     (λ c. search needs)
     (λ c. search needs)
-    returns
+    nothing-proposed
     (λ c κs. search needs)
     (λ c. search needs)
     (λ c. search needs)
     (λ c. search needs)
-    returns-2
+    check-failed
     (λ c. search needs)
-    returns-3)
+    check-passed)

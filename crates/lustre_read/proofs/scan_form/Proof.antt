@@ -28,8 +28,8 @@ start c = c .before .before .before
 loop-holds : tie.Need-loop-holds Inv-loop μ-loop
 loop-holds c = refl
 
-returns : tie.Need-returns Inv-loop μ-loop
-returns c =
+piece-unlike : tie.Need-returns Inv-loop μ-loop
+piece-unlike c =
     let piece = c .before .before in
     let here = turn piece in
     let args = start (here .before) .args in
@@ -52,8 +52,8 @@ loop-again c =
     (piece .scan-piece .ensures))
     ∙ loop .inv
 
-returns-2 : tie.Need-returns-2 Inv-loop μ-loop
-returns-2 c =
+all-found : tie.Need-returns-2 Inv-loop μ-loop
+all-found c =
     let args = start (c .before) .args in
     let loop = c .before .loop in
     scan-ends (args .form .now) (args .text .now) (loop .j) (loop .next) (equationOf (loop .numbers))
@@ -71,8 +71,8 @@ scan-form-spec =
     (λ c κs. search needs)
     (λ c. search needs)
     (λ c. search needs)
-    returns
+    piece-unlike
     (λ c. omega arith)
     (λ c. omega arith)
     loop-again
-    returns-2)
+    all-found)

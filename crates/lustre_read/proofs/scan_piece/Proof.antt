@@ -18,8 +18,8 @@ tested c = c .before .before
 abbrev compared : tie.Else2 → tie.After-is-letter
 compared c = c .before .before
 
-returns : tie.Need-returns
-returns c =
+letter-number : tie.Need-returns
+letter-number c =
     let read = c .before .before .before .before in
     let test = tested read in
     let args = start test .args in
@@ -28,39 +28,39 @@ returns c =
     (test .is-letter .ensures) (read .before .if1 .taken) (is-of (read .read-decimal .ensures) (number .1))
     (c .put-in .ensures)
 
-returns-2 : tie.Need-returns-2
-returns-2 c =
+letter-above : tie.Need-returns-2
+letter-above c =
     let read = c .before .before in
     let test = tested read in
     let args = start test .args in
     piece-above (args .x) (args .text .now) (args .p) (equationOf (args .e)) _ _ (test .is-letter .ensures)
     (read .before .if1 .taken) (above-of (read .read-decimal .ensures) (c .enum-told .given .1))
 
-returns-3 : tie.Need-returns-3
-returns-3 c =
+letter-missing : tie.Need-returns-3
+letter-missing c =
     let read = c .before .before in
     let test = tested read in
     let args = start test .args in
     piece-missing (args .x) (args .text .now) (args .p) (equationOf (args .e)) _ (test .is-letter .ensures)
     (read .before .if1 .taken) (missing-of (read .read-decimal .ensures) (c .enum-told2 .given .1))
 
-returns-4 : tie.Need-returns-4
-returns-4 c =
+byte-past-end : tie.Need-returns-4
+byte-past-end c =
     let test = c .before .before in
     let args = start test .args in
     piece-end (args .x) (args .text .now) (args .p) (equationOf (args .e)) _ (test .is-letter .ensures)
     (c .before .if1 .left) (c .if2 .taken)
 
-returns-5 : tie.Need-returns-5
-returns-5 c =
+byte-unlike : tie.Need-returns-5
+byte-unlike c =
     let there = c .before .before in
     let test = compared there in
     let args = start test .args in
     piece-other (args .x) (args .text .now) (args .p) (equationOf (args .e)) _ (test .is-letter .ensures)
     (there .before .if1 .left) (there .if2 .left) (c .if3 .taken)
 
-returns-6 : tie.Need-returns-6
-returns-6 c =
+byte-found : tie.Need-returns-6
+byte-found c =
     let there = c .before .before in
     let test = compared there in
     let args = start test .args in
@@ -77,11 +77,11 @@ scan-piece-spec =
     (λ c κs. search needs)
     (λ c. search needs)
     (λ c. search needs)
-    returns
-    returns-2
-    returns-3
-    returns-4
+    letter-number
+    letter-above
+    letter-missing
+    byte-past-end
     (λ c. search needs)
-    returns-5
+    byte-unlike
     (λ c. search needs)
-    returns-6)
+    byte-found)

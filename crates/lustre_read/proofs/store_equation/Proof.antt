@@ -7,14 +7,14 @@ use Rattle.lustre_read.proofs.Lined.{sets-four}
 use Rattle.lustre_read.proofs.store_equation.Statement.{statement}
 use Rattle.lustre_read.proofs.store_equation.Tie as tie
 
-slice-write-table-2 : tie.Need-slice-write-table-2
-slice-write-table-2 c = simp length-set (omega arith)
+write-a : tie.Need-slice-write-table-2
+write-a c = simp length-set (omega arith)
 
-slice-write-table-3 : tie.Need-slice-write-table-3
-slice-write-table-3 c = simp length-set (omega arith)
+write-b : tie.Need-slice-write-table-3
+write-b c = simp length-set (omega arith)
 
-slice-write-table-4 : tie.Need-slice-write-table-4
-slice-write-table-4 c = simp length-set (omega arith)
+write-c : tie.Need-slice-write-table-4
+write-c c = simp length-set (omega arith)
 
 returns : tie.Need-returns
 returns c =
@@ -32,14 +32,14 @@ store-equation-spec =
     (λ c. search needs)
     (λ c. search needs)
     (λ c. search needs)
-    slice-write-table-2
+    write-a
     (λ c. search needs)
     (λ c. search needs)
     (λ c. search needs)
-    slice-write-table-3
+    write-b
     (λ c. search needs)
     (λ c. search needs)
     (λ c. search needs)
-    slice-write-table-4
+    write-c
     (λ c. search needs)
     returns)

@@ -22,13 +22,13 @@ abbrev write-number-below : ℕ → In 1 write-number-kinds.ps
 write-number-below t =
     and 1 write-number-kinds.ps (falls 1 write-number-kinds.ps _<_ μ-write-number t) write-number.Pre
 
-returns : (t : ℕ) → write-number-lts.Need-returns (
+returns-one : (t : ℕ) → write-number-lts.Need-returns (
   store-reads.Asked,
   store-reads.Learnt,
   write-number-below t,
   write-number.Post,
 ) (write-number-at t) write-number.Post
-returns t c =
+returns-one t c =
     let digit = c .before .before in
     number-one _ _ _ (digit .before .before .if1 .taken) (digit .store .ensures)
 
@@ -79,7 +79,7 @@ pub +write-number-spec : {M : Type 1} → statement M
     (λ c. omega arith)
     (λ c κs. search needs)
     (λ c. search needs)
-    (returns t)
+    (returns-one t)
     (λ c κs. omega (arith, c .before .before .before .pre .0))
     (λ c. omega arith)
     (λ c. omega arith)

@@ -8,58 +8,58 @@ use Rattle.lustre_write.proofs.form_of.Statement.{statement}
 use Rattle.lustre_write.proofs.form_of.Tie as tie
 
 -- Kind by kind, in the order of their numbers.
-returns : tie.Need-returns
+of-signal : tie.Need-returns
 unfolding kindOf formNumber
-returns c = rw (c .match .keys1)
+of-signal c = rw (c .match .keys1)
 
-returns-2 : tie.Need-returns-2
+of-start : tie.Need-returns-2
 unfolding kindOf formNumber
-returns-2 c = rw (c .match .keys2)
+of-start c = rw (c .match .keys2)
 
-returns-3 : tie.Need-returns-3
+of-constant : tie.Need-returns-3
 unfolding kindOf formNumber
-returns-3 c = rw (c .before .match .keys3)
+of-constant c = rw (c .before .match .keys3)
 
-returns-4 : tie.Need-returns-4
+of-not : tie.Need-returns-4
 unfolding kindOf formNumber
-returns-4 c = rw (c .match .keys4)
+of-not c = rw (c .match .keys4)
 
-returns-5 : tie.Need-returns-5
+of-and : tie.Need-returns-5
 unfolding kindOf formNumber
-returns-5 c = rw (c .match .keys5)
+of-and c = rw (c .match .keys5)
 
-returns-6 : tie.Need-returns-6
+of-or : tie.Need-returns-6
 unfolding kindOf formNumber
-returns-6 c = rw (c .match .keys6)
+of-or c = rw (c .match .keys6)
 
-returns-7 : tie.Need-returns-7
+of-boolean-pre : tie.Need-returns-7
 unfolding kindOf formNumber
-returns-7 c = rw (c .before .match .keys7)
+of-boolean-pre c = rw (c .before .match .keys7)
 
-returns-8 : tie.Need-returns-8
+of-count-pre : tie.Need-returns-8
 unfolding kindOf formNumber
-returns-8 c = rw (c .match .keys8)
+of-count-pre c = rw (c .match .keys8)
 
-returns-9 : tie.Need-returns-9
+of-capped : tie.Need-returns-9
 unfolding kindOf formNumber
-returns-9 c = rw (c .match .keys9)
+of-capped c = rw (c .match .keys9)
 
-returns-10 : tie.Need-returns-10
+of-if : tie.Need-returns-10
 unfolding kindOf formNumber
-returns-10 c = rw (c .match .keys10)
+of-if c = rw (c .match .keys10)
 
-returns-11 : tie.Need-returns-11
+of-compare-literal : tie.Need-returns-11
 unfolding kindOf formNumber
-returns-11 c = rw (c .before .match .keys11)
+of-compare-literal c = rw (c .before .match .keys11)
 
-returns-12 : tie.Need-returns-12
+of-compare-parameter : tie.Need-returns-12
 unfolding kindOf formNumber
-returns-12 c = rw (c .before .match .keys12)
+of-compare-parameter c = rw (c .before .match .keys12)
 
 -- No other number is that of a kind.
-returns-13 : tie.Need-returns-13
+of-other : tie.Need-returns-13
 unfolding formNumber
-returns-13 c = rw (kind-beyond _ (none-below _ kindCount (c .match .rest)))
+of-other c = rw (kind-beyond _ (none-below _ kindCount (c .match .rest)))
 
 pub form-of-spec : {M : Type 1} → statement M
 form-of-spec =
@@ -73,16 +73,16 @@ form-of-spec =
     (λ c. search needs)
     (λ c. search needs)
     (λ c. search needs)
-    returns
-    returns-2
-    returns-3
-    returns-4
-    returns-5
-    returns-6
-    returns-7
-    returns-8
-    returns-9
-    returns-10
-    returns-11
-    returns-12
-    returns-13)
+    of-signal
+    of-start
+    of-constant
+    of-not
+    of-and
+    of-or
+    of-boolean-pre
+    of-count-pre
+    of-capped
+    of-if
+    of-compare-literal
+    of-compare-parameter
+    of-other)

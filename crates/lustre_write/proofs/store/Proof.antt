@@ -5,8 +5,8 @@ use lib.Seq.{set-out}
 use Rattle.lustre_write.proofs.store.Statement.{statement}
 use Rattle.lustre_write.proofs.store.Tie as tie
 
-returns-2 : tie.Need-returns-2
-returns-2 c =
+past-end : tie.Need-returns-2
+past-end c =
     let the-if1 = c .if1 in
     sym (set-out _ _ _ (the-if1 .left))
 
@@ -17,4 +17,4 @@ store-spec =
     (λ c. search needs)
     (λ c. search needs)
     (λ c. search needs)
-    returns-2)
+    past-end)

@@ -16,16 +16,16 @@ measured c = c .before .before
 abbrev room-known : tie.After-write-text2 → tie.Else1
 room-known c = c .before .before
 
-returns : tie.Need-returns
-returns c =
+too-long : tie.Need-returns
+too-long c =
     let text = measured (c .before) in
     write-short _ _ _ (start (text .before) .pre) (text .write-text .ensures) (c .if1 .taken)
 
 write-text-requires-2 : tie.Need-write-text-requires-2
 write-text-requires-2 c κs = well-plain _ _ (start (measured (c .before .before) .before) .pre)
 
-returns-2 : tie.Need-returns-2
-returns-2 c =
+stored : tie.Need-returns-2
+stored c =
     let written = c .before .before in
     let fits = room-known written in
     let text = measured (fits .before) in
@@ -40,7 +40,7 @@ write-checked-spec =
     (λ c. search needs)
     (λ c κs. well-plain _ _ (start c .pre))
     (λ c. search needs)
-    returns
+    too-long
     write-text-requires-2
     (λ c. search needs)
-    returns-2)
+    stored)

@@ -9,11 +9,11 @@ use Rattle.lustre_write.proofs.write_lustre.Tie as tie
 write-checked-requires : tie.Need-write-checked-requires
 write-checked-requires c κs = sym (c .before .before .before .check-table .ensures) ∙ c .before .enum-told .given .1
 
-returns : tie.Need-returns
-returns c = c .before .before .write-checked .ensures
+passed : tie.Need-returns
+passed c = c .before .before .write-checked .ensures
 
-returns-2 : tie.Need-returns-2
-returns-2 c =
+refused : tie.Need-returns-2
+refused c =
     write-refused _ _ _ _ (sym (c .before .before .before .check-table .ensures) ∙ c .before .number .given .1)
 
 pub write-lustre-spec : {M : Type 1} → statement M
@@ -25,5 +25,5 @@ write-lustre-spec =
     (λ c. search needs)
     write-checked-requires
     (λ c. search needs)
-    returns
-    returns-2)
+    passed
+    refused)

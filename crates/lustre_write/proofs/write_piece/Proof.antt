@@ -14,16 +14,16 @@ start c = c .before .before
 abbrev looked-up : tie.After-write-number → tie.After-number-of
 looked-up c = c .before .before
 
-returns : tie.Need-returns
-returns c =
+letter : tie.Need-returns
+letter c =
     let number = looked-up (c .before .before) in
     let test = number .before .before in
     let args = start test .args in
     piece-letter (equationOf (args .e)) (args .x) _ (sym (test .is-letter .ensures) ∙ number .before .if1 .taken)
     (number .number-of .ensures) (c .before .before .write-number .ensures)
 
-returns-2 : tie.Need-returns-2
-returns-2 c =
+other-byte : tie.Need-returns-2
+other-byte c =
     let byte = c .before .before .before .before in
     let args = start (byte .before) .args in
     piece-byte (equationOf (args .e)) (args .x) _ _ (sym (byte .before .is-letter .ensures) ∙ byte .if1 .left)
@@ -37,7 +37,7 @@ write-piece-spec =
     (λ c κs. search needs)
     (λ c κs. search needs)
     (λ c. search needs)
-    returns
+    letter
     (λ c κs. search needs)
     (λ c. search needs)
-    returns-2)
+    other-byte)

@@ -4,11 +4,11 @@ use Rattle.formulas.specs.Arena.{LITERAL}
 use Rattle.node_table.proofs.comparison_of.Statement.{statement}
 use Rattle.node_table.proofs.comparison_of.Tie as tie
 
-returns : tie.Need-returns
-returns c = simp (eq-eqb (c .before .args .b) LITERAL (c .if1 .taken))
+of-literal : tie.Need-returns
+of-literal c = simp (eq-eqb (c .before .args .b) LITERAL (c .if1 .taken))
 
-returns-2 : tie.Need-returns-2
-returns-2 c = simp (ne-eqb (c .before .args .b) LITERAL (c .if1 .left))
+of-parameter : tie.Need-returns-2
+of-parameter c = simp (ne-eqb (c .before .args .b) LITERAL (c .if1 .left))
 
 pub comparison-of-spec : {M : Type 1} → statement M
-comparison-of-spec = tie.close (tie.spec returns returns-2)
+comparison-of-spec = tie.close (tie.spec of-literal of-parameter)

@@ -4,11 +4,11 @@ use Rattle.tables.specs.Kind.{COMPARE-LITERAL}
 use Rattle.node_table.proofs.kind_by.Statement.{statement}
 use Rattle.node_table.proofs.kind_by.Tie as tie
 
-returns : tie.Need-returns
-returns c = simp (eq-eqb (c .before .args .k) COMPARE-LITERAL (c .if1 .taken))
+as-asked : tie.Need-returns
+as-asked c = simp (eq-eqb (c .before .args .k) COMPARE-LITERAL (c .if1 .taken))
 
-returns-2 : tie.Need-returns-2
-returns-2 c = simp (ne-eqb (c .before .args .k) COMPARE-LITERAL (c .if1 .left))
+its-own : tie.Need-returns-2
+its-own c = simp (ne-eqb (c .before .args .k) COMPARE-LITERAL (c .if1 .left))
 
 pub kind-by-spec : {M : Type 1} → statement M
-kind-by-spec = tie.close (tie.spec returns returns-2)
+kind-by-spec = tie.close (tie.spec as-asked its-own)

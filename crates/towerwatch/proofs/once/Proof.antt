@@ -46,8 +46,8 @@ piece-requires c κs =
     )
 
 -- The input is over.
-returns : tie.Need-returns
-returns c =
+input-over : tie.Need-returns
+input-over c =
     let end = c .before .before .end in
     let filled = ended (c .before .before .before) in (
       ready-none (entry filled .pre) (end .ensures .0) (filled .fill .kept .0) (end .kept .1 .1 .1 .1 .0),
@@ -55,8 +55,8 @@ returns c =
     )
 
 -- A piece came in.
-returns-2 : tie.Need-returns-2
-returns-2 c =
+piece-came : tie.Need-returns-2
+piece-came c =
     let piece = taken c .piece in
     let filled = read (taken c .before) in (
       piece .ensures .0,
@@ -74,11 +74,11 @@ once-spec =
     end-requires
     (λ c. search needs)
     (λ c. search needs)
-    returns
+    input-over
     piece-requires
     (λ c. search needs)
     (λ c. search needs)
     (λ c. search needs)
     (λ c. search needs)
     (λ c. search needs)
-    returns-2)
+    piece-came)
