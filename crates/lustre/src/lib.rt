@@ -5,7 +5,7 @@
 ghost use mathlib.Core.Path.{_≡_};
 ghost use Prim.Native.Nat.{_<_};
 ghost use Rattle.limits.specs.Limits.{equationLimit};
-ghost use Rattle.lustre.specs.Form.{equationOf, own, letter?, formCount, formAt};
+ghost use Rattle.lustre.specs.Form.{equationOf, own, letter?, forms, formCount, formAt};
 
 // What writing answers: the length of the text in bytes, or the number of a refusal.
 pub enum Written {
@@ -41,9 +41,8 @@ pub struct Form {
     pub text: [u8; FORM_WIDTH],
 }
 
-// Every form; those of one kind stand together, by the number that tells them apart. Each use of it makes a copy: one
-// that needs many forms takes a copy once (lustre_read), one that needs a single form asks `form_at`.
-pub const FORMS: [Form; FORM_COUNT] = [
+// Every form; those of one kind stand together, by the number that tells them apart.
+const FORMS: [Form; FORM_COUNT] = [
     // 0: signal A.
     Form {
         settled: Numbers {
@@ -277,6 +276,13 @@ pub const FORMS: [Form; FORM_COUNT] = [
         text: *b"fA>=kC;\n              ",
     },
 ];
+
+// All of them: a copy, for one that needs many.
+pub fn all_forms() -> [Form; FORM_COUNT]
+    ensures { λ r. ⌜ r ≡ forms ⌝ }
+{
+    FORMS
+}
 
 // A form by its number.
 pub fn form_at(f: usize) -> Form

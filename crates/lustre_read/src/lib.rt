@@ -3,9 +3,9 @@
 use lists::Decimal;
 use lists::read_decimal;
 use lustre::FORM_COUNT;
-use lustre::FORMS;
 use lustre::Loaded;
 use lustre::Numbers;
+use lustre::all_forms;
 use lustre::is_letter;
 use lustre::only;
 use tables::Checked;
@@ -109,7 +109,7 @@ fn scan_form(form: &[u8], text: &[u8], p: usize, e: Numbers) -> Scan
 fn read_end(text: &[u8], p: usize) -> Scan
     ensures { λ r. ⌜ endSeen (now (text .entry)) p r ⌝ }
 {
-    let forms = FORMS;
+    let forms = all_forms();
     let mut f = 0;
     while f < FORM_COUNT {
         let form = forms[f];
