@@ -25,7 +25,7 @@ static double seconds(void) {
             double each = (seconds() - begin) / (turns);                         \
             if (each < least) least = each;                                      \
         }                                                                        \
-        printf("%-52s %10.2f microseconds\n", what, least * 1e6);               \
+        printf("%s, µs\t%f\n", what, least * 1e6);                             \
     } while (0)
 
 int main(void) {
@@ -35,12 +35,12 @@ int main(void) {
     size_t length = strlen(rule);
     const uint8_t *bytes = (const uint8_t *)rule;
     TIME("read a rule of 239 words", 200, towerwatch_read_rule(bytes, length));
-    TIME("read and compile it", 200, towerwatch_compile(bytes, length, table, 16384));
-    TIME("the same in hand-written C", 200, compiler_compile(bytes, length, table, 16384));
+    TIME("read and compile a rule of 239 words", 200, towerwatch_compile(bytes, length, table, 16384));
+    TIME("read and compile a rule of 239 words, C", 200, compiler_compile(bytes, length, table, 16384));
     TIME("compare it with itself", 200, towerwatch_same_rule(bytes, length, bytes, length));
     const uint8_t *brief = (const uint8_t *)"kept[s0] then end[s1]";
     TIME("read and compile a rule of 9 words", 5000, towerwatch_compile(brief, 21, table, 16384));
-    TIME("the same in hand-written C", 5000, compiler_compile(brief, 21, table, 16384));
+    TIME("read and compile a rule of 9 words, C", 5000, compiler_compile(brief, 21, table, 16384));
 
     /* a table of 4,096 equations with long lines: a signal, a count, then comparisons and gates */
     memset(table, 0, sizeof table);
@@ -51,9 +51,8 @@ int main(void) {
         else e[0] = 10, e[1] = i - 1, e[2] = 4, e[3] = 999999;
     }
     uint32_t bytes_written = towerwatch_write_lustre(table, 16384, 4096, text, sizeof text).result;
-    printf("the Lustre text of 4,096 equations has %u bytes\n", bytes_written);
     TIME("write Lustre text of 4,096 equations", 5, towerwatch_write_lustre(table, 16384, 4096, text, sizeof text));
-    TIME("read it", 5, towerwatch_read_lustre(text, bytes_written, loaded, 16384));
+    TIME("read Lustre text of 4,096 equations", 5, towerwatch_read_lustre(text, bytes_written, loaded, 16384));
     if (memcmp(table, loaded, sizeof table)) printf("the table read is another\n"), exit(1);
     return 0;
 }

@@ -9,18 +9,18 @@ use lib.Dec.{eqb}
 use lib.ListN.{length, getD, set, take, drop, length-set, drop-of-length-le}
 use lib.Seq.{drop-cons, take-suc-set, set-split}
 use borrow.Author.Tests.{eq-eqb, ne-eqb}
-use Rattle.limits.specs.Limits.{literalCount}
-use Rattle.lists.specs.Text.{bytes}
+use Rattle.limits.specs.Limits.{literalCount, parameterCount}
+use Rattle.cards.specs.Heads.{parametersHead}
 use Rattle.lists.specs.Decimal.{DecimalAt}
 use Rattle.lists.specs.declared.Decimal.{Decimal}
 use Rattle.lists.specs.declared.Decimal.the-variants as D
 use Rattle.lists.proofs.Decimals.{is-of, is-next, above-of, missing-of}
 use Rattle.cards.specs.Numbers.{Parsed, parsed, readTo, ReadsAs, number, hasPrefix, beforeComma}
-use Rattle.cards.specs.Numbers.{atEnd, numbers, wholly, parametersOf}
+use Rattle.cards.specs.Numbers.{atEnd, numbers, lastParameter, wholly, parametersOf}
 use Rattle.cards.specs.Numbers.Parsed.{done, none}
 use Rattle.cards.specs.Numbers.Listed.{are, broken}
-use Rattle.cards.specs.declared.Number.{Number}
-use Rattle.cards.specs.declared.Number.the-variants as N
+use Rattle.cards.specs.declared.decimals.Number.{Number}
+use Rattle.cards.specs.declared.decimals.Number.the-variants as N
 use Rattle.cards.specs.declared.Count.the-variants as K
 
 -- After a number that ends before place n: the end of the line, a comma, or another byte.
@@ -152,26 +152,26 @@ module _ {r : Number} {s : List ℕ} {p : Parsed} (h : ReadsAs r s p) where
     comma-found g o = record { means = rw (done-of e) (sym (comma-there s n v g o)); within = omega arith }
 
 -- The last of eight is stored.
-pub eighth : (ps : List ℕ) (v : ℕ) → length ps ≡ 8 → take 7 ps ++ (v ∷ []) ≡ set ps 7 v
+pub eighth : (ps : List ℕ) (v : ℕ) → length ps ≡ parameterCount → take lastParameter ps ++ (v ∷ []) ≡ set ps lastParameter v
 eighth ps v h =
-    let z : length ps ≤ 8 = omega arith in
-    sym (set-split ps 7 v (omega arith) ∙ ap (λ (l : List ℕ). take 7 ps ++ v ∷ l) (drop-of-length-le ps z))
+    let z : length ps ≤ parameterCount = omega arith in
+    sym (set-split ps lastParameter v (omega arith) ∙ ap (λ (l : List ℕ). take lastParameter ps ++ v ∷ l) (drop-of-length-le ps z))
 
 -- The loop of `parameters_line`: i numbers are read, and what stands from `at` on, after them, reads as the line does.
 pub record Listing (s ps : List ℕ) (at i : ℕ) : Type 0 where
-  pub rest : numbers (7 - i) (take i ps) (drop at s) ≡ parametersOf s
-  pub within : i ≤ 7
-  pub eight : length ps ≡ 8
+  pub rest : numbers (lastParameter - i) (take i ps) (drop at s) ≡ parametersOf s
+  pub within : i ≤ lastParameter
+  pub eight : length ps ≡ parameterCount
 
-pub listing-begun : (s ps : List ℕ) → hasPrefix (bytes "k=") s ≡ true → length ps ≡ 8 → Listing s ps 2 0
+pub listing-begun : (s ps : List ℕ) → hasPrefix parametersHead s ≡ true → length ps ≡ parameterCount → Listing s ps (length parametersHead) 0
 unfolding parametersOf
 listing-begun s ps e h = record { rest = rw e; within = omega arith; eight = h }
 
 module _ {s ps : List ℕ} {at i : ℕ} (k : Listing s ps at i) {r : Number} where
   -- One of the first seven, before a comma.
-  module _ (h : i < 7) (q : ReadsAs r s (beforeComma (number (drop at s)))) where
-    one-more : numbers (suc (7 - (i + 1))) (take i ps) (drop at s) ≡ parametersOf s
-    one-more = let z : 7 - i ≡ suc (7 - (i + 1)) = omega arith in rw z at (k .rest)
+  module _ (h : i < lastParameter) (q : ReadsAs r s (beforeComma (number (drop at s)))) where
+    one-more : numbers (suc (lastParameter - (i + 1))) (take i ps) (drop at s) ≡ parametersOf s
+    one-more = let z : lastParameter - i ≡ suc (lastParameter - (i + 1)) = omega arith in rw z at (k .rest)
 
     pub listing-broken : r ≡ N.Broken → broken ≡ parametersOf s
     unfolding numbers
@@ -189,22 +189,22 @@ module _ {s ps : List ℕ} {at i : ℕ} (k : Listing s ps at i) {r : Number} whe
         }
 
   -- The eighth: the line has to end.
-  module _ (h : 7 ≤ i) (q : ReadsAs r s (number (drop at s))) where
-    all-seven : atEnd (take 7 ps) (number (drop at s)) ≡ parametersOf s
+  module _ (h : lastParameter ≤ i) (q : ReadsAs r s (number (drop at s))) where
+    all-seven : atEnd (take lastParameter ps) (number (drop at s)) ≡ parametersOf s
     unfolding numbers
-    all-seven = let z : i ≡ 7 = omega (arith, k .within) in rw z at (k .rest)
+    all-seven = let z : i ≡ lastParameter = omega (arith, k .within) in rw z at (k .rest)
 
     pub listing-none : r ≡ N.Broken → broken ≡ parametersOf s
     unfolding atEnd
     listing-none e = rw (none-of q e) at all-seven
 
     module _ {v n : ℕ} (e : r ≡ N.Is v n) where
-      read-last : atEnd (take 7 ps) (done v (drop n s)) ≡ parametersOf s
+      read-last : atEnd (take lastParameter ps) (done v (drop n s)) ≡ parametersOf s
       read-last = rw (done-of q e) at all-seven
 
       pub listing-not : n < length s → broken ≡ parametersOf s
-      listing-not g = sym (at-end-more s n v (take 7 ps) g) ∙ read-last
+      listing-not g = sym (at-end-more s n v (take lastParameter ps) g) ∙ read-last
 
-      pub listing-last : length s ≤ n → are (set ps 7 v) ≡ parametersOf s
+      pub listing-last : length s ≤ n → are (set ps lastParameter v) ≡ parametersOf s
       listing-last g =
-          ap are (sym (eighth ps v (k .eight))) ∙ sym (at-end s n v (take 7 ps) g) ∙ read-last
+          ap are (sym (eighth ps v (k .eight))) ∙ sym (at-end s n v (take lastParameter ps) g) ∙ read-last

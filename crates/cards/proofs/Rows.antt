@@ -13,11 +13,9 @@ use Rattle.cards.specs.declared.Count.the-variants as K
 use Rattle.cards.specs.declared.TickLine.the-variants as T
 
 edition : editionOf (bytes "edition=1") ≡ true
-unfolding editionOf hasPrefix
 edition = refl
 
 no-edition : editionOf (bytes "edition=12") ≡ false
-unfolding editionOf hasPrefix
 no-edition = refl
 
 -- "`k=` eight numbers 0 to 999,999 with commas"

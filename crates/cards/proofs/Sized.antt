@@ -8,13 +8,13 @@ use lib.Dec.{leb, eqb}
 use lib.ListN.{length, getD, drop, length-drop}
 use borrow.Author.Tests.{leb-true, eqb-false}
 use Rattle.limits.specs.Limits.{literalCount, lineLimit}
-use Rattle.lists.specs.Text.{bytes}
+use Rattle.cards.specs.Heads.{parametersHead, countHead, afterHead}
 use Rattle.lists.specs.Decimal.{Numeral, isDigit, settled, digitsAfter, numeral}
 use Rattle.lists.specs.Decimal.Numeral.{is, above, missing}
 use Rattle.lists.proofs.Choice.{chosen}
 use Rattle.lists.proofs.Decimals.{digit-range, is-bounded}
 use Rattle.cards.specs.Numbers.{Parsed, parsed, number, hasPrefix, Listed, beforeComma, thenListed, atEnd}
-use Rattle.cards.specs.Numbers.{numbers, parametersOf, wholly, countOf}
+use Rattle.cards.specs.Numbers.{numbers, lastParameter, parametersOf, wholly, countOf}
 use Rattle.cards.specs.Numbers.Parsed.{done, none}
 use Rattle.cards.specs.Numbers.Listed.{are, broken}
 use Rattle.cards.specs.declared.Count.{Count}
@@ -82,8 +82,10 @@ numbers-low (suc m) got l h =
 pub parameters-low : (l ps : List ℕ) → parametersOf l ≡ are ps → Low ps
 unfolding parametersOf
 parameters-low l ps e =
+    let rest = afterHead parametersHead l in
     subst AllLow e
-    (if-low (hasPrefix (bytes "k=") l) (numbers 7 [] (drop 2 l)) (numbers-low 7 [] (drop 2 l) (λ j. omega arith)))
+    (if-low (hasPrefix parametersHead l) (numbers lastParameter [] rest)
+    (numbers-low lastParameter [] rest (λ j. omega arith)))
 
 -- So is a number of ticks.
 abbrev pub CountLow : Count → Type 0
@@ -103,8 +105,8 @@ if-count false x h = tt
 pub count-low : (l : List ℕ) → CountLow (countOf l)
 unfolding countOf
 count-low l =
-    if-count (hasPrefix (bytes "ticks=") l) (wholly (number (drop 6 l)))
-    (wholly-low (number (drop 6 l)) (number-small (drop 6 l)))
+    if-count (hasPrefix countHead l) (wholly (number (afterHead countHead l)))
+    (wholly-low (number (afterHead countHead l)) (number-small (afterHead countHead l)))
 
 -- ---- how long
 
@@ -227,11 +229,11 @@ if-spans m l false x h = tt
 pub parameters-short : (l ps : List ℕ) → parametersOf l ≡ are ps → length l < lineLimit
 unfolding parametersOf
 parameters-short l ps e =
-    let rest = drop 2 l in
+    let rest = afterHead parametersHead l in
     let most : length rest ≤ 63 =
     subst (Spans 63 rest) e
-    (if-spans 63 rest (hasPrefix (bytes "k=") l) (numbers 7 [] rest) (numbers-span 7 [] rest)) in
-    omega (arith, most, length-drop 2 l)
+    (if-spans 63 rest (hasPrefix parametersHead l) (numbers lastParameter [] rest) (numbers-span lastParameter [] rest)) in
+    omega (arith, most, length-drop (length parametersHead) l)
 
 abbrev Counts : ℕ → List ℕ → Count → Type 0
 Counts m l (K.Is k) = length l ≤ m
@@ -250,9 +252,9 @@ if-counts m l false x h = tt
 pub count-short : (l : List ℕ) (k : ℕ) → countOf l ≡ K.Is k → length l < lineLimit
 unfolding countOf
 count-short l k e =
-    let rest = drop 6 l in
+    let rest = afterHead countHead l in
     let most : length rest ≤ 7 =
     subst (Counts 7 rest) e
-    (if-counts 7 rest (hasPrefix (bytes "ticks=") l) (wholly (number rest))
+    (if-counts 7 rest (hasPrefix countHead l) (wholly (number rest))
     (wholly-counts rest (number rest) (number-takes rest))) in
-    omega (arith, most, length-drop 6 l)
+    omega (arith, most, length-drop (length countHead) l)

@@ -9,11 +9,12 @@ use lib.Dec.{eqb}
 use lib.ListN.{length, drop}
 use borrow.Author.Tests.{eqb-false, ne-eqb, le-leb, leb-false}
 use Rattle.limits.specs.Limits.{literalCount, lineLimit}
-use Rattle.lists.specs.Text.{bytes}
+use Rattle.cards.specs.Heads.{ruleHead, afterHead}
 use Rattle.cards.specs.Numbers.{hasPrefix, Listed, parametersOf, countOf}
 use Rattle.cards.specs.Numbers.Listed.{are, broken}
 use Rattle.cards.specs.Ticks.{tickLine}
 use Rattle.cards.specs.Lines.{overLong}
+use Rattle.cards.specs.Says.{headRefusal, tickRefusal}
 use Rattle.cards.specs.Says.{Says, stageAt, isOver, brokenBy, editionOf, parametersSay, countSays, tickSays}
 use Rattle.cards.specs.Says.{saysIn, lineSays, stageAfter, endIn, endSays}
 use Rattle.cards.specs.Says.Says.{edition, parameters, rule, count, tick, refused, nothing}
@@ -34,7 +35,7 @@ use Rattle.cards.proofs.Sized.{CountLow, count-low}
 abbrev pub Follows : Phase → ℕ → ℕ → Says → Type 0
 Follows p left n edition = p ≡ P.Edition
 Follows p left n (parameters ps) = p ≡ P.Parameters
-Follows p left n (rule text) = (p ≡ P.Rule) × (6 ≤ n)
+Follows p left n (rule text) = (p ≡ P.Rule) × (length ruleHead ≤ n)
 Follows p left n (count k) = (p ≡ P.Count) × (k < literalCount)
 Follows p left n (tick start signals) = (p ≡ P.Ticks) × (0 < left) × (n ≡ 20)
 Follows p left n (refused r) = isOver p ≡ false
@@ -48,7 +49,7 @@ broken-follows P.Count left n = refl
 broken-follows P.Ticks left n = refl
 broken-follows P.Over left n = refl
 
-edition-follows : (b : Bool) (left n : ℕ) → Follows P.Edition left n (cond b edition (refused 17))
+edition-follows : (b : Bool) (left n : ℕ) → Follows P.Edition left n (cond b edition (refused headRefusal))
 edition-follows true left n = refl
 edition-follows false left n = refl
 
@@ -56,9 +57,9 @@ parameters-follow : (l : Listed) (left n : ℕ) → Follows P.Parameters left n 
 parameters-follow (are ps) left n = refl
 parameters-follow broken left n = refl
 
-rule-follows : (l : List ℕ) (left : ℕ) (b : Bool) → hasPrefix (bytes "watch=") l ≡ b
-    → Follows P.Rule left (length l) (cond b (rule (drop 6 l)) (refused 17))
-rule-follows l left true e = (refl, prefix-long (bytes "watch=") l e)
+rule-follows : (l : List ℕ) (left : ℕ) (b : Bool) → hasPrefix ruleHead l ≡ b
+    → Follows P.Rule left (length l) (cond b (rule (afterHead ruleHead l)) (refused headRefusal))
+rule-follows l left true e = (refl, prefix-long ruleHead l e)
 rule-follows l left false e = refl
 
 count-follows : (k : Count) (left n : ℕ) → CountLow k → Follows P.Count left n (countSays k)
@@ -66,7 +67,7 @@ count-follows (K.Is k) left n h = (refl, h)
 count-follows K.Broken left n h = refl
 
 tick-follows : (l : List ℕ) (left : ℕ) (k : TickLine) (b : Bool) → tickLine l ≡ k → eqb left 0 ≡ b
-    → Follows P.Ticks left (length l) (cond b (refused 18) (tickSays k))
+    → Follows P.Ticks left (length l) (cond b (refused tickRefusal) (tickSays k))
 tick-follows l left k true e h = refl
 tick-follows l left (T.Is start signals) false e h =
     (refl, omega (arith, eqb-false left 0 h), tick-length l start signals e)
@@ -75,7 +76,7 @@ tick-follows l left T.Broken false e h = refl
 in-follows : (p : Phase) (left : ℕ) (l : List ℕ) → Follows p left (length l) (saysIn p left l)
 in-follows P.Edition left l = edition-follows (editionOf l) left (length l)
 in-follows P.Parameters left l = parameters-follow (parametersOf l) left (length l)
-in-follows P.Rule left l = rule-follows l left (hasPrefix (bytes "watch=") l) refl
+in-follows P.Rule left l = rule-follows l left (hasPrefix ruleHead l) refl
 in-follows P.Count left l = count-follows (countOf l) left (length l) (count-low l)
 in-follows P.Ticks left l = tick-follows l left (tickLine l) (eqb left 0) refl refl
 in-follows P.Over left l = refl

@@ -7,11 +7,11 @@ use Prim.Native.Nat.{ℕ, zero, suc, _-_, _≤_}
 use lib.Dec.{eqb}
 use lib.ListN.{length, drop}
 use Rattle.limits.specs.Limits.{literalCount, parameterCount}
-use Rattle.lists.specs.Text.{bytes}
 use Rattle.lists.specs.Decimal.{Numeral, numeral}
 use Rattle.lists.specs.Decimal.Numeral.{is, above, missing}
-use Rattle.cards.specs.declared.Number.{Number}
-use Rattle.cards.specs.declared.Number.the-variants as N
+use Rattle.cards.specs.Heads.{parametersHead, countHead, afterHead}
+use Rattle.cards.specs.declared.decimals.Number.{Number}
+use Rattle.cards.specs.declared.decimals.Number.the-variants as N
 use Rattle.cards.specs.declared.Count.{Count}
 use Rattle.cards.specs.declared.Count.the-variants as K
 
@@ -76,9 +76,13 @@ unfoldable pub numbers : ℕ → List ℕ → List ℕ → Listed
 numbers zero got l = atEnd got (number l)
 numbers (suc m) got l = thenListed (beforeComma (number l)) (λ v r. numbers m (got ++ (v ∷ [])) r)
 
+-- The place of the last parameter.
+abbrev pub lastParameter : ℕ
+lastParameter = parameterCount - 1
+
 -- "`k=` eight numbers 0 to 999,999 with commas"
 unfoldable pub parametersOf : List ℕ → Listed
-parametersOf l = cond (hasPrefix (bytes "k=") l) (numbers (parameterCount - 1) [] (drop 2 l)) broken
+parametersOf l = cond (hasPrefix parametersHead l) (numbers lastParameter [] (afterHead parametersHead l)) broken
 
 -- A number that is all there is.
 unfoldable pub wholly : Parsed → Count
@@ -88,4 +92,4 @@ wholly (done v (b ∷ l)) = K.Broken
 
 -- "`ticks=` 0 to 999,999"
 unfoldable pub countOf : List ℕ → Count
-countOf l = cond (hasPrefix (bytes "ticks=") l) (wholly (number (drop 6 l))) K.Broken
+countOf l = cond (hasPrefix countHead l) (wholly (number (afterHead countHead l))) K.Broken

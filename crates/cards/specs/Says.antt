@@ -5,8 +5,8 @@ use mathlib.Core.Bool.{Bool, true, false, cond}
 use mathlib.Core.List.{List}
 use Prim.Native.Nat.{ℕ, _-_}
 use lib.Dec.{eqb}
-use lib.ListN.{length, drop}
-use Rattle.lists.specs.Text.{bytes}
+use Rattle.lists.specs.Same.{same}
+use Rattle.cards.specs.Heads.{editionLine, ruleHead, afterHead}
 use Rattle.cards.specs.Numbers.{hasPrefix, Listed, parametersOf, countOf}
 use Rattle.cards.specs.Numbers.Listed.{are, broken}
 use Rattle.cards.specs.Ticks.{tickLine}
@@ -37,7 +37,7 @@ pub data Says : Type 0 where
 abbrev pub saysBy : Content → List ℕ → List ℕ → Says
 saysBy C.Edition ps l = edition
 saysBy C.Parameters ps l = parameters ps
-saysBy C.Rule ps l = rule (drop 6 l)
+saysBy C.Rule ps l = rule (afterHead ruleHead l)
 saysBy (C.Count k) ps l = count k
 saysBy (C.Tick start signals) ps l = tick start signals
 saysBy (C.Refused r) ps l = refused r
@@ -59,42 +59,48 @@ isOver P.Ticks = false
 isOver P.Over = true
 
 -- "A broken, missing or over-long line is 17 in the four first lines, 18 later"
+abbrev pub headRefusal : ℕ
+headRefusal = 17
+
+abbrev pub tickRefusal : ℕ
+tickRefusal = 18
+
 abbrev pub brokenBy : Phase → Says
-brokenBy P.Edition = refused 17
-brokenBy P.Parameters = refused 17
-brokenBy P.Rule = refused 17
-brokenBy P.Count = refused 17
-brokenBy P.Ticks = refused 18
+brokenBy P.Edition = refused headRefusal
+brokenBy P.Parameters = refused headRefusal
+brokenBy P.Rule = refused headRefusal
+brokenBy P.Count = refused headRefusal
+brokenBy P.Ticks = refused tickRefusal
 brokenBy P.Over = nothing
 
--- The first line: "`edition=1`", these nine bytes and no other.
-unfoldable pub editionOf : List ℕ → Bool
-editionOf l = cond (eqb (length l) 9) (hasPrefix (bytes "edition=1") l) false
+-- The first line: "`edition=1`", these bytes and no other.
+abbrev pub editionOf : List ℕ → Bool
+editionOf l = same l editionLine
 
 -- The second line: "`k=` eight numbers".
 abbrev pub parametersSay : Listed → Says
 parametersSay (are ps) = parameters ps
-parametersSay broken = refused 17
+parametersSay broken = refused headRefusal
 
 -- The fourth line: "`ticks=` 0 to 999,999".
 abbrev pub countSays : Count → Says
 countSays (K.Is k) = count k
-countSays K.Broken = refused 17
+countSays K.Broken = refused headRefusal
 
 -- "then that many lines `t=` [..]",
 abbrev pub tickSays : TickLine → Says
 tickSays (T.Is start signals) = tick start signals
-tickSays T.Broken = refused 18
+tickSays T.Broken = refused tickRefusal
 
 -- where so many ticks are left: "bytes after the last tick are 18".
 abbrev pub tickIn : ℕ → List ℕ → Says
-tickIn left l = cond (eqb left 0) (refused 18) (tickSays (tickLine l))
+tickIn left l = cond (eqb left 0) (refused tickRefusal) (tickSays (tickLine l))
 
 -- What a line of the right length says, where so many ticks are left: "`watch=` rule text" in the third line.
 abbrev pub saysIn : Phase → ℕ → List ℕ → Says
-saysIn P.Edition left l = cond (editionOf l) edition (refused 17)
+saysIn P.Edition left l = cond (editionOf l) edition (refused headRefusal)
 saysIn P.Parameters left l = parametersSay (parametersOf l)
-saysIn P.Rule left l = cond (hasPrefix (bytes "watch=") l) (rule (drop 6 l)) (refused 17)
+saysIn P.Rule left l = cond (hasPrefix ruleHead l) (rule (afterHead ruleHead l)) (refused headRefusal)
 saysIn P.Count left l = countSays (countOf l)
 saysIn P.Ticks left l = tickIn left l
 saysIn P.Over left l = nothing
@@ -116,12 +122,12 @@ stageAfter left nothing = stageAt P.Over 0
 -- What the end of the input says, after so many bytes with no byte 10: a line is missing or broken, unless every tick
 -- was read and nothing comes after the last.
 abbrev pub endIn : Phase → ℕ → ℕ → Says
-endIn P.Edition left n = refused 17
-endIn P.Parameters left n = refused 17
-endIn P.Rule left n = refused 17
-endIn P.Count left n = refused 17
-endIn P.Ticks left n = cond (eqb left 0) (cond (eqb n 0) nothing (refused 18)) (refused 18)
-endIn P.Over left n = nothing
+endIn P.Edition left n = brokenBy P.Edition
+endIn P.Parameters left n = brokenBy P.Parameters
+endIn P.Rule left n = brokenBy P.Rule
+endIn P.Count left n = brokenBy P.Count
+endIn P.Ticks left n = cond (eqb left 0) (cond (eqb n 0) nothing (brokenBy P.Ticks)) (brokenBy P.Ticks)
+endIn P.Over left n = brokenBy P.Over
 
 abbrev pub endSays : Stage → ℕ → Says
 endSays k n = endIn (k .phase) (k .left) n

@@ -1,13 +1,15 @@
 // Cards: what a line of a card says. A light machine over bytes: which line comes next, how many ticks are left, and
 // for each line what it says or its refusal. No table, no state and no step is in it; the definition is `lineSays` in
 // specs/Says.antt. The sentences quoted are document 01's, from "towerwatch".
-use lists::Decimal;
+mod decimals;
+
+use decimals::Number;
 ghost use mathlib.Core.Path.{_≡_};
 ghost use mathlib.Core.List.{List};
 ghost use Prim.Native.Nat.{ℕ};
 ghost use lib.ListN.{drop, replicate};
 ghost use Rattle.limits.specs.Limits.{parameterCount};
-ghost use Rattle.cards.specs.Numbers.{hasPrefix, number, beforeComma, ReadsAs, parametersOf, countOf};
+ghost use Rattle.cards.specs.Numbers.{parametersOf, countOf};
 ghost use Rattle.cards.specs.Ticks.{hexOf, tickLine, tickFirst};
 ghost use Rattle.cards.specs.Says.{editionOf, parametersSay, countSays, tickIn, saysBy, brokenBy, lineSays};
 ghost use Rattle.cards.specs.Says.{endSays, stageAt, stageAfter, first, isOver};
@@ -18,11 +20,19 @@ const LAST: usize = limits::PARAMETERS - 1;
 // The bytes of a tick line, its byte 10 not counted.
 pub const TICK_LINE: usize = 20;
 
-// The number at a place of a line, and the place after it.
-enum Number {
-    Is { value: u32, next: usize },
-    Broken,
-}
+// The first line of a card, and how the next three begin.
+const EDITION_LINE: [u8; 9] = *b"edition=1";
+
+const PARAMETERS_HEAD: [u8; 2] = *b"k=";
+
+pub const RULE_HEAD: [u8; 6] = *b"watch=";
+
+const COUNT_HEAD: [u8; 6] = *b"ticks=";
+
+// "A broken, missing or over-long line is 17 in the four first lines, 18 later"
+const HEAD_REFUSAL: u32 = 17;
+
+const TICK_REFUSAL: u32 = 18;
 
 // The number of ticks.
 pub enum Count {
@@ -70,53 +80,6 @@ pub struct LineRead {
     pub values: [u32; limits::PARAMETERS],
 }
 
-// Whether s begins with the bytes w.
-fn has_prefix(s: &[u8], w: &[u8]) -> bool
-    ensures { λ r. ⌜ r ≡ hasPrefix (now (w .entry)) (now (s .entry)) ⌝ }
-{
-    let mut k = 0;
-    while k < w.len() {
-        if s.len() <= k {
-            return false;
-        }
-        if s[k] != w[k] {
-            return false;
-        }
-        k += 1;
-    }
-    true
-}
-
-// The decimal number at a place: "0 to 999,999", and "decimal numbers have no needless 0".
-fn decimal_at(s: &[u8], at: usize) -> Number
-    ensures { λ r. ⌜ ReadsAs r (now (s .entry)) (number (drop at (now (s .entry)))) ⌝ }
-{
-    match lists::read_decimal(s, at, limits::LITERALS - 1) {
-        Decimal::Is { value, next } => Number::Is { value, next },
-        Decimal::Above { next } => Number::Broken,
-        Decimal::Missing => Number::Broken,
-    }
-}
-
-// The same before a comma; the place after it is the one after the comma.
-fn decimal_before_comma(s: &[u8], at: usize) -> Number
-    ensures { λ r. ⌜ ReadsAs r (now (s .entry)) (beforeComma (number (drop at (now (s .entry))))) ⌝ }
-{
-    let Number::Is { value, next } = decimal_at(s, at) else {
-        return Number::Broken;
-    };
-    if s.len() <= next {
-        return Number::Broken;
-    }
-    if s[next] != b',' {
-        return Number::Broken;
-    }
-    Number::Is {
-        value: value,
-        next: next + 1,
-    }
-}
-
 // With no parameters beside it.
 fn plain(content: Content) -> LineRead
     ensures { λ r. ⌜ (r .content ≡ content) × (r .values ≡ replicate parameterCount 0) ⌝ }
@@ -133,25 +96,25 @@ fn parameters_line(s: &[u8]) -> LineRead
         ≡ parametersSay (parametersOf (now (s .entry))))
         × ((r .content ≡ Content.Parameters → ⊥) → r .values ≡ replicate parameterCount 0) ⌝ }
 {
-    if !has_prefix(s, b"k=") {
-        return plain(Content::Refused(17));
+    if !decimals::has_prefix(s, &PARAMETERS_HEAD) {
+        return plain(Content::Refused(HEAD_REFUSAL));
     }
     let mut ps = [0u32; limits::PARAMETERS];
-    let mut at = 2;
+    let mut at = PARAMETERS_HEAD.len();
     let mut i = 0;
     while i < LAST {
-        let Number::Is { value, next } = decimal_before_comma(s, at) else {
-            return plain(Content::Refused(17));
+        let Number::Is { value, next } = decimals::decimal_before_comma(s, at) else {
+            return plain(Content::Refused(HEAD_REFUSAL));
         };
         ps[i] = value;
         at = next;
         i += 1;
     }
-    let Number::Is { value, next } = decimal_at(s, at) else {
-        return plain(Content::Refused(17));
+    let Number::Is { value, next } = decimals::decimal_at(s, at) else {
+        return plain(Content::Refused(HEAD_REFUSAL));
     };
     if next < s.len() {
-        return plain(Content::Refused(17));
+        return plain(Content::Refused(HEAD_REFUSAL));
     }
     ps[LAST] = value;
     LineRead {
@@ -164,10 +127,10 @@ fn parameters_line(s: &[u8]) -> LineRead
 fn count_line(s: &[u8]) -> Count
     ensures { λ r. ⌜ r ≡ countOf (now (s .entry)) ⌝ }
 {
-    if !has_prefix(s, b"ticks=") {
+    if !decimals::has_prefix(s, &COUNT_HEAD) {
         return Count::Broken;
     }
-    let Number::Is { value, next } = decimal_at(s, 6) else {
+    let Number::Is { value, next } = decimals::decimal_at(s, COUNT_HEAD.len()) else {
         return Count::Broken;
     };
     if next < s.len() {
@@ -235,10 +198,7 @@ fn tick_line(s: &[u8]) -> TickLine
 fn edition_line(s: &[u8]) -> bool
     ensures { λ r. ⌜ r ≡ editionOf (now (s .entry)) ⌝ }
 {
-    if s.len() != 9 {
-        return false;
-    }
-    has_prefix(s, b"edition=1")
+    lists::same_bytes(s, &EDITION_LINE)
 }
 
 // The tick line at a place of s, where it is there with its byte 10.
@@ -258,16 +218,16 @@ pub fn tick_at(s: &[u8], at: usize) -> TickLine
     tick_line(&s[at..stop])
 }
 
-// "A broken, missing or over-long line is 17 in the four first lines, 18 later"
+// What a broken, missing or over-long line says.
 pub fn broken(p: Phase) -> Content
     ensures { λ r. ⌜ ((ps l : List ℕ) → saysBy r ps l ≡ brokenBy p) ⌝ }
 {
     match p {
-        Phase::Edition => Content::Refused(17),
-        Phase::Parameters => Content::Refused(17),
-        Phase::Rule => Content::Refused(17),
-        Phase::Count => Content::Refused(17),
-        Phase::Ticks => Content::Refused(18),
+        Phase::Edition => Content::Refused(HEAD_REFUSAL),
+        Phase::Parameters => Content::Refused(HEAD_REFUSAL),
+        Phase::Rule => Content::Refused(HEAD_REFUSAL),
+        Phase::Count => Content::Refused(HEAD_REFUSAL),
+        Phase::Ticks => Content::Refused(TICK_REFUSAL),
         Phase::Over => Content::Nothing,
     }
 }
@@ -278,7 +238,7 @@ fn count_content(s: &[u8]) -> Content
 {
     let k = count_line(s);
     match k {
-        Count::Broken => Content::Refused(17),
+        Count::Broken => Content::Refused(HEAD_REFUSAL),
         Count::Is(v) => Content::Count(v),
     }
 }
@@ -288,11 +248,11 @@ fn tick_content(left: u32, s: &[u8]) -> Content
     ensures { λ r. ⌜ ((ps l : List ℕ) → saysBy r ps l ≡ tickIn left (now (s .entry))) ⌝ }
 {
     if left == 0 {
-        return Content::Refused(18);
+        return Content::Refused(TICK_REFUSAL);
     }
     let t = tick_line(s);
     match t {
-        TickLine::Broken => Content::Refused(18),
+        TickLine::Broken => Content::Refused(TICK_REFUSAL),
         TickLine::Is { start, signals } => Content::Tick { start, signals },
     }
 }
@@ -311,14 +271,14 @@ pub fn read_line(stage: Stage, s: &[u8]) -> LineRead
             if edition_line(s) {
                 return plain(Content::Edition);
             }
-            plain(Content::Refused(17))
+            plain(Content::Refused(HEAD_REFUSAL))
         }
         Phase::Parameters => parameters_line(s),
         Phase::Rule => {
-            if has_prefix(s, b"watch=") {
+            if decimals::has_prefix(s, &RULE_HEAD) {
                 return plain(Content::Rule);
             }
-            plain(Content::Refused(17))
+            plain(Content::Refused(HEAD_REFUSAL))
         }
         Phase::Count => plain(count_content(s)),
         Phase::Ticks => plain(tick_content(stage.left, s)),
@@ -364,15 +324,15 @@ pub fn end(stage: Stage, n: usize) -> Content
                 if n == 0 {
                     return Content::Nothing;
                 }
-                return Content::Refused(18);
+                return Content::Refused(TICK_REFUSAL);
             }
-            Content::Refused(18)
+            Content::Refused(TICK_REFUSAL)
         }
         Phase::Over => Content::Nothing,
-        Phase::Edition => Content::Refused(17),
-        Phase::Parameters => Content::Refused(17),
-        Phase::Rule => Content::Refused(17),
-        Phase::Count => Content::Refused(17),
+        Phase::Edition => Content::Refused(HEAD_REFUSAL),
+        Phase::Parameters => Content::Refused(HEAD_REFUSAL),
+        Phase::Rule => Content::Refused(HEAD_REFUSAL),
+        Phase::Count => Content::Refused(HEAD_REFUSAL),
     }
 }
 

@@ -18,7 +18,7 @@ use Rattle.words.specs.Word.{within, isOp, isSignal, isNum, isBit, isTest, isCo
 use Rattle.grammar.specs.Grammar.{Symbol, bitWord, signalWord, opWord, numWord, countWord}
 use Rattle.grammar.specs.Grammar.Symbol.{F, D, C, U, B}
 use Rattle.grammar.specs.Parse.{Result, Join, Unit as First, Atom, word, bind, joinOf, unitOf, atomOf}
-use Rattle.grammar.specs.Parse.{leafAt, compared, closed, stepF, stepD, stepC, stepExists, stepU, stepA, stepB}
+use Rattle.grammar.specs.Parse.{leafAt, withComparison, closed, stepF, stepD, stepC, stepExists, stepU, stepA, stepB}
 use Rattle.grammar.specs.Parse.{read}
 use Rattle.grammar.specs.Parse.Result.{no-rule, ok}
 use Rattle.grammar.specs.Parse.Goal.{goF, goD, goDs, goC, goCs, goU, goA, goB}
@@ -149,9 +149,9 @@ module _ (ws : List ℕ) where
   pub closed-at : (w : ℕ) (t : Tree) (j : ℕ) → word ws j ≡ w → closed ws w t j ≡ ok t (j + 1)
   closed-at w t j e = ap (λ (x : Bool). cond x (ok t (j + 1)) no-rule) (eq-eqb _ _ e)
 
-  compared-at : (f : Op → Num → Tree) (j : ℕ) → isOp (word ws j) ≡ true → isNum (word ws (j + 1)) ≡ true →
-      compared ws f j ≡ ok (f (opWord (word ws j)) (numWord (word ws (j + 1)))) (j + 2)
-  compared-at f j p q =
+  comparison-read : (f : Op → Num → Tree) (j : ℕ) → isOp (word ws j) ≡ true → isNum (word ws (j + 1)) ≡ true →
+      withComparison ws f j ≡ ok (f (opWord (word ws j)) (numWord (word ws (j + 1)))) (j + 2)
+  comparison-read f j p q =
       let r : Result = ok (f (opWord (word ws j)) (numWord (word ws (j + 1)))) (j + 2) in
       ap (λ (x : Bool). cond (x && isNum (word ws (j + 1))) r no-rule) p ∙ ap (λ (x : Bool). cond x r no-rule) q
 
@@ -204,12 +204,12 @@ module _ (ws : List ℕ) where
   complete (u-len {i} e h n) =
       U-at false i unit-atom (ap (unitOf false) e)
       ∙ A-at i atom-len (len-atom (word ws i) e)
-      ∙ compared-at len (i + 1) h n
+      ∙ comparison-read len (i + 1) h n
   complete (u-count {i} {j} {p} h r f n) =
       U-at false i unit-atom (count-unit (word ws i) h)
       ∙ A-at i atom-count (count-atom (word ws i) h)
       ∙ then-on _ (complete r)
-      ∙ compared-at (count (countWord (word ws i)) p) j f n
+      ∙ comparison-read (count (countWord (word ws i)) p) j f n
   complete (b-square {i} {j} {p} e r f) =
       B-at i e
       ∙ then-on _ (complete r (ends-at _ SQUARE-END f (omega arith)))

@@ -18,7 +18,7 @@ use Rattle.words.specs.Word.{isOp, isSignal, isNum, isBit, isTest, isCount}
 use Rattle.grammar.specs.Grammar.{Symbol, bitWord, signalWord, opWord, numWord, countWord}
 use Rattle.grammar.specs.Grammar.Symbol.{F, D, C, U, B}
 use Rattle.grammar.specs.Parse.{Result, Goal, Join, Unit as First, Atom, word, bind, joinOf, unitOf, atomOf}
-use Rattle.grammar.specs.Parse.{leafAt, compared, closed, stepF, stepD, stepC, stepExists, stepU, stepA, stepB}
+use Rattle.grammar.specs.Parse.{leafAt, withComparison, closed, stepF, stepD, stepC, stepExists, stepU, stepA, stepB}
 use Rattle.grammar.specs.Parse.{step, parse, rank, depth, read}
 use Rattle.grammar.specs.Parse.Result.{no-rule, ok}
 use Rattle.grammar.specs.Parse.Goal.{goF, goD, goDs, goC, goCs, goU, goA, goB}
@@ -147,11 +147,11 @@ module _ (ws : List ℕ) where
       go false e = fails
 
   -- a comparison,
-  sound-compared : {P : Tree → ℕ → Type 0} (f : Op → Num → Tree) (j : ℕ) →
+  sound-comparison : {P : Tree → ℕ → Type 0} (f : Op → Num → Tree) (j : ℕ) →
       (isOp (word ws j) ≡ true → isNum (word ws (j + 1)) ≡ true →
       P (f (opWord (word ws j)) (numWord (word ws (j + 1)))) (j + 2)) →
-      All P (compared ws f j)
-  sound-compared {P} f j h = go (isOp (word ws j)) (isNum (word ws (j + 1))) refl refl
+      All P (withComparison ws f j)
+  sound-comparison {P} f j h = go (isOp (word ws j)) (isNum (word ws (j + 1))) refl refl
     where
       go : (x y : Bool) → isOp (word ws j) ≡ x → isNum (word ws (j + 1)) ≡ y →
           All P (cond (x && y) (ok (f (opWord (word ws j)) (numWord (word ws (j + 1)))) (j + 2)) no-rule)
@@ -215,10 +215,10 @@ module _ (ws : List ℕ) where
 
     sound-A : (k : Atom) (i : ℕ) → Names (word ws i) k → All (Holds goA i) (stepA ws rec k i)
     sound-A atom-test i e = all-bind (snd goB (i + 1)) (λ p j s. gives (u-test e s))
-    sound-A atom-len i e = sound-compared len (i + 1) (λ f g. u-len e f g)
+    sound-A atom-len i e = sound-comparison len (i + 1) (λ f g. u-len e f g)
     sound-A atom-count i e =
         all-bind (snd goB (i + 1)) (λ p j s.
-        sound-compared (count (countWord (word ws i)) p) j (λ f g. u-count e s f g))
+        sound-comparison (count (countWord (word ws i)) p) j (λ f g. u-count e s f g))
     sound-A atom-none i e = fails
 
     sound-B : (b : Bool) (i : ℕ) → eqb (word ws i) SQUARE ≡ b → All (Holds goB i) (stepB ws rec b i)

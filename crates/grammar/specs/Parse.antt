@@ -76,8 +76,8 @@ module _ (ws : List ℕ) where
   comparisonAt j = isOp (word ws j) && isNum (word ws (j + 1))
 
   -- what op n at j makes of an atom
-  abbrev pub compared : (Op → Num → Tree) → ℕ → Result
-  compared f j = cond (comparisonAt j) (ok (f (opWord (word ws j)) (numWord (word ws (j + 1)))) (j + 2)) no-rule
+  abbrev pub withComparison : (Op → Num → Tree) → ℕ → Result
+  withComparison f j = cond (comparisonAt j) (ok (f (opWord (word ws j)) (numWord (word ws (j + 1)))) (j + 2)) no-rule
 
   -- the tree, if the word at j closes it
   abbrev pub closed : ℕ → Tree → ℕ → Result
@@ -111,8 +111,8 @@ module _ (ws : List ℕ) where
 
     abbrev pub stepA : Atom → ℕ → Result
     stepA atom-test i = bind (rec goB (i + 1)) (λ p j. ok (test (testWord (word ws i)) p) j)
-    stepA atom-len i = compared len (i + 1)
-    stepA atom-count i = bind (rec goB (i + 1)) (λ p j. compared (count (countWord (word ws i)) p) j)
+    stepA atom-len i = withComparison len (i + 1)
+    stepA atom-count i = bind (rec goB (i + 1)) (λ p j. withComparison (count (countWord (word ws i)) p) j)
     stepA atom-none i = no-rule
 
     abbrev pub stepB : Bool → ℕ → Result

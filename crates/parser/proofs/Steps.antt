@@ -15,7 +15,7 @@ use Rattle.words.specs.Word
 use Rattle.words.specs.Word.{isSignal, isTest, isCount}
 use Rattle.grammar.specs.Grammar.{signalWord, opWord, numWord, testWord, countWord}
 use Rattle.grammar.specs.Parse.{Goal, word, read, bind, joinOf, unitOf}
-use Rattle.grammar.specs.Parse.{stepB, stepExists, comparisonAt, compared, closed}
+use Rattle.grammar.specs.Parse.{stepB, stepExists, comparisonAt, withComparison, closed}
 use Rattle.grammar.specs.Parse.Result.{no-rule, ok}
 use Rattle.grammar.specs.Parse.Goal.{goF, goD, goU, goA, goB}
 use Rattle.grammar.specs.Parse.Join.{join-then, join-chop, join-none}
@@ -61,7 +61,7 @@ module _ (ws : List ℕ) where
   test-is i k = A-at ws i atom-test (test-atom (word ws i) k)
 
   count-is : (i : ℕ) → isCount (word ws i) ≡ true →
-      read ws goA i ≡ bind (read ws goB (i + 1)) (λ p j. compared ws (count (countWord (word ws i)) p) j)
+      read ws goA i ≡ bind (read ws goB (i + 1)) (λ p j. withComparison ws (count (countWord (word ws i)) p) j)
   count-is i k = A-at ws i atom-count (count-atom (word ws i) k)
 
   -- and a bracket that is not closed.
@@ -204,7 +204,7 @@ module _ {ws : List ℕ} {i : ℕ} {before : List ℕ} {top : ℕ} {after : List
 
   -- op n ends an atom whose numbers so far are xs.
   A-compared : {xs : List ℕ} {j e k : ℕ} {r : Parsed} {mid : List ℕ} {lead : Bool} (tree : Op → Num → Tree) →
-      read ws goA i ≡ compared ws tree j → Stored before top xs e mid → ParsesComparison ws j mid e k lead r after →
+      read ws goA i ≡ withComparison ws tree j → Stored before top xs e mid → ParsesComparison ws j mid e k lead r after →
       ((o : Op) (n : Num) → flat (tree o n) ≡ xs ++ comparisonRow k o n) →
       ((o : Op) (n : Num) → factsOf (tree o n) ≡ atomFacts (lead && upper o)) → Parses goA ws i before top r after
   A-compared {xs} {j} {e} {k} {r} {mid} {lead} tree is stored h flats facts =

@@ -10,7 +10,6 @@ use lib.Dec.{ltb, eqb}
 use lib.ListN.{length, getD, drop, replicate, length-append, length-replicate}
 use lib.Seq.{sets}
 use borrow.Author.Tests.{le-leb, lt-ltb, lt-leb, ltb-false}
-use Rattle.lists.specs.Text.{bytes}
 use Rattle.traces.specs.declared.Tick.{Tick}
 use Rattle.words.specs.Split.{Out, splitOf}
 use Rattle.words.specs.Split.Out.{made}
@@ -40,10 +39,11 @@ use Rattle.rules.proofs.Theorems.{accepted}
 use Rattle.observers.specs.Compile.{afterCompile, compiled}
 use Rattle.observers.specs.declared.Compiled.the-variants as C
 use Rattle.observers.proofs.Demand.{Known, known, small-raw, observes-rule, room-compiled}
+use Rattle.cards.specs.Heads.{editionLine, ruleHead}
 use Rattle.cards.specs.Numbers.{hasPrefix, parametersOf, countOf}
 use Rattle.cards.specs.Numbers.Listed.{are}
 use Rattle.cards.specs.Lines.{Cut, cut}
-use Rattle.cards.specs.Says.{stageAt, editionOf, lineSays}
+use Rattle.cards.specs.Says.{stageAt, lineSays}
 use Rattle.cards.specs.declared.Count.the-variants as K
 use Rattle.cards.specs.declared.Phase.the-variants as P
 use Rattle.cards.proofs.Sized.{parameters-low, parameters-short, count-short}
@@ -171,9 +171,9 @@ abbrev silent : World → Effect
 silent w = effectOf O.Quiet w
 
 module _ (t c v : List ℕ) where
-  edition-lined : (ps : List ℕ) → lined (worldOf (watchOf (stageAt P.Edition 0) 0) ps t c v) (bytes "edition=1")
+  edition-lined : (ps : List ℕ) → lined (worldOf (watchOf (stageAt P.Edition 0) 0) ps t c v) editionLine
       ≡ silent (worldOf (watchOf (stageAt P.Parameters 0) 0) ps t c v)
-  unfolding lined played lineSays editionOf hasPrefix
+  unfolding lined played lineSays
   edition-lined ps = refl
 
   parameters-lined : (old ps l : List ℕ) → length l < lineLimit → parametersOf l ≡ are ps
@@ -190,12 +190,12 @@ module _ (t c v : List ℕ) where
 
   rule-lined : (ps text t' : List ℕ) (n : ℕ) → length text ≤ textLimit
       → compiled text t ≡ afterCompile (C.Equations n) t' → freshened t' n c .answer ≡ F.Made
-      → lined (worldOf (watchOf (stageAt P.Rule 0) 0) ps t c v) (bytes "watch=" ++ text)
+      → lined (worldOf (watchOf (stageAt P.Rule 0) 0) ps t c v) (ruleHead ++ text)
       ≡ silent (worldOf (watchOf (stageAt P.Count 0) n) ps t' (freshened t' n c .state) v)
   unfolding lined played lineSays ruleMade hasPrefix
   rule-lined ps text t' n h e m =
-      let short : length (bytes "watch=" ++ text) < lineLimit = omega arith in
-      rw (lt-leb lineLimit (length (bytes "watch=" ++ text)) short, e, m)
+      let short : length (ruleHead ++ text) < lineLimit = omega arith in
+      rw (lt-leb lineLimit (length (ruleHead ++ text)) short, e, m)
 
 -- A line that says nothing.
 silent-owed : (w w' : World) (l : List ℕ) (ls : List (List ℕ)) → lined w l ≡ silent w'
@@ -268,7 +268,7 @@ module _ (text ps : List ℕ) (ks : List Tick) (t : Tree) (f : Formula) (second 
     (is-rule : ruleOf text ≡ rule t) (is-formula : formulaOf t ≡ some f) where
   lines-owed : (old table c v : List ℕ) → tableRoom ≤ length table → equationLimit ≤ length c → equationLimit ≤ length v
       → owed (worldOf (watchOf (stageAt P.Edition 0) 0) old table c v)
-      (bytes "edition=1" ∷ second ∷ (bytes "watch=" ++ text) ∷ fourth ∷ rest) []
+      (editionLine ∷ second ∷ (ruleHead ++ text) ∷ fourth ∷ rest) []
       ≡ verdictLines (verdict (traceOfTicks ps ks) f) 0 ks
   lines-owed old table c v room room-c room-v =
       let o = compile text table t is-rule room f is-formula in

@@ -10,6 +10,7 @@ use borrow.Author.Tests.{ne-eqb, lt-leb}
 use Rattle.limits.specs.Limits.{standardCap, lineLimit}
 use Rattle.traces.specs.Trace.{tickOf}
 use Rattle.lists.specs.Line.{line, lineFrom}
+use Rattle.cards.specs.Heads.{ruleHead, afterHead}
 use Rattle.cards.specs.Says.{Says, brokenBy, lineSays, stageAt, stageAfter}
 use Rattle.cards.specs.Says.Says.{rule}
 use Rattle.cards.specs.Ticks.{tickLine}
@@ -41,13 +42,14 @@ unfolding lined played
 plays w l s k e f = rw (f, e)
 
 -- The rule text is the part of the bytes that the reader hands out.
-rule-long : (k : Stage) (l text : List ℕ) → rule text ≡ lineSays k l → 6 ≤ length l
+rule-long : (k : Stage) (l text : List ℕ) → rule text ≡ lineSays k l → length ruleHead ≤ length l
 rule-long k l text e = (rw (sym e) at (says-follows k l)) .1
 
-pub text-at : (k : Stage) (s : List ℕ) (at : ℕ) → rule (drop 6 (lineFrom s at)) ≡ lineSays k (lineFrom s at)
-    → ruleFrom s at ≡ drop 6 (lineFrom s at)
+pub text-at : (k : Stage) (s : List ℕ) (at : ℕ) → rule (afterHead ruleHead (lineFrom s at)) ≡ lineSays k (lineFrom s at)
+    → ruleFrom s at ≡ afterHead ruleHead (lineFrom s at)
 text-at k s at e =
-    ap line (sym (drop-drop 6 at s)) ∙ sym (drop-line 6 (drop at s) (rule-long k (lineFrom s at) _ e))
+    ap line (sym (drop-drop (length ruleHead) at s))
+    ∙ sym (drop-line (length ruleHead) (drop at s) (rule-long k (lineFrom s at) _ e))
 
 -- The rule text is compiled to the table t', and its fresh state made.
 pub rule-fresh : (text t c part t' c' : List ℕ) (n : ℕ) (r a : Compiled) (f : Fresh) → part ≡ text

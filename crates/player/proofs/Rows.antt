@@ -4,7 +4,7 @@ use mathlib.Core.List.{[], _∷_, _++_}
 use Rattle.lists.specs.Text.{bytes}
 use Rattle.cards.specs.Lines.{cut}
 use Rattle.cards.specs.Numbers.{hasPrefix}
-use Rattle.cards.specs.Says.{editionOf, lineSays}
+use Rattle.cards.specs.Says.{lineSays}
 use Rattle.player.specs.Card.{played, lined, refusalDigits, outputBytes, owed, prints, printed}
 use Rattle.player.specs.declared.Output.the-variants as O
 
@@ -39,7 +39,7 @@ unfolding printed prints owed cut outputBytes refusalDigits
 empty = refl
 
 broken-first : printed (bytes "edition=2" ++ (10 ∷ [])) ≡ bytes "refused=17" ++ (10 ∷ [])
-unfolding printed prints owed cut lined played lineSays editionOf hasPrefix outputBytes refusalDigits
+unfolding printed prints owed cut lined played lineSays outputBytes refusalDigits
 broken-first = refl
 
 unended-first : printed (bytes "edition=1") ≡ bytes "refused=17" ++ (10 ∷ [])

@@ -3,8 +3,8 @@ use mathlib.Core.List.{List, [], _∷_, _++_}
 use mathlib.Core.Path.{_≡_}
 use Prim.Native.Nat.{ℕ, suc}
 use lib.ListN.{length}
-use Rattle.lists.specs.Text.{bytes}
 use Rattle.traces.specs.declared.Tick.{Tick}
+use Rattle.cards.specs.Heads.{editionLine, ruleHead}
 use Rattle.cards.specs.Numbers.{parametersOf, countOf}
 use Rattle.cards.specs.Numbers.Listed.{are}
 use Rattle.cards.specs.Ticks.{tickLine}
@@ -27,7 +27,7 @@ pub record Fine (card text ps : List ℕ) (ks : List Tick) : Type 0 where
   pub second : List ℕ
   pub fourth : List ℕ
   pub rest : List (List ℕ)
-  pub lines : cut card ≡ cutAs (bytes "edition=1" ∷ second ∷ (bytes "watch=" ++ text) ∷ fourth ∷ rest) []
+  pub lines : cut card ≡ cutAs (editionLine ∷ second ∷ (ruleHead ++ text) ∷ fourth ∷ rest) []
   pub parameters : parametersOf second ≡ are ps
   pub count : countOf fourth ≡ K.Is (length ks)
   pub ticks : TickLines ps rest ks

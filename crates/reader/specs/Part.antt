@@ -1,9 +1,11 @@
 -- Which part of a card is the rule text. Definitions only.
 use mathlib.Core.List.{List}
 use Prim.Native.Nat.{ℕ, _+_}
+use lib.ListN.{length}
 use Rattle.lists.specs.Line.{lineFrom}
+use Rattle.cards.specs.Heads.{ruleHead}
 
--- What stands after the six bytes `watch=` at a place, up to the line's end (document 01, "towerwatch": "`watch=` rule
+-- What stands after `watch=` at a place, up to the line's end (document 01, "towerwatch": "`watch=` rule
 -- text", "Lines end in byte 10").
 abbrev pub ruleFrom : List ℕ → ℕ → List ℕ
-ruleFrom s at = lineFrom s (at + 6)
+ruleFrom s at = lineFrom s (at + length ruleHead)

@@ -4,9 +4,6 @@
 ghost use mathlib.Core.Path.{_≡_};
 ghost use Rattle.reader.specs.Part.{ruleFrom};
 
-// The bytes of `watch=`.
-const PREFIX: usize = 6;
-
 // The lent bytes, and the place in them where the line `watch=` stands.
 struct Reader<'a> {
     pub bytes: &'a [u8],
@@ -17,13 +14,13 @@ struct Reader<'a> {
 fn rule_at(s: &[u8], at: usize) -> &[u8]
     ensures { λ r. ⌜ now r ≡ ruleFrom (now (s .entry)) at ⌝ }
 {
-    if s.len() < PREFIX {
+    if s.len() < cards::RULE_HEAD.len() {
         return &s[..0];
     }
-    if s.len() - PREFIX < at {
+    if s.len() - cards::RULE_HEAD.len() < at {
         return &s[..0];
     }
-    let from = at + PREFIX;
+    let from = at + cards::RULE_HEAD.len();
     let stop = from + lists::line_length(s, from);
     &s[from..stop]
 }

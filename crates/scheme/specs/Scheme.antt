@@ -48,8 +48,8 @@ abbrev pub two : ℕ → Name → Name → Row
 two k a b = row (Plain k) a b Nought
 
 -- The comparison of a count with the record's literal or parameter.
-abbrev pub compared : Name → Row
-compared a = row Comparison a A C
+abbrev pub comparisonRow : Name → Row
+comparisonRow a = row Comparison a A C
 
 -- The rows of each node. s and n are the start flow and its negation, P the last operand, m a memory.
 abbrev pub constantRows : List Row
@@ -82,16 +82,16 @@ heldRows = keptRows ++ (two AND Idle First ∷ [])
 
 -- c = if n then cap(m, n) else 0, m = 0 -> pre c
 abbrev pub lenRows : List Row
-lenRows = one COUNT-PRE Third ∷ two CAPPED First Idle ∷ two IF Idle Second ∷ compared Third ∷ []
+lenRows = one COUNT-PRE Third ∷ two CAPPED First Idle ∷ two IF Idle Second ∷ comparisonRow Third ∷ []
 
 -- c = if n then m else 0, m = 0 -> pre cap(c, P)
 abbrev pub sumRows : List Row
-sumRows = one COUNT-PRE Third ∷ two IF Idle First ∷ two CAPPED Second Last ∷ compared Second ∷ []
+sumRows = one COUNT-PRE Third ∷ two IF Idle First ∷ two CAPPED Second Last ∷ comparisonRow Second ∷ []
 
 -- c = if P then cap(if n then m else 0, P) else 0, m = 0 -> pre c
 abbrev pub ageRows : List Row
 ageRows =
-    one COUNT-PRE Fourth ∷ two IF Idle First ∷ two CAPPED Second Last ∷ two IF Last Third ∷ compared Fourth ∷ []
+    one COUNT-PRE Fourth ∷ two IF Idle First ∷ two CAPPED Second Last ∷ two IF Last Third ∷ comparisonRow Fourth ∷ []
 
 -- the end of the lead P: n and pre(P) and not P; the last is its negation
 abbrev pub leadEndRows : List Row

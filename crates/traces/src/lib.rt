@@ -3,5 +3,5 @@
 pub struct Tick {
     pub start: u32,
     pub signals: u64,
-    pub parameters: [u32; 8],
+    pub parameters: [u32; limits::PARAMETERS],
 }

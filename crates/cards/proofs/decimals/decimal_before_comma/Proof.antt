@@ -1,9 +1,9 @@
--- `cards::decimal_before_comma` meets its contract: one case for each way that a number and its comma can be missing.
+-- `cards::decimals::decimal_before_comma` meets its contract: one case for each way that a number and its comma can be missing.
 -- `read` is the place after the number is read. Assumes nothing.
 use borrow.Author.Needs.{needs}
 use Rattle.cards.proofs.Numbers.{comma-missing, comma-short, comma-unlike, comma-found}
-use Rattle.cards.proofs.decimal_before_comma.Statement.{statement}
-use Rattle.cards.proofs.decimal_before_comma.Tie as tie
+use Rattle.cards.proofs.decimals.decimal_before_comma.Statement.{statement}
+use Rattle.cards.proofs.decimals.decimal_before_comma.Tie as tie
 
 -- No number; no byte after it; another byte than a comma; a comma.
 no-number : tie.Need-returns

@@ -1,8 +1,8 @@
--- `cards::decimal_at` meets its contract: one case for each answer of the decimal reader. Assumes nothing.
+-- `cards::decimals::decimal_at` meets its contract: one case for each answer of the decimal reader. Assumes nothing.
 use borrow.Author.Needs.{needs}
 use Rattle.cards.proofs.Numbers.{number-is, number-above, number-missing}
-use Rattle.cards.proofs.decimal_at.Statement.{statement}
-use Rattle.cards.proofs.decimal_at.Tie as tie
+use Rattle.cards.proofs.decimals.decimal_at.Statement.{statement}
+use Rattle.cards.proofs.decimals.decimal_at.Tie as tie
 
 pub decimal-at-spec : {M : Type 1} → statement M
 decimal-at-spec =

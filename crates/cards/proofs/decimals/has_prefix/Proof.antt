@@ -1,12 +1,12 @@
--- `cards::has_prefix` meets its contract: what is left to compare decides (`Matching`). Assumes nothing.
+-- `cards::decimals::has_prefix` meets its contract: what is left to compare decides (`Matching`). Assumes nothing.
 use mathlib.Core.Path.{refl}
 use Prim.Native.Nat.{_-_}
 use native.Mathlib.Omega.{arith}
 use borrow.Author.Needs.{needs}
 use lib.ListN.{length}
 use Rattle.cards.proofs.Numbers.{Matching, match-all, match-short, match-miss, match-more}
-use Rattle.cards.proofs.has_prefix.Statement.{statement}
-use Rattle.cards.proofs.has_prefix.Tie as tie
+use Rattle.cards.proofs.decimals.has_prefix.Statement.{statement}
+use Rattle.cards.proofs.decimals.has_prefix.Tie as tie
 
 abbrev Inv-loop : tie.InvT-loop
 Inv-loop s w k₀ k = Matching w s k

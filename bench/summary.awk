@@ -1,0 +1,48 @@
+# Lines `state place name number`, with tabs: a row for each name with the median (the least to the most) of the places,
+# a column for each state. At each place the least number of a name counts. Below a row of C stands the ratio to it.
+BEGIN { FS = "\t" }
+
+{
+    key = $1 SUBSEP $2 SUBSEP $3
+    if (!(key in least) || $4 < least[key]) least[key] = $4
+    places[$2]
+    if (!($3 in seen)) { seen[$3]; order[++count] = $3 }
+}
+
+END {
+    columns = split(states, state, " ")
+    printf "%-58s", "median (least to most) of the places"
+    for (i = 1; i <= columns; i++) printf "%28s", state[i]
+    print ""
+    for (j = 1; j <= count; j++) {
+        row(order[j])
+        ours = order[j]
+        if (sub(/, C(, | with no check, )/, ", ", ours) && ours in seen) ratios(ours, order[j])
+    }
+}
+
+function row(name,   i) {
+    printf "%-58s", name
+    for (i = 1; i <= columns; i++) printf "%28s", summary(state[i], name)
+    print ""
+}
+
+function ratios(ours, other,   i, p) {
+    for (i = 1; i <= columns; i++)
+        for (p in places)
+            if ((state[i], p, ours) in least)
+                least[state[i], p, "    ratio"] = least[state[i], p, ours] / least[state[i], p, other]
+    row("    ratio")
+}
+
+function summary(s, name,   p, n, a, i, j, t) {
+    n = 0
+    for (p in places) if ((s, p, name) in least) a[++n] = least[s, p, name]
+    if (n == 0) return "-"
+    for (i = 2; i <= n; i++)
+        for (j = i; j > 1 && a[j] < a[j - 1]; j--) { t = a[j]; a[j] = a[j - 1]; a[j - 1] = t }
+    t = n % 2 ? a[(n + 1) / 2] : (a[n / 2] + a[n / 2 + 1]) / 2
+    return text(t) " (" text(a[1]) " to " text(a[n]) ")"
+}
+
+function text(x) { return x < 1000 ? sprintf("%.3g", x) : sprintf("%.0f", x) }
