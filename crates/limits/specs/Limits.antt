@@ -1,5 +1,5 @@
 -- The numbers of document 01 that several crates name, each in this one place. Definitions only.
-use Prim.Native.Nat.{ℕ, _*_}
+use Prim.Native.Nat.{ℕ, _*_, _-_}
 
 -- "1 to 2,048 bytes"
 abbrev pub textLimit : ℕ
@@ -31,6 +31,10 @@ opCount = 5
 -- "A literal is 0 to 999,999.", for every cap.
 abbrev pub literalCount : ℕ
 literalCount = 1000000
+
+-- The highest literal, and the highest number of a card.
+abbrev pub lastLiteral : ℕ
+lastLiteral = literalCount - 1
 
 -- "parameter 0 to 7"
 abbrev pub parameterCount : ℕ

@@ -23,6 +23,9 @@ pub const LITERALS: u32 = 1000000;
 
 pub const PARAMETERS: usize = 8;
 
+// The highest literal, and the highest number of a card.
+pub const LAST_LITERAL: u32 = LITERALS - 1;
+
 // The highest count. The definitions of a step take any cap, and this is the one of document 01.
 pub const CAP: u32 = 1000000;
 

@@ -5,6 +5,7 @@ use mathlib.Core.Path.{_≡_}
 use Prim.Native.Nat.{ℕ, _+_, _-_, _*_, _≤_}
 use lib.Dec.{eqb, leb}
 use lib.ListN.{length, drop}
+use Rattle.lists.specs.Text.{byte}
 use Rattle.lists.specs.declared.Decimal.{Decimal}
 use Rattle.lists.specs.declared.Decimal.the-variants.{Is, Above, Missing}
 
@@ -17,7 +18,14 @@ pub data Numeral : Type 0 where
 
 -- `0` to `9`
 unfoldable pub isDigit : ℕ → Bool
-isDigit b = leb 48 b && leb b 57
+isDigit b = leb (byte "0") b && leb b (byte "9")
+
+-- The byte of a digit, and a digit's value.
+abbrev pub digit : ℕ → ℕ
+digit d = byte "0" + d
+
+abbrev pub digitValue : ℕ → ℕ
+digitValue b = b - byte "0"
 
 -- The number v, before the bytes l.
 abbrev pub settled : ℕ → ℕ → List ℕ → Numeral
@@ -27,13 +35,13 @@ settled max v l = cond (leb v max) (is v l) (above l)
 unfoldable pub digitsAfter : ℕ → ℕ → List ℕ → Numeral
 digitsAfter max v [] = settled max v []
 digitsAfter max v (b ∷ l) =
-    let more = digitsAfter max (v * 10 + (b - 48)) l in
+    let more = digitsAfter max (v * 10 + digitValue b) l in
     cond (isDigit b) more (settled max v (b ∷ l))
 
 -- The number at the front, up to max. After a first digit 0 no digit is read.
 unfoldable pub numeral : ℕ → List ℕ → Numeral
 numeral max [] = missing
-numeral max (b ∷ l) = cond (eqb b 48) (is 0 l) (cond (isDigit b) (digitsAfter max (b - 48) l) missing)
+numeral max (b ∷ l) = cond (eqb b (byte "0")) (is 0 l) (cond (isDigit b) (digitsAfter max (digitValue b) l) missing)
 
 -- What an answer says of the bytes s, and the place that it names.
 abbrev pub numeralOf : List ℕ → Decimal → Numeral

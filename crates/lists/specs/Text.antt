@@ -3,8 +3,13 @@ use mathlib.Core.List.{List}
 use Prim.Native.Nat.{ℕ}
 use Prim.Native.Char.{code}
 use Prim.Native.String.{String}
+use Rattle.lists.specs.Number.{numberAt}
 
 -- The codes of a text's characters: for the characters of document 01, its bytes.
 abbrev pub bytes : String → List ℕ
 bytes String.[] = List.[]
 bytes (String._∷_ c s) = List._∷_ (code c) (bytes s)
+
+-- The byte of a text's first character.
+abbrev pub byte : String → ℕ
+byte s = numberAt (bytes s) 0

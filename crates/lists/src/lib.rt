@@ -76,13 +76,16 @@ pub fn copy(from: &[u32], k: usize, to: &mut [u32])
     }
 }
 
-// How many bytes from a place on stand before the first byte 10.
+// The byte that ends a line.
+pub const LINE_END: u8 = 10;
+
+// How many bytes from a place on stand before the first line end.
 pub fn line_length(s: &[u8], at: usize) -> usize
     ensures { λ r. ⌜ r ≡ length (lineFrom (now (s .entry)) at) ⌝ }
 {
     let mut i = at;
     while i < s.len() {
-        if s[i] == 10 {
+        if s[i] == LINE_END {
             return i - at;
         }
         i += 1;
