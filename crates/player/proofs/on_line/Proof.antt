@@ -21,8 +21,12 @@ use Rattle.player.proofs.on_line.Tie as tie
 
 -- ---- what is known of the line
 
+-- Where the arrays are known, from where the stage after the line is; and the start from there.
+abbrev known : tie.After-stage-after → tie.After-slice-known3
+known c = c .before .before .before .before
+
 abbrev begun : tie.After-stage-after → tie.Start
-begun c = let read = c .before .before .before .before .before in read .before .before .before
+begun c = known c .before .before .before .before
 
 module _ (c : tie.After-stage-after) where
   abbrev told : Content
@@ -97,22 +101,31 @@ refused c =
 nothing : tie.Need-returns-7
 nothing c = rw (c .stop2 .ensures) (ends (c .before .before .before) Line.Nothing (c .before .enum-told4 .given .1))
 
--- The rule.
+-- The rule: where it is compiled, from its answer; and where it is known to be one, from there.
+abbrev compiled : tie.After-rule-answer → tie.After-rule-line
+compiled c = c .before .before .before .before .before
+
+abbrev rule-told : tie.After-rule-line → tie.After-enum-told3
+rule-told c = c .before .before .before
+
 rule : tie.Need-returns-3
 rule c =
-    let made = c .before .before .before .before .before in
-    let told = made .before .before .before in
+    let made = compiled c in
+    let told = rule-told made in
     rw (c .rule-answer .ensures)
     (rule-ends (told .before .before) (told .enum-told3 .given .1) _ _ _ (made .rule-line .ensures))
 
--- A tick.
-abbrev known : tie.After-on-tick → tie.After-content2
-known c = let lent = c .before .before .before .before in lent .before .before
+-- A tick: where the parameters are lent to `on_tick`, from its call; and where the line is known to be one.
+abbrev lent : tie.After-on-tick → tie.After-on-tick-arg
+lent c = c .before .before .before .before
+
+abbrev tick-told : tie.After-on-tick → tie.After-content2
+tick-told c = lent c .before .before
 
 tick : tie.Need-returns-5
 tick c =
     let made = c .before .before .before .before in
-    let told = known made in
+    let told = tick-told made in
     made .on-tick .ensures ∙ ends (told .before .before) (Line.Tick _ _) (told .content2 .given .1)
 
 pub on-line-spec : {M : Type 1} → statement M

@@ -8,17 +8,26 @@ use Rattle.player.proofs.on_tick.Tie as tie
 
 -- ---- the places
 
--- The step, from where its answer is known; and what was brought in.
+-- The step, from where the arrays are back from it; and from where its answer is known, a verdict or a refusal.
+abbrev called : tie.After-slice-known4 → tie.After-step
+called c = c .before .before .before .before
+
 abbrev made : tie.After-stepped → tie.After-step
-made c = let values = c .before .before .before in values .before .before .before
+made c = called (c .before .before)
 
 abbrev made-too : tie.After-stepped2 → tie.After-step
-made-too c = let values = c .before .before .before in values .before .before .before
+made-too c = called (c .before .before)
+
+-- Where the arrays are known, from the step; the start from there; and what was brought in.
+abbrev known : tie.After-step → tie.After-slice-known2
+known c = c .before .before .before .before
+
+abbrev entry : tie.After-step → tie.Start
+entry c = known c .before .before .before
 
 abbrev world : tie.After-step → World
 world c =
-    let lent = c .before .before .before in
-    let args = lent .before .before .before .before .args in
+    let args = entry c .args in
     brought (args .w) (args .parameters) (args .table) (args .state) (args .values)
 
 -- ---- the ways out
