@@ -25,16 +25,27 @@ abbrev μ-loop : tie.MeasureT-loop
 
 -- ---- the places
 
--- The start from the loop, and the loop from the call of `feed_ticks`.
+-- The start, from where the arrays are known, and from the loop.
+abbrev start : tie.After-slice-known4 Inv-loop μ-loop → tie.Start Inv-loop μ-loop
+start c = c .before .before .before .before .before
+
 abbrev entry : tie.At-loop Inv-loop μ-loop → tie.Start Inv-loop μ-loop
-entry c = let lent = c .before .before .before in lent .before .before .before
+entry c = start (c .before)
+
+-- The loop, from where the output is lent to `feed_ticks`, and from the call of it.
+abbrev loop-at : tie.After-feed-ticks-arg4 Inv-loop μ-loop → tie.At-loop Inv-loop μ-loop
+loop-at c = c .before .before .before .before .before
 
 abbrev turn : tie.After-feed-ticks Inv-loop μ-loop → tie.At-loop Inv-loop μ-loop
-turn c = let piece = c .before .before .before .before in piece .before .before .before
+turn c = loop-at (c .before .before)
 
--- The call of `feed_ticks`, from where its watch is taken over, and from where the line after it is found.
+-- Where the values are back from `feed_ticks`, from where its watch is taken over; the call of it from there, and from
+-- where the line after it is found.
+abbrev ticks-back : tie.After-ran Inv-loop μ-loop → tie.After-values Inv-loop μ-loop
+ticks-back c = c .before .before .before .before
+
 abbrev called : tie.After-ran Inv-loop μ-loop → tie.After-feed-ticks Inv-loop μ-loop
-called c = let changed = c .before .before .before .before in changed .before .before .before
+called c = ticks-back c .before .before .before
 
 abbrev ran : tie.After-line-length Inv-loop μ-loop → tie.After-feed-ticks Inv-loop μ-loop
 ran c = called (c .before .before .before)
@@ -43,9 +54,13 @@ ran c = called (c .before .before .before)
 abbrev tail : tie.After-slice-known8 Inv-loop μ-loop → tie.Then1 Inv-loop μ-loop
 tail c = c .before .before .before .before
 
--- A whole line: what it does, and where it is known, from its output; that output, from the end of the turn.
+-- A whole line: where the values are back from `on_line`, what it does, and where it is known, from its output; that
+-- output, from the end of the turn.
+abbrev line-back : tie.After-put-arg Inv-loop μ-loop → tie.After-values2 Inv-loop μ-loop
+line-back c = c .before .before .before
+
 abbrev answered : tie.After-put-arg Inv-loop μ-loop → tie.After-on-line Inv-loop μ-loop
-answered c = let changed = c .before .before .before .before in changed .before .before .before .before
+answered c = line-back c .before .before .before .before .before
 
 abbrev whole : tie.After-on-line Inv-loop μ-loop → tie.Else1 Inv-loop μ-loop
 whole c = c .before .before .before .before .before
@@ -101,7 +116,7 @@ module _ (c : tie.After-feed-ticks Inv-loop μ-loop) where
   size = omega (arith, entry (turn c) .good)
 
 loop-holds : tie.Need-loop-holds Inv-loop μ-loop
-loop-holds c = (begun _ _ _ (c .before .before .before .before .before .pre), refl, refl, refl)
+loop-holds c = (begun _ _ _ (start c .pre), refl, refl, refl)
 
 add-used-ticks : tie.Need-add-used Inv-loop μ-loop
 add-used-ticks c = let here = called (c .before) in omega (arith, run here .within, size here)
@@ -137,8 +152,9 @@ feed-tail-requires c κs =
     let end = c .before in
     (omega arith, tail-room (run (ran (end .before))) _ (end .if1 .taken) (start-of end))
 
-same-length-4 : tie.Need-same-length-4 Inv-loop μ-loop
-same-length-4 c =
+-- The output keeps its length.
+out-length : tie.Need-same-length-4 Inv-loop μ-loop
+out-length c =
     let here = run (ran (tail c .before)) in
     put-length _ _ _ refl (c .before .before .feed-tail .ensures .1)
     (tail-room here _ (tail c .if1 .taken) (start-of (tail c)))
@@ -185,10 +201,7 @@ loop-again c =
       omega (arith, kept, lengths (ran line) .2),
     )
 
--- The loop, from where the output is lent to `feed_ticks`; the call of it, from the end of the piece.
-abbrev loop-at : tie.After-feed-ticks-arg4 Inv-loop μ-loop → tie.At-loop Inv-loop μ-loop
-loop-at c = c .before .before .before .before .before
-
+-- The call of `feed_ticks`, from the end of the piece.
 abbrev end-at : tie.After-slice-known8 Inv-loop μ-loop → tie.After-feed-ticks Inv-loop μ-loop
 end-at c = ran (tail c .before)
 
@@ -214,7 +227,7 @@ feed-spec =
     (λ c. lengths (end-at c) .0)
     (λ c. lengths (end-at c) .1)
     (λ c. lengths (end-at c) .2)
-    same-length-4
+    out-length
     returns
     on-line-requires
     (λ c κs. room c)

@@ -11,9 +11,12 @@ use Rattle.feeder.proofs.Resuming.{bytes-short, bytes-long, tail-short,
 use Rattle.feeder.proofs.feed_tail.Statement.{statement}
 use Rattle.feeder.proofs.feed_tail.Tie as tie
 
--- The start, from where the line is known to be over-long.
+-- The start, from where the line is known to be over-long; and where the card is over, from where the output is lent.
 abbrev begun : tie.Else1 → tie.Start
 begun c = c .before .before
+
+abbrev card-over : tie.After-put-arg → tie.After-end-over-long
+card-over c = c .before .before
 
 -- It is short.
 short : tie.Need-returns
@@ -33,7 +36,7 @@ says c = ap (λ (a : Answered). outputBytes (a .output)) (c .end-over-long .ensu
 
 put-requires : tie.Need-put-requires
 put-requires c κs =
-    let over = c .before .before in
+    let over = card-over c in
     let start = begun (over .before) in
     let args = start .args in
     rw (says over)
@@ -42,12 +45,16 @@ put-requires c κs =
 over-long : tie.Need-returns-2
 over-long c =
     let put = c .before .before .before in
-    let over = put .before .before .before in
+    let over = card-over (put .before) in
     let args = begun (over .before) .args in
     let h = over .before .if1 .left in (
       c .fed-to2 .ensures
-          ∙ rw (put .put .ensures .0, says over, over .end-over-long .ensures)
-          (sym (tail-long (args .w) (args .used) (args .to) (args .at) h)),
+          ∙ cc (
+            put .put .ensures .0,
+            says over,
+            over .end-over-long .ensures,
+            tail-long (args .w) (args .used) (args .to) (args .at) h,
+          ),
       put .put .ensures .1
           ∙ ap (placed (args .out .now) (args .at))
           (says over ∙ sym (bytes-long (args .w .stage .phase) (args .to - args .used) h)),

@@ -12,19 +12,26 @@ use Rattle.feeder.proofs.feed_ticks.Tie as tie
 
 -- ---- the places
 
--- Where the phase is known, from the check of a step; and the start from there.
+-- Where the phase is known, from the check of a step; where the arrays are known, from there; and the start.
 abbrev ticks : tie.After-step-checked → tie.After-enum-told
 ticks c = c .before .before .before .before
 
-abbrev entry : tie.After-enum-told → tie.Start
-entry c = let lent = c .before .before .before .before in lent .before .before .before .before
+abbrev known : tie.After-enum-told → tie.After-slice-known3
+known c = c .before .before .before
 
--- The check that was passed, from the call of `run_ticks`; and that call from the end.
+abbrev entry : tie.After-enum-told → tie.Start
+entry c = known c .before .before .before .before .before
+
+-- The check that was passed, from the call of `run_ticks`.
 abbrev passed : tie.After-run-ticks-arg3 → tie.After-enum-told2
 passed c = c .before .before .before
 
+-- Where the values are back from that call, from the end; and the call.
+abbrev values-back : tie.After-slice-known6 → tie.After-values
+values-back c = c .before .before .before
+
 abbrev ran : tie.After-slice-known6 → tie.After-run-ticks
-ran c = let changed = c .before .before .before in changed .before .before .before
+ran c = values-back c .before .before .before
 
 -- ---- the needs
 
@@ -56,8 +63,8 @@ step-refused c =
 
 run-ticks-requires : tie.Need-run-ticks-requires
 run-ticks-requires c κs =
-    let known = ticks (passed c .before .before) in
-    (entry known .pre (known .enum-told .given .1), admitted (passed c))
+    let phase = ticks (passed c .before .before) in
+    (entry phase .pre (phase .enum-told .given .1), admitted (passed c))
 
 ticks-run : tie.Need-returns-3
 ticks-run c =

@@ -26,9 +26,12 @@ abbrev μ-loop : tie.MeasureT-loop
 
 -- ---- the places
 
--- The start, from the loop.
+-- The start, from where the arrays are known, and from the loop.
+abbrev start : tie.After-slice-known3 Inv-loop μ-loop → tie.Start Inv-loop μ-loop
+start c = c .before .before .before .before .before
+
 abbrev entry : tie.At-loop Inv-loop μ-loop → tie.Start Inv-loop μ-loop
-entry c = let lent = c .before .before .before .before in lent .before .before .before
+entry c = start (c .before .before)
 
 -- Where a tick line is known, from its step; and the loop from there.
 abbrev read : tie.After-step-passed Inv-loop μ-loop → tie.After-start Inv-loop μ-loop
@@ -44,27 +47,25 @@ stepped c = c .before .before .before .before .before
 abbrev lent : tie.After-slice-known6 Inv-loop μ-loop → tie.After-put-verdict-arg Inv-loop μ-loop
 lent c = c .before .before .before
 
--- The loop, from where a line is broken.
+-- Where the next line is looked at, from where it is broken; and the loop from there.
+abbrev looked : tie.After-fed-to Inv-loop μ-loop → tie.After-tick-at Inv-loop μ-loop
+looked c = c .before .before .before .before
+
 abbrev stopped : tie.After-fed-to Inv-loop μ-loop → tie.At-loop Inv-loop μ-loop
-stopped c = let line = c .before .before .before .before in line .before .before
+stopped c = looked c .before .before
 
 -- ---- the needs
 
 loop-holds : tie.Need-loop-holds Inv-loop μ-loop
-loop-holds c =
-    let lent = c .before .before .before in
-    let pre = lent .before .before .before .pre in
-    (begun _ _ _ (pre .0), pre .1, refl, refl)
+loop-holds c = let pre = start (c .before) .pre in (begun _ _ _ (pre .0), pre .1, refl, refl)
 
 -- The next line is broken or not whole, or no tick is left.
 line-broken : tie.Need-returns Inv-loop μ-loop
 line-broken c =
-    let broken = c .before .before in
-    let line = broken .before .before in
-    let loop = line .before .before in
+    let loop = stopped c in
     rw (c .fed-to .ensures, c .before .watch-at .ensures) (
       runs-all (loop .loop .inv .0) (entry loop .pre .1 .phase) (loop .loop .inv .1 .phase),
-      λ more. sym (line .tick-at .ensures) ∙ broken .enum-told .given .1,
+      λ more. sym (looked c .tick-at .ensures) ∙ c .before .before .enum-told .given .1,
     )
 
 none-left : tie.Need-returns-2 Inv-loop μ-loop

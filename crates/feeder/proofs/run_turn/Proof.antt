@@ -13,17 +13,24 @@ use Rattle.feeder.proofs.run_turn.Tie as tie
 
 -- ---- the places
 
--- The start, from where the output is lent to `feed`.
+-- From where the output is lent to `feed`: where the buffer is lent to it, where the buffers are known, and the start.
+abbrev lent : tie.After-feed-arg6 → tie.After-feed-arg
+lent c = c .before .before .before .before .before
+
+abbrev known : tie.After-feed-arg6 → tie.After-slice-known5
+known c = lent c .before
+
 abbrev entry : tie.After-feed-arg6 → tie.Start
-entry c =
-    let lent = c .before .before .before .before in
-    let known = lent .before .before .before .before in
-    known .before .before .before
+entry c = known c .before .before .before .before .before
 
--- The call of `feed`, from where the buffer is lent to `shift`; and the call of `shift`, from the end.
+-- From where the buffer is lent to `shift`: where the values are back from `feed`, and the call of `feed`.
+abbrev values-back : tie.After-shift-arg → tie.After-values
+values-back c = c .before .before .before .before .before
+
 abbrev fed : tie.After-shift-arg → tie.After-feed
-fed c = let changed = c .before .before .before .before .before in changed .before .before .before .before .before
+fed c = values-back c .before .before .before .before .before
 
+-- The call of `shift`, from the end.
 abbrev moved : tie.After-slice-known10 → tie.After-shift
 moved c = c .before .before
 
