@@ -1,17 +1,24 @@
--- `towerwatch::end` meets its contract. Assumes nothing.
+-- `towerwatch::end` meets its contract: what `finish` puts is handed to the write. Assumes nothing.
 use mathlib.Core.Path.{refl}
 use borrow.Author.Needs.{needs}
 use Rattle.towerwatch.proofs.Turning.{end-takes}
 use Rattle.towerwatch.proofs.end.Statement.{statement}
 use Rattle.towerwatch.proofs.end.Tie as tie
 
+-- The last output, from the end; and the start from there.
+abbrev last : tie.After-ended → tie.After-finish
+last c = c .before .before .before .before .before
+
+abbrev entry : tie.After-finish → tie.Start
+entry c = c .before .before .before .before
+
 returns : tie.Need-returns
 returns c =
     let shown = c .before .show in
-    let told = c .before .before .before .before .before in
-    let finish = told .finish in
-    let entry = told .before .before .before .before in
-    (refl, end-takes (finish .ensures) _ (shown .result .done) (entry .pre .1) (shown .ensures) (c .ended .ensures))
+    let pre = entry (last c) .pre in (
+      refl,
+      end-takes (last c .finish .ensures) _ (shown .result .done) (pre .1) (shown .ensures) (c .ended .ensures),
+    )
 
 pub end-spec : {M : Type 1} → statement M
 end-spec =

@@ -7,14 +7,20 @@ use lib.ListN.{length}
 use Rattle.towerwatch.proofs.fill.Statement.{statement}
 use Rattle.towerwatch.proofs.fill.Tie as tie
 
+-- The call of `read`, from the end; and the start from there.
+abbrev called : tie.After-count → tie.After-read
+called c = c .before .before .before .before .before
+
+abbrev entry : tie.After-read → tie.Start
+entry c = c .before .before .before
+
 returns : tie.Need-returns
 returns c =
-    let called = c .before .before .before .before .before in
-    let read = called .read in
-    let entry = called .before .before .before in
-    let buf = entry .args .buf .now in
-    let to = entry .args .to in (
-      take-put to (length buf - to) buf (read .last .1 .0) (entry .pre),
+    let read = called c .read in
+    let start = entry (called c) in
+    let buf = start .args .buf .now in
+    let to = start .args .to in (
+      take-put to (length buf - to) buf (read .last .1 .0) (start .pre),
       omega (arith, c .count .ensures .0 .0, read .kept .1 .0),
     )
 

@@ -12,20 +12,33 @@ use Rattle.towerwatch.proofs.once.Tie as tie
 
 -- ---- the places
 
--- The start, from the read.
-abbrev entry : tie.After-fill → tie.Start
-entry c = let lent = c .before .before .before .before in lent .before .before .before
+-- Where the buffers are known, from the read; and the start from there.
+abbrev known : tie.After-fill → tie.After-slice-known5
+known c = c .before .before
 
--- The read, from where the output is lent to `end` and to `piece`.
+abbrev entry : tie.After-fill → tie.Start
+entry c = known c .before .before .before .before .before
+
+-- The read, from where the output is lent to `end`.
 abbrev ended : tie.After-end-arg2 → tie.After-fill
 ended c = c .before .before .before .before .before
 
-abbrev read : tie.After-piece-arg6 → tie.After-fill
-read c = let lent = c .before .before .before .before in lent .before .before .before .before .before
+-- From where the output is lent to `piece`: where the buffer is lent to it, where a byte came, and the read.
+abbrev lent : tie.After-piece-arg6 → tie.After-piece-arg
+lent c = c .before .before .before .before .before
 
--- The call of `piece`, from the end.
+abbrev some : tie.After-piece-arg6 → tie.Else1
+some c = lent c .before
+
+abbrev read : tie.After-piece-arg6 → tie.After-fill
+read c = some c .before .before .before
+
+-- From the end: where the state is back from `piece`, and the call of `piece`.
+abbrev state-back : tie.After-slice-known12 → tie.After-state
+state-back c = c .before .before .before .before .before
+
 abbrev taken : tie.After-slice-known12 → tie.After-piece
-taken c = let changed = c .before .before .before .before .before in changed .before .before .before .before .before
+taken c = state-back c .before .before .before .before .before
 
 -- ---- the needs
 
@@ -39,11 +52,7 @@ end-requires c κs = (ready (ended c), c .before .before .if1 .taken)
 piece-requires : tie.Need-piece-requires
 piece-requires c κs =
     let fill = read c .fill in
-    let some = let lent = c .before .before .before in lent .before .before .before in (
-      ready (read c),
-      omega (arith, fill .kept .0, fill .ensures .1),
-      omega (arith, some .if1 .left),
-    )
+    (ready (read c), omega (arith, fill .kept .0, fill .ensures .1), omega (arith, some c .if1 .left))
 
 -- The input is over.
 input-over : tie.Need-returns

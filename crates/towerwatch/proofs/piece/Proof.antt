@@ -8,18 +8,25 @@ use Rattle.towerwatch.proofs.Turning.{piece-takes}
 use Rattle.towerwatch.proofs.piece.Statement.{statement}
 use Rattle.towerwatch.proofs.piece.Tie as tie
 
--- The start, from the turn; and the turn, from the write.
+-- From the turn: where the table is lent to `run_turn`, where the buffers are known, and the start.
+abbrev lent : tie.After-run-turn → tie.After-run-turn-arg3
+lent c = c .before .before .before .before
+
+abbrev known : tie.After-run-turn → tie.After-slice-known5
+known c = lent c .before .before .before
+
 abbrev entry : tie.After-run-turn → tie.Start
-entry c =
-    let lent = c .before .before .before .before in
-    let known = lent .before .before .before .before in
-    known .before .before .before .before
+entry c = known c .before .before .before .before .before
+
+-- From the write: where the output is back from `run_turn`, where the state is back, and the turn.
+abbrev out-back : tie.After-show → tie.After-out
+out-back c = c .before .before .before .before
+
+abbrev state-back : tie.After-show → tie.After-state
+state-back c = out-back c .before .before .before .before
 
 abbrev turned : tie.After-show → tie.After-run-turn
-turned c =
-    let changed = c .before .before .before .before .before in
-    let back = changed .before .before .before .before in
-    back .before .before .before .before
+turned c = state-back c .before .before .before .before .before
 
 returns : tie.Need-returns
 returns c =

@@ -28,16 +28,27 @@ abbrev μ-loop : tie.MeasureT-loop
 
 -- ---- the places
 
--- The start from the loop, and the loop from where the output is lent to `once`.
+-- The start, from where the buffers are known, and from the loop.
+abbrev start : tie.After-slice-known5 Inv-loop μ-loop → tie.Start Inv-loop μ-loop
+start c = c .before .before .before .before .before
+
 abbrev entry : tie.At-loop Inv-loop μ-loop → tie.Start Inv-loop μ-loop
-entry c = let known = c .before .before .before .before in known .before .before .before
+entry c = start (c .before .before)
+
+-- From where the output is lent to `once`: where the buffer is lent to it, and the loop.
+abbrev lent : tie.After-once-arg6 Inv-loop μ-loop → tie.After-once-arg Inv-loop μ-loop
+lent c = c .before .before .before .before .before
 
 abbrev loop-at : tie.After-once-arg6 Inv-loop μ-loop → tie.At-loop Inv-loop μ-loop
-loop-at c = let lent = c .before .before .before in lent .before .before .before
+loop-at c = lent c .before
 
--- The turn that `once` makes, from where its buffers are back, and from where it is told whether to read on.
+-- From where the output is back from `once`: where the state is back, and the turn that `once` makes; that turn, from
+-- where it is told whether to read on.
+abbrev state-back : tie.After-slice-known10 Inv-loop μ-loop → tie.After-state Inv-loop μ-loop
+state-back c = c .before .before .before .before .before
+
 abbrev turn : tie.After-slice-known10 Inv-loop μ-loop → tie.After-once Inv-loop μ-loop
-turn c = let changed = c .before .before .before .before .before in changed .before .before .before .before .before
+turn c = state-back c .before .before .before .before .before
 
 abbrev made : tie.After-reads-on Inv-loop μ-loop → tie.After-once Inv-loop μ-loop
 made c = turn (c .before)
@@ -46,7 +57,7 @@ made c = turn (c .before)
 
 loop-holds : tie.Need-loop-holds Inv-loop μ-loop
 loop-holds c =
-    let pre = let known = c .before .before .before in known .before .before .before .pre in
+    let pre = start (c .before) .pre in
     (pre .0 .0, rw (c .begin .ensures, pre .1) reached-start, (refl, refl, refl, refl, refl))
 
 once-requires : tie.Need-once-requires Inv-loop μ-loop
