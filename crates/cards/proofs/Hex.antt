@@ -12,6 +12,7 @@ use lib.ListN.{length, getD, drop, drop-of-length-le}
 use lib.Seq.{drop-cons}
 use borrow.Author.Tests.{eq-eqb, lt-ltb, le-ltb, le-leb, lt-leb, eqb-true, leb-true}
 use Rattle.lists.specs.Text.{bytes}
+use Rattle.lists.specs.Decimal.{isDigit}
 use Rattle.cards.specs.Ticks.{hexOf, hexes, tickLine}
 use Rattle.cards.specs.declared.TickLine.{TickLine}
 use Rattle.cards.specs.declared.TickLine.the-variants.{Is, Broken}
@@ -46,11 +47,11 @@ fits64 k x d z h e =
 -- The bytes below the first digit and above the last,
 module _ (b : ℕ) where
   pub hex-low : b < 48 → hexOf b ≡ 16
-  unfolding hexOf
+  unfolding hexOf isDigit
   hex-low h = rw (lt-leb 48 b h, lt-leb 97 b (omega arith))
 
   pub hex-high : 102 < b → hexOf b ≡ 16
-  unfolding hexOf
+  unfolding hexOf isDigit
   hex-high h = rw (le-leb 48 b (omega arith), lt-leb b 57 (omega arith), le-leb 97 b (omega arith), lt-leb b 102 h)
 
 -- and those between them: place i of `digits` is for byte 48 + i, and is 48 more than its value.
@@ -83,7 +84,7 @@ values-at (d ∷ ds) b (suc i) e h =
     rw z (values-at ds (suc b) i (more .1) (omega arith))
 
 digits-right : values digits 48 ≡ true
-unfolding values hexOf
+unfolding values hexOf isDigit
 digits-right = refl
 
 module _ (b : ℕ) (low : 48 ≤ b) (high : b ≤ 102) where

@@ -55,25 +55,25 @@ nothing = refl
 
 -- "whose bit j is signal j": signal 0, signals 0 and 1, signal 63, signal 32
 signal-0 : tickLine (bytes "t=1,0000000000000001") ≡ T.Is 1 1
-unfolding tickLine hexes hexOf
+unfolding tickLine hexes hexOf isDigit
 signal-0 = refl
 
 signals-0-1 : tickLine (bytes "t=0,0000000000000003") ≡ T.Is 0 3
-unfolding tickLine hexes hexOf
+unfolding tickLine hexes hexOf isDigit
 signals-0-1 = refl
 
 signal-63 : tickLine (bytes "t=0,8000000000000000") ≡ T.Is 0 9223372036854775808
-unfolding tickLine hexes hexOf
+unfolding tickLine hexes hexOf isDigit
 signal-63 = refl
 
 signal-32 : tickLine (bytes "t=0,0000000100000000") ≡ T.Is 0 4294967296
-unfolding tickLine hexes hexOf
+unfolding tickLine hexes hexOf isDigit
 signal-32 = refl
 
 uppercase : tickLine (bytes "t=0,000000000000000A") ≡ T.Broken
-unfolding tickLine hexes hexOf
+unfolding tickLine hexes hexOf isDigit
 uppercase = refl
 
 no-start : tickLine (bytes "t=2,0000000000000001") ≡ T.Broken
-unfolding tickLine hexes hexOf
+unfolding tickLine hexes hexOf isDigit
 no-start = refl

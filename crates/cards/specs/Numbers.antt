@@ -6,7 +6,8 @@ use mathlib.Core.Path.{_≡_}
 use Prim.Native.Nat.{ℕ, zero, suc, _-_, _≤_}
 use lib.Dec.{eqb}
 use lib.ListN.{length, drop}
-use Rattle.limits.specs.Limits.{literalCount, parameterCount}
+use Rattle.limits.specs.Limits.{lastLiteral, parameterCount}
+use Rattle.lists.specs.Text.{byte}
 use Rattle.lists.specs.Decimal.{Numeral, numeral}
 use Rattle.lists.specs.Decimal.Numeral.{is, above, missing}
 use Rattle.cards.specs.Heads.{parametersHead, countHead, afterHead}
@@ -27,7 +28,7 @@ parsed missing = none
 
 -- "0 to 999,999", and "decimal numbers have no needless 0".
 unfoldable pub number : List ℕ → Parsed
-number l = parsed (numeral (literalCount - 1) l)
+number l = parsed (numeral lastLiteral l)
 
 -- Whether the second text begins with the first.
 unfoldable pub hasPrefix : List ℕ → List ℕ → Bool
@@ -54,11 +55,11 @@ pub data Listed : Type 0 where
   are : List ℕ → Listed
   broken : Listed
 
--- A number before a comma (byte 44), and the bytes after the comma.
+-- A number before a comma, and the bytes after the comma.
 unfoldable pub beforeComma : Parsed → Parsed
 beforeComma none = none
 beforeComma (done v []) = none
-beforeComma (done v (b ∷ l)) = cond (eqb b 44) (done v l) none
+beforeComma (done v (b ∷ l)) = cond (eqb b (byte ",")) (done v l) none
 
 -- What is made of a number and the bytes after it.
 abbrev pub thenListed : Parsed → (ℕ → List ℕ → Listed) → Listed

@@ -47,8 +47,8 @@ abbrev pub stageAt : Phase → ℕ → Stage
 stageAt p left = record { phase = p; left = left }
 
 -- Before the first line.
-abbrev pub first : Stage
-first = stageAt P.Edition 0
+abbrev pub firstStage : Stage
+firstStage = stageAt P.Edition 0
 
 abbrev pub isOver : Phase → Bool
 isOver P.Edition = false

@@ -1,19 +1,22 @@
 -- A tick line. Definitions only. "`t=` start (0 or 1), comma, 16 lowercase hexadecimal digits whose bit j is signal j"
 -- (document 01, "towerwatch").
-use mathlib.Core.Bool.{false, cond}
+use mathlib.Core.Bool.{_&&_, cond}
 use mathlib.Core.List.{List, [], _∷_}
 use Prim.Native.Nat.{ℕ, _+_, _-_, _*_}
 use lib.Dec.{ltb, leb, eqb}
-use lib.ListN.{length, take, drop, getD}
+use lib.ListN.{length, take, drop}
+use Rattle.lists.specs.Decimal.{isDigit, digitValue}
 use Rattle.lists.specs.Line.{lineEnd}
+use Rattle.lists.specs.Number.{numberAt}
+use Rattle.lists.specs.Text.{byte}
 use Rattle.cards.specs.declared.TickLine.{TickLine}
 use Rattle.cards.specs.declared.TickLine.the-variants.{Is, Broken}
 
 -- A lowercase hexadecimal digit's value, 16 for any other byte.
 unfoldable pub hexOf : ℕ → ℕ
 hexOf b =
-    cond (cond (leb 48 b) (leb b 57) false) (b - 48)
-    (cond (cond (leb 97 b) (leb b 102) false) (b - 97 + 10) 16)
+    cond (isDigit b) (digitValue b)
+    (cond (leb (byte "a") b && leb b (byte "f")) (b - byte "a" + 10) 16)
 
 -- The digits that are left, x being the number so far: each digit is worth 16 times the one after it. So the last
 -- digit has the bits 0 to 3, and bit j of the number is bit j of the digits.
@@ -21,9 +24,9 @@ unfoldable pub hexes : ℕ → ℕ → List ℕ → TickLine
 hexes start x [] = Is start x
 hexes start x (b ∷ l) = cond (ltb 15 (hexOf b)) Broken (hexes start (x * 16 + hexOf b) l)
 
--- A start of 0 or 1 (bytes 48 and 49), and the digits after the comma.
+-- A start of 0 or 1, and the digits after the comma.
 abbrev pub started : ℕ → List ℕ → TickLine
-started b l = cond (ltb b 48) Broken (cond (ltb 49 b) Broken (hexes (b - 48) 0 l))
+started b l = cond (ltb b (byte "0")) Broken (cond (ltb (byte "1") b) Broken (hexes (digitValue b) 0 l))
 
 -- The bytes of a tick line, its byte 10 not counted.
 abbrev pub tickLength : ℕ
@@ -33,12 +36,12 @@ tickLength = 20
 unfoldable pub tickLine : List ℕ → TickLine
 tickLine l =
     cond (eqb (length l) tickLength)
-    (cond (eqb (getD l 0 0) 116)
-    (cond (eqb (getD l 1 0) 61)
-    (cond (eqb (getD l 3 0) 44) (started (getD l 2 0) (drop 4 l)) Broken) Broken) Broken) Broken
+    (cond (eqb (numberAt l 0) (byte "t"))
+    (cond (eqb (numberAt l 1) (byte "="))
+    (cond (eqb (numberAt l 3) (byte ",")) (started (numberAt l 2) (drop 4 l)) Broken) Broken) Broken) Broken
 
 -- The tick line at the front of these bytes, where it is there with its byte 10.
 unfoldable pub tickFirst : List ℕ → TickLine
 tickFirst s =
     cond (leb (length s) tickLength) Broken
-    (cond (eqb (getD s tickLength 0) lineEnd) (tickLine (take tickLength s)) Broken)
+    (cond (eqb (numberAt s tickLength) lineEnd) (tickLine (take tickLength s)) Broken)

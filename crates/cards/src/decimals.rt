@@ -32,7 +32,7 @@ pub fn has_prefix(s: &[u8], w: &[u8]) -> bool
 pub fn decimal_at(s: &[u8], at: usize) -> Number
     ensures { λ r. ⌜ ReadsAs r (now (s .entry)) (number (drop at (now (s .entry)))) ⌝ }
 {
-    match lists::read_decimal(s, at, limits::LITERALS - 1) {
+    match lists::read_decimal(s, at, limits::LAST_LITERAL) {
         Decimal::Is { value, next } => Number::Is { value, next },
         Decimal::Above { next } => Number::Broken,
         Decimal::Missing => Number::Broken,

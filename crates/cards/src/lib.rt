@@ -12,7 +12,7 @@ ghost use Rattle.limits.specs.Limits.{parameterCount};
 ghost use Rattle.cards.specs.Numbers.{parametersOf, countOf};
 ghost use Rattle.cards.specs.Ticks.{hexOf, tickLine, tickFirst};
 ghost use Rattle.cards.specs.Says.{editionOf, parametersSay, countSays, tickIn, saysBy, brokenBy, lineSays};
-ghost use Rattle.cards.specs.Says.{endSays, stageAt, stageAfter, first, isOver};
+ghost use Rattle.cards.specs.Says.{endSays, stageAt, stageAfter, firstStage, isOver};
 
 // The place of the last parameter.
 const LAST: usize = limits::PARAMETERS - 1;
@@ -77,24 +77,24 @@ pub enum Content {
 // What a line says, with the parameters where it says these.
 pub struct LineRead {
     pub content: Content,
-    pub values: [u32; limits::PARAMETERS],
+    pub parameters: [u32; limits::PARAMETERS],
 }
 
 // With no parameters beside it.
 fn plain(content: Content) -> LineRead
-    ensures { λ r. ⌜ (r .content ≡ content) × (r .values ≡ replicate parameterCount 0) ⌝ }
+    ensures { λ r. ⌜ (r .content ≡ content) × (r .parameters ≡ replicate parameterCount 0) ⌝ }
 {
     LineRead {
         content: content,
-        values: [0u32; limits::PARAMETERS],
+        parameters: [0u32; limits::PARAMETERS],
     }
 }
 
 // "`k=` eight numbers 0 to 999,999 with commas"
 fn parameters_line(s: &[u8]) -> LineRead
-    ensures { λ r. ⌜ (saysBy (r .content) (r .values) (now (s .entry))
+    ensures { λ r. ⌜ (saysBy (r .content) (r .parameters) (now (s .entry))
         ≡ parametersSay (parametersOf (now (s .entry))))
-        × ((r .content ≡ Content.Parameters → ⊥) → r .values ≡ replicate parameterCount 0) ⌝ }
+        × ((r .content ≡ Content.Parameters → ⊥) → r .parameters ≡ replicate parameterCount 0) ⌝ }
 {
     if !decimals::has_prefix(s, &PARAMETERS_HEAD) {
         return plain(Content::Refused(HEAD_REFUSAL));
@@ -119,7 +119,7 @@ fn parameters_line(s: &[u8]) -> LineRead
     ps[LAST] = value;
     LineRead {
         content: Content::Parameters,
-        values: ps,
+        parameters: ps,
     }
 }
 
@@ -212,7 +212,7 @@ pub fn tick_at(s: &[u8], at: usize) -> TickLine
         return TickLine::Broken;
     }
     let stop = at + TICK_LINE;
-    if s[stop] != 10 {
+    if s[stop] != lists::LINE_END {
         return TickLine::Broken;
     }
     tick_line(&s[at..stop])
@@ -259,8 +259,8 @@ fn tick_content(left: u32, s: &[u8]) -> Content
 
 // "Checks go line by line": what a line says, given without its byte 10.
 pub fn read_line(stage: Stage, s: &[u8]) -> LineRead
-    ensures { λ r. ⌜ (saysBy (r .content) (r .values) (now (s .entry)) ≡ lineSays stage (now (s .entry)))
-        × ((r .content ≡ Content.Parameters → ⊥) → r .values ≡ replicate parameterCount 0) ⌝ }
+    ensures { λ r. ⌜ (saysBy (r .content) (r .parameters) (now (s .entry)) ≡ lineSays stage (now (s .entry)))
+        × ((r .content ≡ Content.Parameters → ⊥) → r .parameters ≡ replicate parameterCount 0) ⌝ }
 {
     let phase = stage.phase;
     if limits::LINE <= s.len() {
@@ -338,7 +338,7 @@ pub fn end(stage: Stage, n: usize) -> Content
 
 // Before the first line of a card.
 pub fn first_stage() -> Stage
-    ensures { λ r. ⌜ r ≡ first ⌝ }
+    ensures { λ r. ⌜ r ≡ firstStage ⌝ }
 {
     stage_at(Phase::Edition, 0)
 }

@@ -14,7 +14,7 @@ use Rattle.lists.specs.Line.{line, lineFrom}
 use Rattle.cards.specs.declared.Phase.{Phase}
 use Rattle.cards.specs.declared.Phase.the-variants as P
 use Rattle.cards.proofs.Lines.{line-within, one-line}
-use Rattle.player.specs.Card.{World, worldOf, overWatch, over, Effect, lined, outputBytes, brokenBytes, longestOutput}
+use Rattle.player.specs.Card.{World, worldOf, overWatch, overWorld, Effect, lined, outputBytes, brokenBytes, longestOutput}
 use Rattle.feeder.specs.Feed.{Goes, Short, Room, fedTo, Runs, Feeds, fedWorld, leftOver, placed}
 use Rattle.feeder.specs.Feed.{tailBytes, tailFed}
 use Rattle.feeder.specs.declared.Fed.{Fed}
@@ -28,7 +28,7 @@ use Rattle.feeder.proofs.Resuming.{bytes-short, tail-short, bytes-long,
 pub record Between (w₀ : World) (b out₀ : List ℕ) (w : World) (out : List ℕ) (u at : ℕ) : Type 0 where
   pub goes : Goes w₀ b (take at out) w (drop u b)
   pub world : fedWorld w₀ b ≡ fedWorld w (drop u b)
-  pub left : leftOver b ≡ leftOver (drop u b)
+  pub rest : leftOver b ≡ leftOver (drop u b)
   pub within : u ≤ length b
   pub paid : at ≤ u + debt (w .watch .stage .phase)
   pub room : length b + longestOutput ≤ length out₀
@@ -40,7 +40,7 @@ begun w b out r =
     record {
       goes = goes-none w b;
       world = refl;
-      left = refl;
+      rest = refl;
       within = omega arith;
       paid = omega arith;
       room = r .room;
@@ -58,7 +58,7 @@ module _ {w₀ w : World} {b out₀ out : List ℕ} {u at : ℕ} (k : Between w�
       record {
         goes = k .goes;
         world = fed-short w (drop u b) h ∙ sym (k .world);
-        left = left-short (drop u b) h ∙ sym (k .left);
+        rest = left-short (drop u b) h ∙ sym (k .rest);
         used = k .within;
         short = h;
         kept = k .kept;
@@ -113,7 +113,7 @@ module _ {w₀ w : World} {b out₀ out : List ℕ} {u at : ℕ} (k : Between w�
         record {
           goes = goes-rest (sym rest) (goes-out takes (goes-on (k .goes) (ran .goes)));
           world = k .world ∙ ran .world ∙ ap (fedWorld w') rest;
-          left = k .left ∙ ran .left ∙ ap leftOver rest;
+          rest = k .rest ∙ ran .rest ∙ ap leftOver rest;
           within = omega (arith, k .within, ran .used, length-drop u b);
           paid = omega (arith, k .paid, ran .paid, ap debt (ran .phase));
           room = k .room;
@@ -151,7 +151,7 @@ module _ {w₀ w : World} {b out₀ out : List ℕ} {u at : ℕ} (k : Between w�
       world-past = k .world ∙ rw (q, rest-after) (fed-line w (drop u b) whole)
 
       left-past : leftOver b ≡ leftOver (drop (u + n + 1) b)
-      left-past = k .left ∙ rw rest-after (left-line (drop u b) whole)
+      left-past = k .rest ∙ rw rest-after (left-line (drop u b) whole)
 
       pays : length (outputBytes (t .output)) + debt (w .watch .stage .phase)
           ≤ n + 1 + debt (t .world .watch .stage .phase)
@@ -166,7 +166,7 @@ module _ {w₀ w : World} {b out₀ out : List ℕ} {u at : ℕ} (k : Between w�
           record {
             goes = goes-out (put-takes out (outputBytes (t .output)) at e p said-room) goes-past;
             world = world-past;
-            left = left-past;
+            rest = left-past;
             within = omega arith;
             paid = omega (arith, e, pays, k .paid);
             room = k .room;
@@ -194,10 +194,10 @@ module _ {w₀ w : World} {b out₀ out : List ℕ} {u at : ℕ} (k : Between w�
       long : lineLimit ≤ length (drop u b)
       long = omega (arith, size)
 
-      goes-over : Goes w₀ b (take at out ++ brokenBytes phase) (over w) []
+      goes-over : Goes w₀ b (take at out ++ brokenBytes phase) (overWorld w) []
       goes-over = goes-on (k .goes) (goes-long w (drop u b) (omega (arith, one, long)))
 
-      world-over : over w ≡ fedWorld w₀ b
+      world-over : overWorld w ≡ fedWorld w₀ b
       world-over = fed-long w (drop u b) (one-line _ one) long ∙ sym (k .world)
 
       nothing-left : drop to b ≡ []
@@ -207,12 +207,12 @@ module _ {w₀ w : World} {b out₀ out : List ℕ} {u at : ℕ} (k : Between w�
       last-room = omega (arith, k .paid, k .within, k .room, k .same, broken-room phase)
 
       over-long : {out' : List ℕ} → out' ≡ placed out at (brokenBytes phase)
-          → Feeds w₀ b (fedTo overWatch to (at + length (brokenBytes phase))) (over w) out₀ out'
+          → Feeds w₀ b (fedTo overWatch to (at + length (brokenBytes phase))) (overWorld w) out₀ out'
       over-long p =
           record {
             goes = goes-rest nothing-left (goes-out (put-takes out (brokenBytes phase) at refl p last-room) goes-over);
             world = world-over;
-            left = nothing-left ∙ left-long (drop u b) (one-line _ one) long ∙ sym (k .left);
+            rest = nothing-left ∙ left-long (drop u b) (one-line _ one) long ∙ sym (k .rest);
             used = omega arith;
             short = short-eq nothing-left short-none;
             kept = keeps (brokenBytes phase) last-room refl p;

@@ -2,6 +2,6 @@
 pub mod Moving
 pub mod Resuming
 pub mod Feeding
-pub mod Ticking
+pub mod TickRuns
 pub mod Pieces
 pub mod Ending

@@ -11,7 +11,7 @@ use Rattle.lists.specs.Line.{line}
 use Rattle.cards.specs.Says.{endSays}
 use Rattle.cards.specs.declared.Phase.{Phase}
 use Rattle.cards.proofs.Lines.{append-nil, cut-first, cut-one, cut-whole, first-long}
-use Rattle.player.specs.Card.{World, overWatch, over, lined, lastOutput, outputBytes, brokenBytes, owed, prints}
+use Rattle.player.specs.Card.{World, overWatch, overWorld, lined, lastOutput, outputBytes, brokenBytes, owed, prints}
 use Rattle.player.proofs.Printing.{over-prints, long-prints}
 use Rattle.player.specs.declared.Watch.{Watch}
 use Rattle.feeder.specs.Feed.{Goes, Short, afterLines, afterTail, fedWorld, leftOver, fedTo, tailBytes, tailFed}
@@ -53,12 +53,12 @@ goes-rest {v = v} {o = o} e g =
 
 -- An over-long line, whole or not, is broken, and nothing comes after.
 pub goes-long : (w : World) (s : List ℕ) → lineLimit ≤ length (line s)
-    → Goes w s (brokenBytes (w .watch .stage .phase)) (over w) []
+    → Goes w s (brokenBytes (w .watch .stage .phase)) (overWorld w) []
 goes-long w s h =
     record {
       tells = λ more.
           long-prints w (s ++ more) (omega (arith, first-long s more))
-          ∙ sym (rw (over-prints (over w) more refl) (append-nil _));
+          ∙ sym (rw (over-prints (overWorld w) more refl) (append-nil _));
     }
 
 -- ---- the world and what is left over
@@ -83,7 +83,7 @@ unfolding leftOver
 left-short s h = rw (cut-one s (h .one), lt-leb lineLimit (length s) (h .below))
 
 -- and after the start of an over-long line.
-pub fed-long : (w : World) (s : List ℕ) → line s ≡ s → lineLimit ≤ length s → over w ≡ fedWorld w s
+pub fed-long : (w : World) (s : List ℕ) → line s ≡ s → lineLimit ≤ length s → overWorld w ≡ fedWorld w s
 unfolding fedWorld afterLines afterTail
 fed-long w s e h = rw (cut-one s e, le-leb lineLimit (length s) h)
 

@@ -14,7 +14,7 @@ use Rattle.cards.specs.Ticks.{tickFirst}
 use Rattle.cards.specs.declared.Phase.{Phase}
 use Rattle.cards.specs.declared.Phase.the-variants as P
 use Rattle.cards.specs.declared.TickLine.the-variants as T
-use Rattle.player.specs.Card.{World, worldOf, overWatch, over, lined, brokenBytes, longestOutput, prints}
+use Rattle.player.specs.Card.{World, worldOf, overWatch, overWorld, lined, brokenBytes, longestOutput, prints}
 use Rattle.traces.specs.Trace.{tickOf}
 use Rattle.feeder.specs.declared.Fed.{Fed}
 use Rattle.feeder.specs.declared.Turn.{Turn}
@@ -40,7 +40,7 @@ afterLines w (l ∷ ls) = afterLines (lined w l .world) ls
 
 -- and after the start of another one: it ends the card where it is over-long already.
 unfoldable pub afterTail : World → List ℕ → World
-afterTail w t = cond (overLong t) (over w) w
+afterTail w t = cond (overLong t) (overWorld w) w
 
 -- The world after a piece of a card,
 unfoldable pub fedWorld : World → List ℕ → World
@@ -80,7 +80,7 @@ tailFed w used to at =
 pub record Runs (w : World) (s : List ℕ) (r : Fed) (w' : World) (old out : List ℕ) : Type 0 where
   pub goes : Goes w s (take (r .filled) out) w' (drop (r .used) s)
   pub world : fedWorld w s ≡ fedWorld w' (drop (r .used) s)
-  pub left : leftOver s ≡ leftOver (drop (r .used) s)
+  pub rest : leftOver s ≡ leftOver (drop (r .used) s)
   pub used : r .used ≤ length s
   pub paid : r .filled ≤ r .used
   pub phase : w .watch .stage .phase ≡ w' .watch .stage .phase
@@ -91,7 +91,7 @@ pub record Runs (w : World) (s : List ℕ) (r : Fed) (w' : World) (old out : Lis
 pub record Feeds (w : World) (s : List ℕ) (r : Fed) (w' : World) (old out : List ℕ) : Type 0 where
   pub goes : Goes w s (take (r .filled) out) w' (drop (r .used) s)
   pub world : w' ≡ fedWorld w s
-  pub left : drop (r .used) s ≡ leftOver s
+  pub rest : drop (r .used) s ≡ leftOver s
   pub used : r .used ≤ length s
   pub short : Short (drop (r .used) s)
   pub kept : drop (r .filled) out ≡ drop (r .filled) old
@@ -104,12 +104,12 @@ shifted buf from to = take (to - from) (drop from buf) ++ drop (to - from) buf
 -- The same as `Feeds` where the piece are the first bytes of a buffer: what is left over is moved to its front, and
 -- kept there.
 pub record Turns (w : World) (buf : List ℕ) (to : ℕ) (r : Turn) (w' : World) (buf' old out : List ℕ) : Type 0 where
-  pub goes : Goes w (take to buf) (take (r .filled) out) w' (take (r .kept) buf')
+  pub goes : Goes w (take to buf) (take (r .filled) out) w' (take (r .rest) buf')
   pub world : w' ≡ fedWorld w (take to buf)
-  pub left : take (r .kept) buf' ≡ leftOver (take to buf)
-  pub buffer : buf' ≡ shifted buf (to - r .kept) to
-  pub within : r .kept ≤ to
-  pub short : Short (take (r .kept) buf')
+  pub rest : take (r .rest) buf' ≡ leftOver (take to buf)
+  pub buffer : buf' ≡ shifted buf (to - r .rest) to
+  pub within : r .rest ≤ to
+  pub short : Short (take (r .rest) buf')
   pub kept : drop (r .filled) out ≡ drop (r .filled) old
   pub room : r .filled ≤ length out
 

@@ -3,7 +3,7 @@ use mathlib.Core.List.{List, [], _∷_, _++_}
 use mathlib.Core.Path.{_≡_}
 use Prim.Native.Nat.{ℕ}
 use lib.ListN.{length}
-use Rattle.player.specs.Card.{World, lastOutput, outputBytes, start, printed}
+use Rattle.player.specs.Card.{World, lastOutput, outputBytes, startWorld, printed}
 use Rattle.feeder.specs.Feed.{Goes, Short}
 use Rattle.cards.specs.Says.{endSays}
 use Rattle.cards.specs.declared.Phase.the-variants as P
@@ -26,4 +26,4 @@ pub data Run : World → List ℕ → List (List ℕ) → List ℕ → Type 0 wh
 
 -- In whatever pieces a card comes, what is printed is what the definition says of all its bytes.
 pub record Program : Type 0 where
-  pub prints : {cs : List (List ℕ)} {o : List ℕ} → Run start [] cs o → o ≡ printed (concat cs)
+  pub prints : {cs : List (List ℕ)} {o : List ℕ} → Run startWorld [] cs o → o ≡ printed (concat cs)

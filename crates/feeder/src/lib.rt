@@ -7,7 +7,6 @@ use cards::TickLine;
 use player::Output;
 use player::Watch;
 use tables::Checked;
-use traces::Tick;
 ghost use mathlib.Core.Path.{_≡_};
 ghost use Prim.Native.Nat.{_+_, _-_, _≤_};
 ghost use lib.ListN.{length, take, drop};
@@ -26,10 +25,10 @@ struct Fed {
     pub filled: usize,
 }
 
-// After a turn of the program: how many bytes are kept for the next one, and how many of the output are filled.
+// After a turn of the program: how many bytes are left for the next one, and how many of the output are filled.
 pub struct Turn {
     pub watch: Watch,
-    pub kept: usize,
+    pub rest: usize,
     pub filled: usize,
 }
 
@@ -134,12 +133,7 @@ fn run_ticks(
         let TickLine::Is { start, signals } = cards::tick_at(bytes, used) else {
             return fed_to(watch_at(phase, left, n), used, at);
         };
-        let parameters = *parameters;
-        let now = Tick {
-            start,
-            signals,
-            parameters,
-        };
+        let now = traces::tick_of(start, signals, *parameters);
         let v = flows::step_passed(table, n, state, values, now);
         at = put_verdict(out, at, v);
         used += TICK;
@@ -171,11 +165,7 @@ fn feed_ticks(
     let Phase::Ticks = phase else {
         return fed_to(w, 0, 0);
     };
-    let now = Tick {
-        start: 0,
-        signals: 0,
-        parameters: *parameters,
-    };
+    let now = traces::tick_of(0, 0, *parameters);
     let checked = flows::step_checked(table, w.n, state, values, now);
     let Checked::Passed = checked else {
         return fed_to(w, 0, 0);
@@ -272,7 +262,7 @@ pub fn run_turn(
     shift(buf, used, to);
     Turn {
         watch: next,
-        kept: to - used,
+        rest: to - used,
         filled: filled,
     }
 }

@@ -49,7 +49,7 @@ use Rattle.cards.specs.declared.Phase.the-variants as P
 use Rattle.cards.proofs.Sized.{parameters-low, parameters-short, count-short}
 use Rattle.traces.specs.Trace.{tickOf}
 use Rattle.player.specs.Card.{World, worldOf, watchOf, Effect, effectOf, ruleMade, played, lined}
-use Rattle.player.specs.Card.{outputBytes, owed, prints, start, printed}
+use Rattle.player.specs.Card.{outputBytes, owed, prints, startWorld, printed}
 use Rattle.player.specs.Meant.{TickLines, Fine, verdictLines}
 use Rattle.player.specs.Meant.TickLines.{none as no-lines, more as more-lines}
 use Rattle.player.specs.declared.Output.the-variants as O
@@ -300,7 +300,7 @@ pub meant : {card text ps : List ℕ} {ks : List Tick} {t : Tree} {f : Formula}
     → printed card ≡ verdictLines (verdict (traceOfTicks ps ks) f) 0 ks
 unfolding printed
 meant {card} {text} {ps} {ks} {t} {f} h e is =
-    prints-of start card _ [] (h .lines)
+    prints-of startWorld card _ [] (h .lines)
     ∙ lines-owed text ps ks t f (h .second) (h .fourth) (h .rest) (h .parameters) (h .count)
     (h .ticks) e is (replicate parameterCount 0) (replicate tableRoom 0) (replicate equationLimit 0)
     (replicate equationLimit 0) (long tableRoom) (long equationLimit) (long equationLimit)

@@ -9,6 +9,7 @@ use lib.Seq.{drop-drop}
 use borrow.Author.Tests.{ne-eqb, lt-leb}
 use Rattle.limits.specs.Limits.{standardCap, lineLimit}
 use Rattle.traces.specs.Trace.{tickOf}
+use Rattle.traces.specs.declared.Tick.{Tick}
 use Rattle.lists.specs.Line.{line, lineFrom}
 use Rattle.cards.specs.Heads.{ruleHead, afterHead}
 use Rattle.cards.specs.Says.{Says, brokenBy, lineSays, stageAt, stageAfter}
@@ -29,7 +30,7 @@ use Rattle.flows.specs.declared.Fresh.{Fresh}
 use Rattle.flows.specs.declared.Stepped.{Stepped}
 use Rattle.flows.specs.declared.Stepped.the-variants as S
 use Rattle.reader.specs.Part.{ruleFrom}
-use Rattle.player.specs.Card.{afterRule, freshAs, ruleMade, stepEffect, stepOf, ticked}
+use Rattle.player.specs.Card.{afterRule, freshAs, ruleMade, stepEffect, tickEffect}
 use Rattle.player.specs.Card.{World, worldOf, watchOf, Effect, effectOf, stop, playedTo, played, lined}
 use Rattle.player.specs.Card.{lastOutput}
 use Rattle.player.specs.declared.Output.the-variants as O
@@ -58,11 +59,14 @@ pub rule-fresh : (text t c part t' c' : List ℕ) (n : ℕ) (r a : Compiled) (f 
 unfolding ruleMade
 rule-fresh text t c part t' c' n r a f p e i h j = rw (← p, ← e, i, ← h, ← j)
 
--- A step that gives this answer, and leaves this state and these values.
-pub step-ends : (k : Stage) (start signals : ℕ) (w : World) (a r : Stepped) (c v : List ℕ) → r ≡ a
-    → afterStep r c v ≡ stepOf start signals w → stepEffect k (afterStep a c v) w ≡ ticked k start signals w
-step-ends k start signals w a r c v e h =
-    ap (λ (x : AfterStep). stepEffect k x w) (ap (λ (x : Stepped). afterStep x c v) (sym e) ∙ h)
+-- A step at the tick t that gives this answer, and leaves this state and these values.
+pub step-ends : (k : Stage) (start signals : ℕ) (w : World) (t : Tick) (a r : Stepped) (c v : List ℕ)
+    → t ≡ tickOf start signals (w .parameters) → r ≡ a
+    → afterStep r c v ≡ stepped standardCap (w .table) (w .watch .n) (w .state) (w .values) t
+    → stepEffect k (afterStep a c v) w ≡ tickEffect k start signals w
+step-ends k start signals w t a r c v i e h =
+    let at-tick = ap (stepped standardCap (w .table) (w .watch .n) (w .state) (w .values)) i in
+    ap (λ (x : AfterStep). stepEffect k x w) (ap (λ (x : Stepped). afterStep x c v) (sym e) ∙ h ∙ at-tick)
 
 -- An over-long line is broken,
 played-broken : (p : Phase) (w : World) → played w (brokenBy p) ≡ stop (lastOutput (brokenBy p)) w

@@ -12,14 +12,14 @@ use Rattle.cards.specs.declared.Phase.{Phase}
 use Rattle.cards.specs.declared.Phase.the-variants as P
 use Rattle.cards.proofs.Lines.{append-nil, firstOf}
 use Rattle.cards.proofs.Stages.{end-broken}
-use Rattle.player.specs.Card.{World, over, lastOutput, outputBytes, brokenBytes, owed, prints}
+use Rattle.player.specs.Card.{World, overWorld, lastOutput, outputBytes, brokenBytes, owed, prints}
 use Rattle.player.proofs.Playing.{over-lined, long-lined}
 
 -- Nothing is printed once the card is over,
 over-owed : (w : World) (ls : List (List ℕ)) (t : List ℕ) → w .watch .stage .phase ≡ P.Over → owed w ls t ≡ []
 unfolding owed outputBytes
 over-owed w [] t e = ap (λ (p : Phase). outputBytes (lastOutput (endIn p (w .watch .stage .left) (length t)))) e
-over-owed w (l ∷ ls) t e = rw (over-lined w l e) (over-owed (over w) ls t refl)
+over-owed w (l ∷ ls) t e = rw (over-lined w l e) (over-owed (overWorld w) ls t refl)
 
 pub over-prints : (w : World) (s : List ℕ) → w .watch .stage .phase ≡ P.Over → prints w s ≡ []
 unfolding prints
@@ -31,7 +31,7 @@ long-owed : (w : World) (ls : List (List ℕ)) (t : List ℕ) → lineLimit ≤ 
 unfolding owed
 long-owed w [] t h =
     ap (λ (s : Says). outputBytes (lastOutput s)) (end-broken (w .watch .stage) (length t) (omega arith))
-long-owed w (l ∷ ls) t h = rw (long-lined w l h, over-owed (over w) ls t refl) (append-nil _)
+long-owed w (l ∷ ls) t h = rw (long-lined w l h, over-owed (overWorld w) ls t refl) (append-nil _)
 
 pub long-prints : (w : World) (s : List ℕ) → lineLimit ≤ firstOf (cut s .whole) (cut s .tail)
     → prints w s ≡ brokenBytes (w .watch .stage .phase)

@@ -10,7 +10,8 @@ use lib.ListN.{length, replicate}
 use denote.Ref.{RefT, now}
 use denote.Triple.Both.{Both}
 use Rattle.limits.specs.Limits.{standardCap, parameterCount, tableRoom, equationLimit}
-use Rattle.lists.specs.Line.{lineFrom}
+use Rattle.lists.specs.Decimal.{digit}
+use Rattle.lists.specs.Line.{lineEnd, lineFrom}
 use Rattle.lists.specs.Text.{bytes}
 use Rattle.traces.specs.Trace.{tickOf}
 use Rattle.observers.specs.Compile.{AfterCompile, compiled}
@@ -22,7 +23,7 @@ use Rattle.flows.specs.declared.Fresh.the-variants as F
 use Rattle.flows.specs.declared.Stepped.{Stepped}
 use Rattle.flows.specs.declared.Stepped.the-variants as S
 use Rattle.cards.specs.Lines.{cut}
-use Rattle.cards.specs.Says.{Says, stageAt, first, brokenBy, lineSays, stageAfter, endSays}
+use Rattle.cards.specs.Says.{Says, stageAt, firstStage, brokenBy, lineSays, stageAfter, endSays}
 use Rattle.cards.specs.Says.Says.{edition, parameters, rule, count, tick, refused, nothing}
 use Rattle.cards.specs.declared.Phase.{Phase}
 use Rattle.cards.specs.declared.Phase.the-variants as P
@@ -74,18 +75,21 @@ abbrev pub effectOf : Output → World → Effect
 effectOf o w = record { world = w; output = o }
 
 -- The world with another watch.
+abbrev pub withWatch : Watch → World → World
+withWatch k w = worldOf k (w .parameters) (w .table) (w .state) (w .values)
+
 abbrev pub goOn : Watch → Output → World → Effect
-goOn k o w = effectOf o (worldOf k (w .parameters) (w .table) (w .state) (w .values))
+goOn k o w = effectOf o (withWatch k w)
 
 -- "and ends": the card is over after this output.
 abbrev pub overWatch : Watch
 overWatch = watchOf (stageAt P.Over 0) 0
 
-abbrev pub over : World → World
-over w = worldOf overWatch (w .parameters) (w .table) (w .state) (w .values)
+abbrev pub overWorld : World → World
+overWorld w = withWatch overWatch w
 
 abbrev pub stop : Output → World → Effect
-stop o w = effectOf o (over w)
+stop o w = effectOf o (overWorld w)
 
 -- The same as the code's answers.
 abbrev pub goingOn : Stage → ℕ → Output → Answered
@@ -150,8 +154,8 @@ abbrev pub stepOf : ℕ → ℕ → World → AfterStep
 stepOf start signals w =
     stepped standardCap (w .table) (w .watch .n) (w .state) (w .values) (tickOf start signals (w .parameters))
 
-abbrev pub ticked : Stage → ℕ → ℕ → World → Effect
-ticked k start signals w = stepEffect k (stepOf start signals w) w
+abbrev pub tickEffect : Stage → ℕ → ℕ → World → Effect
+tickEffect k start signals w = stepEffect k (stepOf start signals w) w
 
 -- What a line does that says so, k being the stage after it.
 abbrev pub playedTo : Stage → Says → World → Effect
@@ -159,7 +163,7 @@ playedTo k edition w = goOn (watchOf k 0) O.Quiet w
 playedTo k (parameters ps) w = effectOf O.Quiet (worldOf (watchOf k 0) ps (w .table) (w .state) (w .values))
 playedTo k (rule text) w = ruleEffect k (ruleMade text (w .table) (w .state)) w
 playedTo k (count m) w = goOn (watchOf k (w .watch .n)) O.Quiet w
-playedTo k (tick start signals) w = ticked k start signals w
+playedTo k (tick start signals) w = tickEffect k start signals w
 playedTo k (refused r) w = stop (O.Refused r) w
 playedTo k nothing w = stop O.Quiet w
 
@@ -189,13 +193,13 @@ lastOutput nothing = O.Quiet
 
 -- A refusal's number in decimal digits. Refusals are 1 to 18: of a longer number these would be the last two digits.
 unfoldable pub refusalDigits : ℕ → List ℕ
-refusalDigits r = cond (ltb r 10) ((48 + r % 10) ∷ []) ((48 + r / 10 % 10) ∷ (48 + r % 10) ∷ [])
+refusalDigits r = cond (ltb r 10) (digit (r % 10) ∷ []) (digit (r / 10 % 10) ∷ digit (r % 10) ∷ [])
 
 -- "It prints `verdict=` and 0 or 1 for each tick. A refusal prints `refused=` and its number". A verdict is one digit.
 unfoldable pub outputBytes : Output → List ℕ
 outputBytes O.Quiet = []
-outputBytes (O.Verdict v) = bytes "verdict=" ++ ((48 + v % 10) ∷ 10 ∷ [])
-outputBytes (O.Refused r) = bytes "refused=" ++ (refusalDigits r ++ (10 ∷ []))
+outputBytes (O.Verdict v) = bytes "verdict=" ++ (digit (v % 10) ∷ lineEnd ∷ [])
+outputBytes (O.Refused r) = bytes "refused=" ++ (refusalDigits r ++ (lineEnd ∷ []))
 
 -- What a broken line prints.
 abbrev pub brokenBytes : Phase → List ℕ
@@ -215,11 +219,11 @@ unfoldable pub prints : World → List ℕ → List ℕ
 prints w s = owed w (cut s .whole) (cut s .tail)
 
 -- Before the first line: the lent arrays are 0.
-abbrev pub start : World
-start =
-    worldOf (watchOf first 0)
+abbrev pub startWorld : World
+startWorld =
+    worldOf (watchOf firstStage 0)
     (replicate parameterCount 0) (replicate tableRoom 0) (replicate equationLimit 0) (replicate equationLimit 0)
 
 -- What the program prints for a whole card.
 unfoldable pub printed : List ℕ → List ℕ
-printed card = prints start card
+printed card = prints startWorld card

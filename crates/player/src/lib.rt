@@ -7,15 +7,14 @@ use cards::Stage;
 use flows::Fresh;
 use flows::Stepped;
 use observers::Compiled;
-use traces::Tick;
 ghost use mathlib.Core.Path.{_≡_};
 ghost use mathlib.Core.List.{List};
 ghost use Prim.Native.Nat.{ℕ};
 ghost use Rattle.lists.specs.Line.{lineFrom};
 ghost use Rattle.cards.specs.Says.{saysBy, brokenBy, isOver};
 ghost use Rattle.reader.specs.Part.{ruleFrom};
-ghost use Rattle.player.specs.Card.{WholeLine, entering, leaving, start, goingOn, stopped};
-ghost use Rattle.player.specs.Card.{afterRule, ruleMade, ruleAnswer, ticked, effectOf, lined, lastOutput};
+ghost use Rattle.player.specs.Card.{WholeLine, entering, leaving, startWorld, goingOn, stopped};
+ghost use Rattle.player.specs.Card.{afterRule, ruleMade, ruleAnswer, tickEffect, effectOf, lined, lastOutput};
 
 // What the program prints for a line.
 pub enum Output {
@@ -126,15 +125,10 @@ fn on_tick(
     values: &mut [u32],
 ) -> Answered
     ensures { λ r. ⌜ effectOf (r .output) (leaving (r .watch) parameters table state values)
-        ≡ ticked next start signals (entering w parameters table state values) ⌝ }
+        ≡ tickEffect next start signals (entering w parameters table state values) ⌝ }
 {
     let n = w.n;
-    let parameters = *parameters;
-    let now = Tick {
-        start,
-        signals,
-        parameters,
-    };
+    let now = traces::tick_of(start, signals, *parameters);
     let stepped = flows::step(table, n, state, values, now);
     match stepped {
         Stepped::Verdict(v) => go_on(next, n, Output::Verdict(v)),
@@ -164,7 +158,7 @@ pub fn on_line(
     match content {
         Content::Edition => go_on(next, 0, Output::Quiet),
         Content::Parameters => {
-            let eight = read.values;
+            let eight = read.parameters;
             *parameters = eight;
             go_on(next, 0, Output::Quiet)
         }
@@ -180,7 +174,7 @@ pub fn on_line(
 
 // Before the first line of a card.
 pub fn begin() -> Watch
-    ensures { λ r. ⌜ r ≡ start .watch ⌝ }
+    ensures { λ r. ⌜ r ≡ startWorld .watch ⌝ }
 {
     let stage = cards::first_stage();
     Watch { stage, n: 0 }

@@ -7,7 +7,7 @@ use Prim.Native.Nat.{ℕ, _+_, _-_, _*_, _≤_, _<_}
 use native.Mathlib.Omega.{arith}
 use lib.ListN.{length, take, drop, length-append, length-drop}
 use lib.Seq.{length-take-le, take-length, take-add, take-append-seam, take-append-add}
-use Rattle.player.specs.Card.{World, worldOf, prints, printed, start}
+use Rattle.player.specs.Card.{World, worldOf, prints, printed, startWorld}
 use Rattle.limits.specs.Limits.{literalCount, lineLimit}
 use Rattle.cards.specs.Says.{isOver}
 use Rattle.feeder.specs.Feed.{Goes, Ready, Turns, Finishes, fedWorld, leftOver}
@@ -103,14 +103,14 @@ piece-stands : {w w' : World} {s s' o : List ℕ} → Goes w s o w' s' → w' �
     → (done over : Bool) → over ≡ isOver (w' .watch .stage .phase)
     → Stands (cond done (cond over S.Over S.Reading) S.Stuck) w s o w' s'
 piece-stands g h l true true e = all-over g (sym e)
-piece-stands g h l true false e = record { goes = g; world = h; left = l; going = sym e }
+piece-stands g h l true false e = record { goes = g; world = h; rest = l; going = sym e }
 piece-stands g h l false over e = front-goes g
 
 -- A piece of `got` bytes, after the first `to` bytes of buf.
 pub piece-takes : {w w' : World} {buf buf' old out : List ℕ} {f : Turn} (to got : ℕ)
     → Turns w buf (to + got) f w' buf' old out → to + got ≤ length buf → length buf ≤ length out → 0 < got
     → (n : Next) (done over : Bool)
-    → n .to ≡ f .kept → n .got ≡ got → n .shown ≡ f .filled → over ≡ isOver (w' .watch .stage .phase)
+    → n .to ≡ f .rest → n .got ≡ got → n .shown ≡ f .filled → over ≡ isOver (w' .watch .stage .phase)
     → n .stand ≡ cond done (cond over S.Over S.Reading) S.Stuck
     → Takes (take got (drop to buf)) w (take to buf) n w' (take (n .to) buf') out
 piece-takes {w} {w'} {buf} {buf'} {old} {out} {f} to got t h b p n done over e g k o z =
@@ -122,7 +122,7 @@ piece-takes {w} {w'} {buf} {buf'} {old} {out} {f} to got t h b p n done over e g
       room = omega (arith, g, h, b);
       stands =
           rw (e, k, z, sym join)
-          (piece-stands (t .goes) (t .world) (t .left) done over o);
+          (piece-stands (t .goes) (t .world) (t .rest) done over o);
     }
 
 -- ---- the whole run
@@ -141,19 +141,19 @@ longestCard = lineLimit * (literalCount + 4)
 pub record Reached (w : World) (s : List ℕ) (got shown : ℕ) : Type 0 where
   pub input : List ℕ
   pub output : List ℕ
-  pub goes : Goes start input output w s
+  pub goes : Goes startWorld input output w s
   pub came : length input ≡ got
   pub gone : length output ≡ shown
   pub going : isOver (w .watch .stage .phase) ≡ false
   pub read : got + budget (w .watch) (length s) ≤ longestCard
   pub written : shown + outputRoom * budget (w .watch) (length s) ≤ outputRoom * longestCard
 
-pub reached-start : Reached start [] 0 0
+pub reached-start : Reached startWorld [] 0 0
 reached-start =
     record {
       input = [];
       output = [];
-      goes = goes-none start [];
+      goes = goes-none startWorld [];
       came = refl;
       gone = refl;
       going = refl;
@@ -175,7 +175,7 @@ goes-both {u} {v} {w} {r} {s} {t} {o} {p} c g h =
     }
 
 -- and ends after it.
-ends-both : {v : World} {r s o : List ℕ} → Goes start r o v s → (c p : List ℕ) (k : Stand)
+ends-both : {v : World} {r s o : List ℕ} → Goes startWorld r o v s → (c p : List ℕ) (k : Stand)
     → Ends k (prints v) (s ++ c) p → Ends k printed (r ++ c) (o ++ p)
 unfolding printed
 ends-both {v} {r} {s} {o} g c p S.Reading e = e
@@ -184,12 +184,12 @@ ends-both {v} {r} {s} {o} g c p S.Over e =
     λ more.
     ap (λ (l : List ℕ). o ++ l) (e more ∙ ap (prints v) (append-assoc s c more))
     ∙ sym (g .tells (c ++ more))
-    ∙ ap (prints start) (sym (append-assoc r c more))
+    ∙ ap (prints startWorld) (sym (append-assoc r c more))
 ends-both {v} {r} {s} {o} g c p S.Stuck e =
     ap (λ (l : List ℕ). o ++ l) e
     ∙ sym (take-append-add o (prints v (s ++ c)) (length p))
     ∙ ap (λ (l : List ℕ). take (length o + length p) l) (sym (g .tells c))
-    ∙ ap (λ (i : ℕ). take i (prints start (r ++ c))) (sym (length-append o p))
+    ∙ ap (λ (i : ℕ). take i (prints startWorld (r ++ c))) (sym (length-append o p))
 
 module _ {w w' : World} {s s' out : List ℕ} {g h : ℕ} (r : Reached w s g h) (n : Next) (t : Once w s n w' s' out) where
   o : Takes (t .piece) w s n w' s' out
@@ -218,7 +218,7 @@ module _ {w w' : World} {s s' out : List ℕ} {g h : ℕ} (r : Reached w s g h) 
     near =
         let going = ap (λ (x : World). isOver (x .watch .stage .phase)) (sym (on .world)) ∙ on .going in
         let b = fed-near w (s ++ t .piece) going in
-        rw (on .world, on .left) (omega (arith, length-append s (t .piece), o .got, b))
+        rw (on .world, on .rest) (omega (arith, length-append s (t .piece), o .got, b))
 
     -- Fewer bytes may still come.
     pub fewer : n .got + budget (w' .watch) (length s') ≤ budget (w .watch) (length s)

@@ -37,7 +37,7 @@ Ends S.Stuck prints s o = o ≡ take (length o) (prints s)
 pub record On (w : World) (s o : List ℕ) (w' : World) (s' : List ℕ) : Type 0 where
   pub goes : Goes w s o w' s'
   pub world : w' ≡ fedWorld w s
-  pub left : s' ≡ leftOver s
+  pub rest : s' ≡ leftOver s
   pub going : isOver (w' .watch .stage .phase) ≡ false
 
 abbrev pub Stands : Stand → World → List ℕ → List ℕ → World → List ℕ → Type 0

@@ -10,7 +10,7 @@ ghost use mathlib.Core.List.{List, []};
 ghost use mathlib.Core.Path.{_≡_};
 ghost use Prim.Native.Nat.{ℕ, _+_, _≤_, _<_};
 ghost use lib.ListN.{length, take, drop};
-ghost use Rattle.player.specs.Card.{World, worldOf, brought, entering, leaving, start};
+ghost use Rattle.player.specs.Card.{World, worldOf, brought, entering, leaving, startWorld};
 ghost use Rattle.feeder.specs.Feed.{Ready};
 ghost use Rattle.towerwatch.specs.Run.{outputRoom, isReading, Takes, Once, Whole};
 
@@ -138,13 +138,13 @@ fn piece(
     let f = feeder::run_turn(watch, buf, to + got, parameters, table, state, values, out);
     let filled = f.filled;
     let next = f.watch;
-    let kept = f.kept;
+    let rest = f.rest;
     let shown = show(out, filled);
     let over = player::is_over(next);
     let stand = going(shown.done, over);
     Next {
         watch: next,
-        to: kept,
+        to: rest,
         got: got,
         shown: shown.count,
         stand: stand,
@@ -185,7 +185,7 @@ fn run(
     out: &mut [u8],
 ) -> Total
     requires { ⌜ Ready (now buf) 0 (now out) × (length (now out) ≡ outputRoom) ⌝ }
-    requires { ⌜ brought (start .watch) parameters table state values ≡ start ⌝ }
+    requires { ⌜ brought (startWorld .watch) parameters table state values ≡ startWorld ⌝ }
     ensures { λ r. ⌜ Whole r ⌝ }
 {
     let mut watch = player::begin();

@@ -6,15 +6,19 @@ use borrow.Author.Needs.{needs}
 use Rattle.player.specs.Card.{brought}
 use Rattle.tables.proofs.Checks.{failed-passed}
 use Rattle.feeder.specs.Feed.{Admitted}
-use Rattle.feeder.proofs.Ticking.{passes-any, runs-none}
+use Rattle.feeder.proofs.TickRuns.{passes-any, passes-at, runs-none}
 use Rattle.feeder.proofs.feed_ticks.Statement.{statement}
 use Rattle.feeder.proofs.feed_ticks.Tie as tie
 
 -- ---- the places
 
--- Where the phase is known, from the check of a step; where the arrays are known, from there; and the start.
+-- The tick that is built, from the check of a step; where the phase is known; where the arrays are known, from
+-- there; and the start.
+abbrev built : tie.After-step-checked → tie.After-tick-of
+built c = c .before .before .before
+
 abbrev ticks : tie.After-step-checked → tie.After-enum-told
-ticks c = c .before .before .before .before
+ticks c = built c .before .before
 
 abbrev known : tie.After-enum-told → tie.After-slice-known3
 known c = c .before .before .before
@@ -43,7 +47,7 @@ admitted c =
     let checked = c .before .before in
     record {
       phase = ticks checked .enum-told .given .1;
-      passes = passes-any _ _ _ _ _ (sym (checked .step-checked .ensures) ∙ c .enum-told2 .given .1);
+      passes = passes-any _ _ _ _ _ (built checked .tick-of .ensures) (sym (checked .step-checked .ensures) ∙ c .enum-told2 .given .1);
     }
 
 -- Another phase; a step that would be refused.
@@ -57,9 +61,11 @@ other-phase c =
 
 step-refused : tie.Need-returns-2
 step-refused c =
-    let refused = sym (c .before .enum-told3 .given .1) ∙ c .before .before .before .step-checked .ensures in
+    let checked = c .before .before .before in
+    let refused = sym (c .before .enum-told3 .given .1) ∙ checked .step-checked .ensures in
+    let is = built checked .tick-of .ensures in
     rw (c .fed-to2 .ensures)
-    (runs-none _ _ _, (λ admits more. absurd (failed-passed (refused ∙ admits .passes 0 0)), λ no. refl))
+    (runs-none _ _ _, (λ admits more. absurd (failed-passed (refused ∙ passes-at _ _ admits is)), λ no. refl))
 
 run-ticks-requires : tie.Need-run-ticks-requires
 run-ticks-requires c κs =
@@ -78,6 +84,7 @@ feed-ticks-spec =
     (λ c. search needs)
     (λ c κs. search needs)
     other-phase
+    (λ c κs. search needs)
     (λ c κs. search needs)
     (λ c. search needs)
     (λ c. search needs)

@@ -6,10 +6,11 @@ use native.Mathlib.Omega.{arith}
 use borrow.Author.Needs.{needs}
 use lib.ListN.{length}
 use Rattle.cards.specs.Says.{stageAt}
+use Rattle.cards.specs.Ticks.{tickLength}
 use Rattle.player.specs.Card.{worldOf, watchOf}
 use Rattle.feeder.specs.Feed.{Admitted}
 use Rattle.feeder.proofs.Feeding.{Between, begun}
-use Rattle.feeder.proofs.Ticking.{admitted-on, line-inside, verdict-room, after-tick, runs-all}
+use Rattle.feeder.proofs.TickRuns.{passes-at, admitted-on, line-inside, verdict-room, after-tick, runs-all}
 use Rattle.feeder.proofs.run_ticks.Statement.{statement}
 use Rattle.feeder.proofs.run_ticks.Tie as tie
 
@@ -33,9 +34,12 @@ start c = c .before .before .before .before .before
 abbrev entry : tie.At-loop Inv-loop μ-loop → tie.Start Inv-loop μ-loop
 entry c = start (c .before .before)
 
--- Where a tick line is known, from its step; and the loop from there.
+-- The tick that is built, from its step; where its line is known; and the loop from there.
+abbrev built : tie.After-step-passed Inv-loop μ-loop → tie.After-tick-of Inv-loop μ-loop
+built c = c .before .before .before
+
 abbrev read : tie.After-step-passed Inv-loop μ-loop → tie.After-start Inv-loop μ-loop
-read c = c .before .before .before .before .before
+read c = built c .before .before .before
 
 abbrev turn : tie.After-start Inv-loop μ-loop → tie.At-loop Inv-loop μ-loop
 turn c = c .before .before .before .before
@@ -78,7 +82,9 @@ none-left c =
 
 -- A tick line, and its step.
 step-passed-requires : tie.Need-step-passed-requires Inv-loop μ-loop
-step-passed-requires c κs = turn (c .before .before .before .before) .loop .inv .1 .passes _ _
+step-passed-requires c κs =
+    let tick = c .before .before in
+    passes-at _ _ (turn (tick .before .before .before) .loop .inv .1) (tick .tick-of .ensures)
 
 put-verdict-requires : tie.Need-put-verdict-requires Inv-loop μ-loop
 put-verdict-requires c κs =
@@ -86,18 +92,18 @@ put-verdict-requires c κs =
     let tick = read step in
     let line = tick .before .before in
     let inv = turn tick .loop .inv in
-    verdict-room _ _ (inv .1) _ _ (step .step-passed .ensures) (inv .0)
+    verdict-room _ _ (inv .1) _ _ (built step .tick-of .ensures) (step .step-passed .ensures) (inv .0)
     (sym (tick .start .given .1) ∙ line .tick-at .ensures) (line .before .loop-test .taken)
 
 inside : (c : tie.After-slice-known6 Inv-loop μ-loop) →
     let loop = turn (read (stepped (lent c))) in
-    loop .loop .used + 20 < length (entry loop .args .bytes .now)
+    loop .loop .used + tickLength < length (entry loop .args .bytes .now)
 inside c =
     let step = stepped (lent c) in
     let tick = read step in
     let line = tick .before .before in
     let inv = turn tick .loop .inv in
-    line-inside _ _ (inv .1) _ _ (step .step-passed .ensures) (inv .0)
+    line-inside _ _ (inv .1) _ _ (built step .tick-of .ensures) (step .step-passed .ensures) (inv .0)
     (sym (tick .start .given .1) ∙ line .tick-at .ensures) (line .before .loop-test .taken)
 
 loop-again : tie.Need-loop-again Inv-loop μ-loop
@@ -107,9 +113,9 @@ loop-again c =
     let tick = read step in
     let line = tick .before .before in
     let inv = turn tick .loop .inv in (
-      after-tick _ _ (inv .1) _ _ (step .step-passed .ensures) (inv .0)
+      after-tick _ _ (inv .1) _ _ (built step .tick-of .ensures) (step .step-passed .ensures) (inv .0)
           (sym (tick .start .given .1) ∙ line .tick-at .ensures) (line .before .loop-test .taken) (put .0) (put .1),
-      admitted-on _ _ (inv .1) _ _ (step .step-passed .ensures),
+      admitted-on _ _ (inv .1) _ _ (built step .tick-of .ensures) (step .step-passed .ensures),
       omega (arith, step .step-passed .kept, inv .2),
       omega (arith, step .step-passed .kept, inv .3),
     )
@@ -130,9 +136,10 @@ run-ticks-spec =
     (λ c. stopped c .loop .inv .3)
     (λ c. stopped c .loop .inv .0 .same)
     line-broken
+    (λ c κs. search needs)
     step-passed-requires
     put-verdict-requires
-    (λ c. omega (arith, inside c))
+    (λ c. omega (arith, inside c, entry (turn (read (stepped (lent c)))) .good))
     (λ c. search needs)
     (λ c. omega arith)
     loop-again

@@ -78,7 +78,7 @@ returns c =
     record {
       goes = goes-rest e (feed .goes);
       world = feed .world;
-      left = e ∙ feed .left;
+      rest = e ∙ feed .rest;
       buffer = rw z shift;
       within = omega arith;
       short = short-eq e (feed .short);

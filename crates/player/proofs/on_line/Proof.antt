@@ -33,7 +33,7 @@ module _ (c : tie.After-stage-after) where
   told = c .before .read-line .result .content
 
   abbrev eight : List ℕ
-  eight = c .before .read-line .result .values
+  eight = c .before .read-line .result .parameters
 
   abbrev next : Stage
   next = c .stage-after .result

@@ -18,12 +18,12 @@ made c = called (c .before .before)
 abbrev made-too : tie.After-stepped2 → tie.After-step
 made-too c = called (c .before .before)
 
--- Where the arrays are known, from the step; the start from there; and what was brought in.
-abbrev known : tie.After-step → tie.After-slice-known2
-known c = c .before .before .before .before
+-- The tick that is built, from the step; the start; and what was brought in.
+abbrev built : tie.After-step → tie.After-tick-of
+built c = c .before .before .before
 
 abbrev entry : tie.After-step → tie.Start
-entry c = known c .before .before .before
+entry c = built c .before .before .before .before .before
 
 abbrev world : tie.After-step → World
 world c =
@@ -35,20 +35,24 @@ world c =
 verdict : tie.Need-returns
 verdict c =
     let told = c .before .before in
+    let step = made told in
     rw (c .go-on .ensures)
-    (step-ends _ _ _ (world (made told)) (S.Verdict _) _ _ _ (told .stepped .given .1) (made told .step .ensures))
+    (step-ends _ _ _ (world step) _ (S.Verdict _) _ _ _ (built step .tick-of .ensures) (told .stepped .given .1)
+    (step .step .ensures))
 
 refused : tie.Need-returns-2
 refused c =
     let told = c .before .before in
+    let step = made-too told in
     rw (c .stop .ensures)
-    (step-ends _ _ _ (world (made-too told)) (S.Refused _) _ _ _ (told .stepped2 .given .1)
-    (made-too told .step .ensures))
+    (step-ends _ _ _ (world step) _ (S.Refused _) _ _ _ (built step .tick-of .ensures) (told .stepped2 .given .1)
+    (step .step .ensures))
 
 pub on-tick-spec : {M : Type 1} → statement M
 on-tick-spec =
     tie.close
     (tie.spec
+    (λ c κs. search needs)
     (λ c κs. search needs)
     (λ c. search needs)
     (λ c κs. search needs)

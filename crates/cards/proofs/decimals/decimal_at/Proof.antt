@@ -8,7 +8,6 @@ pub decimal-at-spec : {M : Type 1} → statement M
 decimal-at-spec =
     tie.close
     (tie.spec
-    (λ c. search needs)
     (λ c κs. search needs)
     (λ c. search needs)
     (λ c. search needs)
