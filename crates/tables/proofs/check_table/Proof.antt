@@ -1,4 +1,5 @@
--- `tables::check_table` meets its contract. Assumes nothing.
+-- `tables::check_table` meets its contract: one case for each test, by what the specification says where those before
+-- it are passed. Assumes nothing.
 use mathlib.Core.Path.{_≡_, refl, sym, ap, _∙_}
 use mathlib.Core.Bool.{Bool, true, false, not, _&&_, cond}
 use Prim.Native.Nat.{_-_}

@@ -1,16 +1,25 @@
--- `tables::equation_fits` meets its contract. Assumes nothing.
+-- `tables::equation_fits` meets its contract: it fits where its three operands do. Assumes nothing.
 use Rattle.tables.proofs.Checks.{three-fit}
 use borrow.Author.Needs.{needs}
 use Rattle.tables.proofs.equation_fits.Statement.{statement}
 use Rattle.tables.proofs.equation_fits.Tie as tie
 
+-- The tests of the second and of the first operand, and the shape.
+abbrev second-at : tie.After-all-three → tie.After-operand-fits2
+second-at c = c .before .before .before
+
+abbrev first-at : tie.After-all-three → tie.After-operand-fits
+first-at c = second-at c .before .before
+
+abbrev shape-at : tie.After-all-three → tie.After-shape-of
+shape-at c = first-at c .before .before
+
 returns : tie.Need-returns
 returns c =
     let third = c .before .operand-fits3 in
-    let at-second = c .before .before .before in
-    let second = at-second .operand-fits2 in
-    let first = at-second .before .before .operand-fits in
-    let shape = at-second .before .before .before .before .shape-of in
+    let second = second-at c .operand-fits2 in
+    let first = first-at c .operand-fits in
+    let shape = shape-at c .shape-of in
     let both = c .all-three in
     rw (← shape .ensures)
     (three-fit _ _ _ (shape .result) _ _ _ _ _ (first .ensures) (second .ensures) (third .ensures) (both .ensures))

@@ -1,4 +1,5 @@
--- `tables::is_flow` meets its contract. Assumes nothing.
+-- `tables::is_flow` meets its contract: an equation that is not among the first m is none, and another has the sort of
+-- its kind. Assumes nothing.
 use mathlib.Core.Path.{ap}
 use mathlib.Core.Bool.{not}
 use borrow.Author.Tests.{le-ltb, lt-ltb}
