@@ -18,6 +18,10 @@ Inv-loop table n state₀ flows i₀ state i =
 abbrev μ-loop : tie.MeasureT-loop
 μ-loop table n state₀ flows i₀ state i = n - i
 
+-- The start, from the loop.
+abbrev start : tie.At-loop Inv-loop μ-loop → tie.Start Inv-loop μ-loop
+start c = c .before .before .before .before
+
 loop-holds : tie.Need-loop-holds Inv-loop μ-loop
 loop-holds c =
     let args = c .before .before .before .args in
@@ -27,7 +31,7 @@ loop-holds c =
 loop-again : tie.Need-loop-again Inv-loop μ-loop
 loop-again c =
     let turn = c .before .before .before .before in
-    let args = turn .before .before .before .before .args in
+    let args = start turn .args in
     let t = args .table .now in
     let f = operandAt t (args .flows .now) in
     let inv = turn .loop .inv in
@@ -47,7 +51,7 @@ same-length c = c .before .loop .inv .1
 returns : tie.Need-returns Inv-loop μ-loop
 returns c =
     let loop = c .before .loop in
-    let z : loop .i ≡ c .before .before .before .before .before .args .n = omega arith in
+    let z : loop .i ≡ start (c .before) .args .n = omega arith in
     rw z at (loop .inv .2)
 
 pub advance-spec : {M : Type 1} → statement M

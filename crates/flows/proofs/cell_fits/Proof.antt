@@ -1,4 +1,4 @@
--- `flows::cell_fits` meets its contract. Assumes nothing.
+-- `flows::cell_fits` meets its contract: a memory of either sort, and no memory. Assumes nothing.
 use Rattle.tables.proofs.Numbers.{no-memory}
 use Rattle.tables.specs.Table.{kindOf, shapeOf}
 use Rattle.tables.specs.Table.{isMemory}

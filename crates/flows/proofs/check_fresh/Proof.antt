@@ -1,4 +1,4 @@
--- `flows::check_fresh` meets its contract. Assumes nothing.
+-- `flows::check_fresh` meets its contract: one case for each test, where those before it are passed. Assumes nothing.
 use mathlib.Core.Path.{sym, _∙_}
 use borrow.Author.Tests.{lt-leb, le-leb}
 use lib.ListN.{drop}

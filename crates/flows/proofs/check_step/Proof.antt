@@ -1,4 +1,4 @@
--- `flows::check_step` meets its contract. Assumes nothing.
+-- `flows::check_step` meets its contract: one case for each test, where those before it are passed. Assumes nothing.
 use mathlib.Core.Path.{_≡_, sym, _∙_}
 use mathlib.Core.Bool.{Bool, true, false, cond}
 use native.Mathlib.Omega.{arith}
@@ -13,20 +13,22 @@ use borrow.Author.Needs.{needs}
 use Rattle.flows.proofs.check_step.Statement.{statement}
 use Rattle.flows.proofs.check_step.Tie as tie
 
--- The start of the function, from the call of `check_table`.
+-- The start of the function, from the call of `check_table`; and that call, from where its answer is known.
 abbrev start : tie.After-check-table → tie.Start
 start c = c .before .before .before .before
 
+abbrev called : tie.After-enum-told → tie.After-check-table
+called c = c .before .before
+
 -- The table passed its tests.
-passed : (c : tie.After-enum-told) → (let args = start (c .before .before) .args in
+passed : (c : tie.After-enum-told) → (let args = start (called c) .args in
     checked (args .table .now) (args .n) ≡ Passed)
-passed c = sym (c .before .before .check-table .ensures) ∙ c .enum-told .given .1
+passed c = sym (called c .check-table .ensures) ∙ c .enum-told .given .1
 
 -- What the tests of the call say.
 abbrev checkedAt : tie.Else3 → Checked
 checkedAt c =
-    let told = c .before .before .before .before in
-    let args = start (told .before .before) .args in
+    let args = start (called (c .before .before .before .before)) .args in
     stepChecked (args .cap) (args .table .now) (args .n) (args .state .now) (args .values .now) (args .tick)
 
 table-refused : tie.Need-returns

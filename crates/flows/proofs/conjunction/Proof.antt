@@ -1,4 +1,4 @@
--- `flows::conjunction` meets its contract. Assumes nothing.
+-- `flows::conjunction` meets its contract: one case for each way through the two tests. Assumes nothing.
 use Rattle.traces.proofs.Laws.{nonzero-pos}
 use Rattle.flows.proofs.Numbers.{nonzero-none}
 use Rattle.flows.proofs.conjunction.Statement.{statement}

@@ -1,4 +1,4 @@
--- `flows::fresh_state` meets its contract. Assumes nothing.
+-- `flows::fresh_state` meets its contract: the state is made where the check is passed. Assumes nothing.
 use mathlib.Core.Path.{sym, ap, _∙_}
 use Rattle.flows.specs.Step.{afterFresh, freshened}
 use Rattle.flows.specs.declared.Fresh.the-variants.{Made}
@@ -7,17 +7,21 @@ use borrow.Author.Needs.{needs}
 use Rattle.flows.proofs.fresh_state.Statement.{statement}
 use Rattle.flows.proofs.fresh_state.Tie as tie
 
+-- The check, from where it is known to be passed.
+abbrev checked : tie.After-enum-told → tie.After-check-fresh
+checked c = c .before .before
+
 reset-requires : tie.Need-reset-requires
 reset-requires c κs =
     let told = c .before .enum-told .given .1 in
-    let p = fresh-passed _ _ _ (sym (c .before .before .before .check-fresh .ensures) ∙ told) in
+    let p = fresh-passed _ _ _ (sym (checked (c .before) .check-fresh .ensures) ∙ told) in
     (p .0 .whole, p .1)
 
 made : tie.Need-returns
 unfolding freshened
 made c =
     let passed = c .before .before .before .before in
-    rw (← passed .before .before .check-fresh .ensures, passed .enum-told .given .1)
+    rw (← checked passed .check-fresh .ensures, passed .enum-told .given .1)
     (ap (afterFresh Made) (c .before .before .reset .ensures))
 
 refused : tie.Need-returns-2

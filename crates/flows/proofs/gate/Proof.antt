@@ -1,4 +1,4 @@
--- `flows::gate` meets its contract. Assumes nothing.
+-- `flows::gate` meets its contract: a number above 0 is yes, and 0 is no. Assumes nothing.
 use Rattle.traces.proofs.Laws.{nonzero-pos}
 use Rattle.flows.proofs.Numbers.{nonzero-none}
 use Rattle.flows.proofs.gate.Statement.{statement}

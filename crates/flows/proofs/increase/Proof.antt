@@ -1,4 +1,4 @@
--- `flows::increase` meets its contract. Assumes nothing.
+-- `flows::increase` meets its contract: no increase, one below the cap, and one at it. Assumes nothing.
 use native.Mathlib.Omega.{arith}
 use Rattle.traces.proofs.Laws.{nonzero-pos}
 use Rattle.flows.specs.Flow.{increased}

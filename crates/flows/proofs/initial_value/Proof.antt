@@ -1,4 +1,4 @@
--- `flows::initial_value` meets its contract. Assumes nothing.
+-- `flows::initial_value` meets its contract: a count, and a boolean. Assumes nothing.
 use mathlib.Core.Path.{sym, _∙_}
 use Rattle.flows.proofs.Numbers.{initial-count, initial-boolean}
 use borrow.Author.Needs.{needs}

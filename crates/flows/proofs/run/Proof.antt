@@ -16,6 +16,10 @@ use borrow.Author.Needs.{needs}
 use Rattle.flows.proofs.run.Statement.{statement}
 use Rattle.flows.proofs.run.Tie as tie
 
+-- Where the flows are filled in, from where the state is moved on.
+abbrev filled : tie.After-advance → tie.After-fill
+filled c = c .before .before .before .before .before
+
 whole : (cap : ℕ) (t : List ℕ) (n : ℕ) (k : Tick) (state₀ values₀ state values : List ℕ)
     → values ≡ flows cap t k state₀ n ++ drop n values₀ → state ≡ nextState t (take n values) n state₀
     → afterStep (Verdict (numberAt (take n values) (n - 1))) state values ≡ afterTick cap t n state₀ values₀ k
@@ -34,8 +38,7 @@ shared-slice-read-result c = simp length-take (omega arith)
 returns : tie.Need-returns
 returns c =
     let moved = c .before .before .before in
-    let filled = moved .before .before .before .before .before in
-    whole _ _ _ _ _ _ _ _ (filled .fill .ensures) (moved .advance .ensures)
+    whole _ _ _ _ _ _ _ _ (filled moved .fill .ensures) (moved .advance .ensures)
 
 pub run-spec : {M : Type 1} → statement M
 run-spec =

@@ -10,6 +10,13 @@ use borrow.Author.Needs.{needs}
 use Rattle.flows.proofs.value.Statement.{statement}
 use Rattle.flows.proofs.value.Tie as tie
 
+-- Where the first operand is read, from the answer of the start flow; and the start of the function.
+abbrev operand-read : tie.After-number → tie.After-shared-slice-known4
+operand-read c = c .before .before .before .before .before
+
+abbrev entry : tie.After-number → tie.Start
+entry c = operand-read c .before .before .before .before
+
 of-signal : tie.Need-returns
 unfolding valueOf kindOf
 of-signal c = rw (c .before .match .keys1) (c .signal-at .ensures)
@@ -17,9 +24,7 @@ of-signal c = rw (c .before .match .keys1) (c .signal-at .ensures)
 of-start : tie.Need-returns-2
 unfolding valueOf kindOf
 of-start c =
-    let table-read = c .before .before .before .before .before in
-    let args = table-read .before .before .before .before .args in
-    rw (c .before .before .match .keys2) (c .number .ensures ∙ ap truth (positive (args .tick .start)))
+    rw (c .before .before .match .keys2) (c .number .ensures ∙ ap truth (positive (entry c .args .tick .start)))
 
 of-constant : tie.Need-returns-3
 unfolding valueOf kindOf
