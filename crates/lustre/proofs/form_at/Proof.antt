@@ -1,4 +1,4 @@
--- `lustre::form_at` meets its contract. Assumes nothing.
+-- `lustre::form_at` meets its contract: the form is looked up in the table, as its definition does. Assumes nothing.
 use borrow.Author.Needs.{needs}
 use mathlib.Core.Path.{refl}
 use Rattle.lustre.specs.Form.{padded, forms, formAt}

@@ -1,4 +1,4 @@
--- `lustre::is_letter` meets its contract. Assumes nothing.
+-- `lustre::is_letter` meets its contract: one case above 64, and one up to 64. Assumes nothing.
 use borrow.Author.Tests.{le-ltb, lt-ltb}
 use Rattle.lustre.proofs.is_letter.Statement.{statement}
 use Rattle.lustre.proofs.is_letter.Tie as tie
