@@ -1,4 +1,4 @@
--- `lustre_write::equation_at` meets its contract. Assumes nothing.
+-- `lustre_write::equation_at` meets its contract: each of the four numbers is read at its place. Assumes nothing.
 use borrow.Author.Needs.{needs}
 use Rattle.lustre_write.proofs.equation_at.Statement.{statement}
 use Rattle.lustre_write.proofs.equation_at.Tie as tie

@@ -1,4 +1,4 @@
--- `lustre_write::number_of` meets its contract. Assumes nothing.
+-- `lustre_write::number_of` meets its contract: one case for each letter. Assumes nothing.
 use borrow.Author.Tests.{ne-eqb}
 use Rattle.lustre_write.proofs.number_of.Statement.{statement}
 use Rattle.lustre_write.proofs.number_of.Tie as tie

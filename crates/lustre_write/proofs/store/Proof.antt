@@ -1,4 +1,4 @@
--- `lustre_write::store` meets its contract. Assumes nothing.
+-- `lustre_write::store` meets its contract: past the end the bytes stay. Assumes nothing.
 use borrow.Author.Needs.{needs}
 use mathlib.Core.Path.{sym}
 use lib.Seq.{set-out}
@@ -6,9 +6,7 @@ use Rattle.lustre_write.proofs.store.Statement.{statement}
 use Rattle.lustre_write.proofs.store.Tie as tie
 
 past-end : tie.Need-returns-2
-past-end c =
-    let the-if1 = c .if1 in
-    sym (set-out _ _ _ (the-if1 .left))
+past-end c = sym (set-out _ _ _ (c .if1 .left))
 
 pub store-spec : {M : Type 1} → statement M
 store-spec =

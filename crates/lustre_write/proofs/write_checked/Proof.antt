@@ -21,8 +21,8 @@ too-long c =
     let text = measured (c .before) in
     write-short _ _ _ (start (text .before) .pre) (text .write-text .ensures) (c .if1 .taken)
 
-write-text-requires-2 : tie.Need-write-text-requires-2
-write-text-requires-2 c κs = well-plain _ _ (start (measured (c .before .before) .before) .pre)
+table-plain : tie.Need-write-text-requires-2
+table-plain c κs = well-plain _ _ (start (measured (c .before .before) .before) .pre)
 
 stored : tie.Need-returns-2
 stored c =
@@ -41,6 +41,6 @@ write-checked-spec =
     (λ c κs. well-plain _ _ (start c .pre))
     (λ c. search needs)
     too-long
-    write-text-requires-2
+    table-plain
     (λ c. search needs)
     stored)

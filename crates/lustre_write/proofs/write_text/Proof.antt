@@ -40,8 +40,9 @@ add-s c =
       entry body .pre .few,
     )
 
-only-requires-2 : tie.Need-only-requires-2
-only-requires-2 c κs =
+-- The number of the last equation is below the limit.
+last-below : tie.Need-only-requires-2
+last-below c κs =
     let plain = entry (lines (c .before)) .pre in
     omega (arith, plain .some, plain .few)
 
@@ -84,7 +85,7 @@ write-text-spec =
     add-s
     (λ c κs. search needs)
     (λ c. search needs)
-    only-requires-2
+    last-below
     (λ c. omega (arith, last-tail c .least2 .ensures))
     (λ c. omega (arith, last-tail c .least2 .ensures))
     (λ c. search needs)
