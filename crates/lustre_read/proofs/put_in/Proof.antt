@@ -1,4 +1,4 @@
--- `lustre_read::put_in` meets its contract. Assumes nothing.
+-- `lustre_read::put_in` meets its contract: one case for each letter. Assumes nothing.
 use borrow.Author.Tests.{ne-eqb}
 use Rattle.lustre_read.proofs.put_in.Statement.{statement}
 use Rattle.lustre_read.proofs.put_in.Tie as tie

@@ -1,4 +1,4 @@
--- `lustre_read::store_equation` meets its contract. Assumes nothing.
+-- `lustre_read::store_equation` meets its contract: four stores in a row are one equation. Assumes nothing.
 use borrow.Author.Needs.{needs}
 use Prim.Native.Nat.{_*_}
 use native.Mathlib.Omega.{arith}
@@ -18,9 +18,8 @@ write-c c = simp length-set (omega arith)
 
 returns : tie.Need-returns
 returns c =
-    let the-args = c .args in
-    sets-four (the-args .table .now) (4 * the-args .i) (the-args .e .kind) (the-args .e .a) (the-args .e .b)
-    (the-args .e .c)
+    let args = c .args in
+    sets-four (args .table .now) (4 * args .i) (args .e .kind) (args .e .a) (args .e .b) (args .e .c)
 
 pub store-equation-spec : {M : Type 1} → statement M
 store-equation-spec =
