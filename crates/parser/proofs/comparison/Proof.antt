@@ -65,6 +65,9 @@ num-looked c = at-op c .before .before
 abbrev at-num : tie.After-push → tie.Else2
 at-num c = c .before .before .before .before
 
+abbrev pushed : tie.After-atom-facts → tie.After-push
+pushed c = c .before .before .before .before .before
+
 -- The first word,
 is-op : (c : tie.Else1) → isOp (op-looked c .number-at .result) ≡ true
 is-op c =
@@ -117,7 +120,7 @@ is-upper-requires c κs = is-op (at-op (at-num (c .before .before)))
 
 op-num : tie.Need-returns-3
 op-num c =
-    let after-push = c .before .before .before .before .before in
+    let after-push = pushed c in
     let both = at-num after-push in
     let first = op-looked (at-op both) in
     let o = first .number-at .ensures in

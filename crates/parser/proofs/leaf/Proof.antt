@@ -40,7 +40,7 @@ module _ {ws : List ℕ} {i : ℕ} {before : List ℕ} {top : ℕ} {after : List
   no-leaf : isSignal (word ws i) ≡ false → isBit (word ws i) ≡ false → ParsesLeaf ws i before top No after
   no-leaf s b = leaf (said-no (simp (s, b)))
 
--- The places: the start; the word, where it is a signal; and where it is a bit.
+-- The places: the start; the word, where it is a signal; and where it is a bit, and so no signal.
 abbrev start : tie.After-number-at → tie.Start
 start c = c .before .before .before
 
@@ -49,6 +49,9 @@ signal-looked c = c .before .before
 
 abbrev bit-looked : tie.Then2 → tie.After-number-at
 bit-looked c = c .before .before .before .before
+
+abbrev not-signal : tie.Then2 → tie.Else1
+not-signal c = c .before .before
 
 -- A word leaves room for one record.
 record-room : (c : tie.After-number-at) → 1 ≤ c .number-at .result →
@@ -91,7 +94,7 @@ a-bit c =
     let here = c .before .before .before .before .before in
     let looked = bit-looked here in
     let args = start looked .args in
-    let no-signal = here .before .before in
+    let no-signal = not-signal here in
     let w = sym (looked .number-at .ensures) in
     let s = ap isSignal w ∙ sym (no-signal .before .is-signal .ensures) ∙ no-signal .if1 .left in
     let b = ap isBit w ∙ is-bit here in

@@ -40,6 +40,10 @@ module _ (t : ℕ) where
   abbrev test-call : Here lts.After-known-told → Here lts.After-parse-square
   test-call c = c .before .before .before .before .before
 
+  -- that tree, from where the test's record is put;
+  abbrev pushed-tree : Here lts.After-push → Here lts.After-known-told
+  pushed-tree c = c .before .before
+
   -- the word, where it is `len`;
   abbrev len-looked : Here lts.Then2 → Here lts.After-number-at
   len-looked c = c .before .before .before
@@ -121,12 +125,12 @@ module _ (t : ℕ) where
   test-p-length : Here lts.Need-same-length-2
   test-p-length c =
       let after-push = c .before .before .before .before in
-      after-push .push .kept .0 ∙ test-call (after-push .before .before) .parse-square .kept .1 .1 .0
+      after-push .push .kept .0 ∙ test-call (pushed-tree after-push) .parse-square .kept .1 .1 .0
 
   test-p : Here lts.Need-returns-2
   test-p c =
       let after-push = c .before .before .before .before in
-      let tree = after-push .before .before in
+      let tree = pushed-tree after-push in
       let here = at-test (test-call tree) in
       Steps.A-test (test-word here) (test-tree tree) (test-looked here .number-at .ensures) (after-push .push .ensures)
       (c .atom-facts .ensures ∙ ap atomFacts (c .before .is-lead-test .ensures))
@@ -152,7 +156,9 @@ module _ (t : ℕ) where
   a-len-length c = c .before .before .comparison .kept .1 .1 .0
 
   a-len : Here lts.Need-returns-3
-  a-len c = Steps.A-len (len-word (c .before .before .before .before)) (c .before .before .comparison .ensures)
+  a-len c =
+      let call = c .before .before in
+      Steps.A-len (len-word (call .before .before)) (call .comparison .ensures)
 
   -- A count,
   is-count : (c : Here lts.Then3) → isCount (count-looked c .number-at .result) ≡ true

@@ -47,7 +47,7 @@ module _ (t : ℕ) where
   abbrev round-call : Here lts.After-known-told2 → Here lts.After-parse-f
   round-call c = c .before .before .before .before .before
 
-  -- another word; `exists`, its signal, the call of `parse_u`, and its tree.
+  -- another word; `exists`, its signal, the call of `parse_u`, and its tree;
   abbrev other-start : Here lts.Else2 → Here lts.Start
   other-start c = start (c .before .before)
 
@@ -62,6 +62,10 @@ module _ (t : ℕ) where
 
   abbrev exists-call : Here lts.After-known-told3 → Here lts.After-parse-u2
   exists-call c = c .before .before .before .before .before
+
+  -- a word that is none of these, from the call of `parse_atom`.
+  abbrev no-exists : Here lts.After-parse-atom → Here lts.Else5
+  no-exists c = c .before .before
 
   -- `!`, which leaves room,
   not-word : (c : Here lts.Then1) →
@@ -311,11 +315,11 @@ module _ (t : ℕ) where
   an-atom : Here lts.Need-returns-10
   an-atom c =
       let call = c .before .before in
-      let no-exists = call .before .before in
-      let outside = no-exists .before in
+      let other = no-exists call in
+      let outside = other .before in
       let here = outside .before in
       Steps.U-atom (no-not here) (no-round here) (outside .if4 .left)
-      (λ e. no-exists .if5 .left (here .before .before .number-at .ensures ∙ e)) (call .parse-atom .ensures)
+      (λ e. other .if5 .left (here .before .before .number-at .ensures ∙ e)) (call .parse-atom .ensures)
 
   -- So the member meets its contract, if the calls with lower measures do.
   pub met : {M : Type 1} → lts.Closed (calls-parse-u t) (parse-u-at t) reads.Post M
