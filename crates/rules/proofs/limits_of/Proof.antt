@@ -16,6 +16,10 @@ Inv-loop ws depth₀ n₀ beyond₀ i₀ depth n beyond i = Passed ws depth n be
 abbrev μ-loop : tie.MeasureT-loop
 μ-loop ws depth₀ n₀ beyond₀ i₀ depth n beyond i = length ws - i
 
+-- Where a word is read, from the end of its turn.
+abbrev read : tie.After-beyond-after Inv-loop μ-loop → tie.After-open-after Inv-loop μ-loop
+read c = c .before .before .before .before
+
 loop-holds : tie.Need-loop-holds Inv-loop μ-loop
 loop-holds c = passed-none _
 
@@ -43,7 +47,7 @@ loop-less c = omega arith
 
 loop-again : tie.Need-loop-again Inv-loop μ-loop
 loop-again c =
-    let word = c .before .before .before .before in
+    let word = read c in
     let known = word .before .before .before .loop .inv in
     let in-words = word .before .before .loop-test .taken in
     let now-open = word .open-after .ensures in
