@@ -4,9 +4,12 @@ use Rattle.emitter.proofs.Whole.{emitted}
 use Rattle.emitter.proofs.emit_observer.Statement.{statement}
 use Rattle.emitter.proofs.emit_observer.Tie as tie
 
--- The places of the code: the header is there; the signals are marked; the start.
+-- The places of the code: the table is back from `settle_all`; the header is there; the signals are marked; the start.
+abbrev table-back : tie.After-enter-all → tie.After-table
+table-back c = c .before .before .before .before .before
+
 abbrev headed : tie.After-enter-all → tie.After-settle-all
-headed c = let call = c .before .before .before in call .before .before .before
+headed c = table-back c .before
 
 abbrev marked : tie.After-settle-all → tie.After-mark-all
 marked c = c .before .before .before .before

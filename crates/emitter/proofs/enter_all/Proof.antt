@@ -1,4 +1,5 @@
 -- `emitter::enter_all` meets its contract: `Entering` is its loop's invariant, what is left of the arena its measure.
+-- Assumes nothing.
 use Prim.Native.Nat.{_-_}
 use native.Mathlib.Omega.{arith}
 use mathlib.Core.Path.{refl, sym, _∙_}

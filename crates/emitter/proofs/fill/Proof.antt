@@ -29,7 +29,7 @@ turn c = tested c .before
 abbrev start : tie.After-struct-known Inv-loop μ-loop → tie.Start Inv-loop μ-loop
 start c = c .before .before .before .before
 
--- The row's place is no number out of range, and there is such a row.
+-- The row's place is no number out of range, there is such a row, and it is a known one.
 place-fits : tie.Need-add-put-row Inv-loop μ-loop
 place-fits c =
     let entry = start (c .before .before) in
@@ -37,6 +37,11 @@ place-fits c =
 
 row-there : tie.Need-array-copy-out-put-row Inv-loop μ-loop
 row-there c = omega (arith, start (c .before .before) .pre .1 .few, c .before .if1 .taken)
+
+row-known : tie.Need-put-row-requires Inv-loop μ-loop
+row-known c κs =
+    let here = c .before .before .before in
+    start here .pre .1 .known (here .before .loop .j)
 
 loop-holds : tie.Need-loop-holds Inv-loop μ-loop
 loop-holds c =
@@ -77,7 +82,7 @@ fill-spec =
     (λ c. search needs)
     (λ c. search needs)
     row-there
-    (λ c κs. start (c .before .before .before) .pre .1 .known (c .before .before .before .before .loop .j))
+    row-known
     (λ c. omega (arith, start (turn c) .pre .1 .few, tested c .if1 .taken))
     (λ c. omega (arith, tested c .if1 .taken))
     loop-again

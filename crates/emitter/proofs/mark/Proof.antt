@@ -4,12 +4,15 @@ use Rattle.emitter.proofs.Records.{marked-signal, marked-other}
 use Rattle.emitter.proofs.mark.Statement.{statement}
 use Rattle.emitter.proofs.mark.Tie as tie
 
+-- Where the record is known to be a signal's, from the end.
+abbrev is-signal : tie.After-slice-known2 → tie.Then1
+is-signal c = c .before .before .before .before .before
+
 of-signal : tie.Need-returns
 of-signal c =
-    let call = c .before .before in
-    let test = call .before .before .before in
+    let test = is-signal c in
     let args = test .before .before .before .args in
-    marked-signal (args .x) (args .named .now) (test .if1 .taken) (call .store .ensures)
+    marked-signal (args .x) (args .named .now) (test .if1 .taken) (c .before .before .store .ensures)
 
 of-other : tie.Need-returns-2
 of-other c =

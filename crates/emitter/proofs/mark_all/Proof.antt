@@ -17,10 +17,14 @@ abbrev μ-loop : tie.MeasureT-loop
 loop-holds : tie.Need-loop-holds Inv-loop μ-loop
 loop-holds c = marking-none
 
+-- Where a record is read, from the end of its turn.
+abbrev read : tie.After-slice-known2 Inv-loop μ-loop → tie.After-record-at Inv-loop μ-loop
+read c = c .before .before .before .before
+
 loop-again : tie.Need-loop-again Inv-loop μ-loop
 loop-again c =
     let call = c .before .before in
-    let record-read = call .before .before in
+    let record-read = read c in
     let test = record-read .before in
     marking-one (test .before .loop .inv) (test .loop-test .taken) (record-read .record-at .ensures)
     (call .mark .ensures) (call .mark .kept .0)

@@ -4,11 +4,14 @@ use Rattle.emitter.proofs.Stack.{pushed}
 use Rattle.emitter.proofs.push.Statement.{statement}
 use Rattle.emitter.proofs.push.Tie as tie
 
+-- Where the height is lowered, from the end.
+abbrev low : tie.After-slice-known2 → tie.After-lowered
+low c = c .before .before .before .before
+
 returns : tie.Need-returns
 returns c =
-    let call = c .before .before in
-    let low = call .before .before in
-    pushed (low .before .before .pre) (low .lowered .ensures) (call .store .ensures)
+    let height = low c in
+    pushed (height .before .before .pre) (height .lowered .ensures) (c .before .before .store .ensures)
 
 pub push-spec : {M : Type 1} → statement M
 push-spec =

@@ -21,15 +21,6 @@ abbrev start : tie.After-store → tie.Start
 start c = c .before .before .before .before
 
 -- Four numbers where there is room.
-slice-write-t-2 : tie.Need-slice-write-t-2
-slice-write-t-2 c = simp length-set (omega arith)
-
-slice-write-t-3 : tie.Need-slice-write-t-3
-slice-write-t-3 c = simp length-set (omega arith)
-
-slice-write-t-4 : tie.Need-slice-write-t-4
-slice-write-t-4 c = simp length-set (omega arith)
-
 in-table : tie.Need-returns
 in-table c = written-one _ _ _ _ _ _
 
@@ -49,13 +40,13 @@ put-spec =
     (λ c. search needs)
     (λ c. search needs)
     (λ c. search needs)
-    slice-write-t-2
+    (λ c. simp length-set (omega arith))
     (λ c. search needs)
     (λ c. search needs)
-    slice-write-t-3
+    (λ c. simp length-set (omega arith))
     (λ c. search needs)
     (λ c. search needs)
-    slice-write-t-4
+    (λ c. simp length-set (omega arith))
     (λ c. simp length-set)
     in-table
     (λ c κs. search needs)

@@ -5,6 +5,9 @@ use Rattle.emitter.proofs.settle.Statement.{statement}
 use Rattle.emitter.proofs.settle.Tie as tie
 
 -- The places of the code: the mark has given way to the place; the mark is read; the start.
+abbrev placed : tie.Else1 → tie.After-store
+placed c = c .before .before .before
+
 abbrev flagged : tie.After-store → tie.After-number-at
 flagged c = c .before .before
 
@@ -23,7 +26,7 @@ is-named : tie.Need-returns-2
 is-named c =
     let call = c .before .before in
     let test = call .before .before in
-    let place = test .before .before .before in
+    let place = placed test in
     let flag = flagged place in
     let args = start flag .args in
     signal-named (args .table .now) (args .named .now) (args .j) (args .next) (flag .number-at .result)

@@ -25,13 +25,17 @@ first c = c .before .before .before .before
 abbrev start : tie.After-put Inv-loop μ-loop → tie.Start Inv-loop μ-loop
 start c = c .before .before .before .before
 
+-- A turn passed its test, from where its signal is settled.
+abbrev tested : tie.After-settle Inv-loop μ-loop → tie.In-loop Inv-loop μ-loop
+tested c = c .before .before .before
+
 loop-holds : tie.Need-loop-holds Inv-loop μ-loop
 loop-holds c = settling-none
 
 loop-again : tie.Need-loop-again Inv-loop μ-loop
 loop-again c =
     let call = c .before .before .before .before in
-    let test = call .before .before .before in
+    let test = tested call in
     settling-one (test .before .loop .inv) (test .loop-test .taken) (call .settle .ensures) (call .settle .kept .0)
     (call .settle .kept .1 .0)
 
