@@ -10,27 +10,16 @@ use Rattle.observers.proofs.Demand.{refused-compiled, short-compiled, e
 use Rattle.observers.proofs.compile_rule.Statement.{statement}
 use Rattle.observers.proofs.compile_rule.Tie as tie
 
--- The places before a tree is at hand: the call of `read_tree`, from after its answer was taken apart, and the start.
+-- The places: the table has room, from the end; the call of `read_tree`, from after its answer was taken apart; and the
+-- start.
+abbrev roomy : tie.After-slice-known2 → tie.Else1
+roomy c = c .before .before .before .before .before
+
 abbrev reading : tie.After-known-told → tie.After-read-tree
 reading c = c .before .before .before .before
 
 abbrev start : tie.After-read-tree → tie.Start
 start c = c .before .before .before .before
-
-slice-aggregate-read-tree : tie.Need-slice-aggregate-read-tree
-slice-aggregate-read-tree c = search needs
-
-read-tree-requires : tie.Need-read-tree-requires
-read-tree-requires c κs = search needs
-
-enum-known-records : tie.Need-enum-known-records
-enum-known-records c = search needs
-
-enum-told : tie.Need-enum-told
-enum-told c = search needs
-
-records-refusal-requires : tie.Need-records-refusal-requires
-records-refusal-requires c κs = search needs
 
 -- The text is no rule.
 no-rule : tie.Need-returns
@@ -71,35 +60,29 @@ emit-observer-requires c κs =
     let part = length-take-le size (reading known .read-tree .last .1 .0) (omega (arith, h .fits)) in
     omega (arith, h .fits, part)
 
-cast-t10 : tie.Need-cast-t10
-cast-t10 c = search needs
-
-same-length : tie.Need-same-length
-same-length c = search needs
-
 -- The observer's equations are written.
 emitted : tie.Need-returns-3
 emitted c =
-    let roomy = c .before .before .before .before .before in
-    let h = tree (roomy .before) in
-    let args = start (reading (roomy .before)) .args in
-    emitted-rule (args .text .now) (args .table .now) (h .tree) (h .is) (roomy .if1 .left) _ _ _ (h .front)
+    let known = roomy c .before in
+    let h = tree known in
+    let args = start (reading known) .args in
+    emitted-rule (args .text .now) (args .table .now) (h .tree) (h .is) (roomy c .if1 .left) _ _ _ (h .front)
     (c .before .before .emit-observer .ensures)
 
 pub compile-rule-spec : {M : Type 1} → statement M
 compile-rule-spec =
     tie.close
     (tie.spec
-    slice-aggregate-read-tree
-    read-tree-requires
-    enum-known-records
-    enum-told
-    records-refusal-requires
+    (λ c. search needs)
+    (λ c κs. search needs)
+    (λ c. search needs)
+    (λ c. search needs)
+    (λ c κs. search needs)
     no-rule
     short-table
     array-share-prefix-arena
     slice-aggregate-emit-observer
     emit-observer-requires
-    cast-t10
-    same-length
+    (λ c. search needs)
+    (λ c. search needs)
     emitted)
