@@ -11,8 +11,8 @@ use Rattle.firmware.proofs.compiled_answer.Tie as tie
 known-equations : tie.Need-enum-known-c
 known-equations c = search needs
 
-cast-t5 : tie.Need-cast-t5
-cast-t5 c =
+number-fits : tie.Need-cast-t5
+number-fits c =
     let answered = c .before .c .given in
     let few : answered .0 .0 ≤ equationLimit = subst small (answered .1) (c .before .before .before .pre) in
     omega (arith, few)
@@ -27,4 +27,4 @@ refused : tie.Need-returns-2
 refused c = ap compiledAnswer (sym (c .before .c2 .given .1))
 
 pub compiled-answer-spec : {M : Type 1} → statement M
-compiled-answer-spec = tie.close (tie.spec known-equations cast-t5 known-refused equations refused)
+compiled-answer-spec = tie.close (tie.spec known-equations number-fits known-refused equations refused)

@@ -11,8 +11,8 @@ use Rattle.firmware.proofs.loaded_answer.Tie as tie
 known-equations : tie.Need-enum-known-l
 known-equations c = search needs
 
-cast-t5 : tie.Need-cast-t5
-cast-t5 c =
+number-fits : tie.Need-cast-t5
+number-fits c =
     let answered = c .before .l .given in
     let fits : answered .0 .0 ≤ equationLimit = subst few (answered .1) (c .before .before .before .pre) in
     omega (arith, fits)
@@ -27,4 +27,4 @@ refused : tie.Need-returns-2
 refused c = ap loadAnswer (sym (c .before .l2 .given .1))
 
 pub loaded-answer-spec : {M : Type 1} → statement M
-loaded-answer-spec = tie.close (tie.spec known-equations cast-t5 known-refused equations refused)
+loaded-answer-spec = tie.close (tie.spec known-equations number-fits known-refused equations refused)

@@ -9,18 +9,16 @@ use borrow.Author.Needs.{needs}
 use Rattle.firmware.proofs.towerwatch_write_lustre.Statement.{statement}
 use Rattle.firmware.proofs.towerwatch_write_lustre.Tie as tie
 
-write-lustre-requires : tie.Need-write-lustre-requires
-write-lustre-requires c κs = search needs
+-- Where the table is known, from the call of `write_lustre`.
+abbrev known : tie.After-write-lustre → tie.After-shared-slice-known
+known c = c .before .before .before
 
 written-answer-requires : tie.Need-written-answer-requires
 written-answer-requires c κs =
     let call = c .before .before in
-    let known = call .before .before .before in
-    short-text (known .before .args .table .now) (λ i. omega (arith, known .shared-slice-known .given i)) _ _ _ _
+    let table = known call in
+    short-text (table .before .args .table .now) (λ i. omega (arith, table .shared-slice-known .given i)) _ _ _ _
     (call .write-lustre .ensures)
-
-same-length : tie.Need-same-length
-same-length c = search needs
 
 returns : tie.Need-returns
 returns c =
@@ -29,4 +27,4 @@ returns c =
 
 pub towerwatch-write-lustre-spec : {M : Type 1} → statement M
 towerwatch-write-lustre-spec =
-    tie.close (tie.spec write-lustre-requires written-answer-requires same-length returns)
+    tie.close (tie.spec (λ c κs. search needs) written-answer-requires (λ c. search needs) returns)

@@ -11,8 +11,8 @@ use Rattle.firmware.proofs.written_answer.Tie as tie
 known-written : tie.Need-enum-known-w
 known-written c = search needs
 
-cast-t5 : tie.Need-cast-t5
-cast-t5 c =
+length-fits : tie.Need-cast-t5
+length-fits c =
     let answered = c .before .w .given in
     let fits : answered .0 .0 ≤ lengthLimit = subst short (answered .1) (c .before .before .before .pre) in
     omega (arith, fits)
@@ -27,4 +27,4 @@ refused : tie.Need-returns-2
 refused c = ap writeAnswer (sym (c .before .w2 .given .1))
 
 pub written-answer-spec : {M : Type 1} → statement M
-written-answer-spec = tie.close (tie.spec known-written cast-t5 known-refused written refused)
+written-answer-spec = tie.close (tie.spec known-written length-fits known-refused written refused)
