@@ -1,4 +1,4 @@
--- `towerwatch::going` meets its contract. Assumes nothing.
+-- `towerwatch::going` meets its contract: one case for each way through the two tests. Assumes nothing.
 use mathlib.Core.Path.{refl}
 use Rattle.towerwatch.proofs.going.Statement.{statement}
 use Rattle.towerwatch.proofs.going.Tie as tie

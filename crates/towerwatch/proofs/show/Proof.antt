@@ -1,4 +1,4 @@
--- `towerwatch::show` meets its contract. Assumes nothing.
+-- `towerwatch::show` meets its contract: the bytes handed over are the first n. Assumes nothing.
 use mathlib.Core.Path.{sym}
 use borrow.Author.Needs.{needs}
 use native.Mathlib.Omega.{arith}
