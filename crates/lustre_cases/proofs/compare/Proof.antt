@@ -6,11 +6,12 @@ use lib.Seq.{length-take-le}
 use Rattle.lustre_cases.proofs.compare.Statement.{statement}
 use Rattle.lustre_cases.proofs.compare.Tie as tie
 
-slice-aggregate-same-numbers : tie.Need-slice-aggregate-same-numbers
-slice-aggregate-same-numbers c = sym (length-take-le _ _ (omega arith))
+-- So many numbers of what was read back, and of the table.
+back-front : tie.Need-slice-aggregate-same-numbers
+back-front c = sym (length-take-le _ _ (omega arith))
 
-slice-aggregate-same-numbers-2 : tie.Need-slice-aggregate-same-numbers-2
-slice-aggregate-same-numbers-2 c = sym (length-take-le _ _ (omega arith))
+table-front : tie.Need-slice-aggregate-same-numbers-2
+table-front c = sym (length-take-le _ _ (omega arith))
 
 pub compare-spec : {M : Type 1} → statement M
 compare-spec =
@@ -34,9 +35,9 @@ compare-spec =
     (λ c. search needs)
     (λ c. search needs)
     (λ c. search needs)
-    slice-aggregate-same-numbers
+    back-front
     (λ c. search needs)
-    slice-aggregate-same-numbers-2
+    table-front
     (λ c κs. search needs)
     (λ c. search needs)
     (λ c κs. search needs)
