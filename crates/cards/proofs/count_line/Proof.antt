@@ -1,4 +1,4 @@
--- `cards::count_line` meets its contract. Assumes nothing.
+-- `cards::count_line` meets its contract: one case for each way that the line can be broken. Assumes nothing.
 use mathlib.Core.Path.{sym, _∙_}
 use borrow.Author.Needs.{needs}
 use borrow.Author.Tests.{not-true, not-false}
@@ -6,6 +6,10 @@ use Rattle.cards.specs.Numbers.{countOf}
 use Rattle.cards.proofs.Numbers.{wholly-none, wholly-last, wholly-not}
 use Rattle.cards.proofs.count_line.Statement.{statement}
 use Rattle.cards.proofs.count_line.Tie as tie
+
+-- Where the number is read, from where its value is known.
+abbrev read : tie.After-known-told → tie.After-decimal-at
+read c = c .before .before .before
 
 no-prefix : tie.Need-returns
 unfolding countOf
@@ -21,14 +25,14 @@ no-number c =
 bytes-after : tie.Need-returns-3
 unfolding countOf
 bytes-after c =
-    let number = c .before .before .before .before in
+    let number = read (c .before) in
     rw (sym (number .before .before .has-prefix .ensures) ∙ not-false _ (number .before .if1 .left))
     (wholly-not (number .decimal-at .ensures) (c .before .before .value .given .1) (c .if2 .taken))
 
 counted : tie.Need-returns-4
 unfolding countOf
 counted c =
-    let number = c .before .before .before .before in
+    let number = read (c .before) in
     rw (sym (number .before .before .has-prefix .ensures) ∙ not-false _ (number .before .if1 .left))
     (wholly-last (number .decimal-at .ensures) (c .before .before .value .given .1) (c .if2 .left))
 

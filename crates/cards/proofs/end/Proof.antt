@@ -1,4 +1,4 @@
--- `cards::end` meets its contract. Assumes nothing.
+-- `cards::end` meets its contract: one case for each phase, and three for the ticks. Assumes nothing.
 use borrow.Author.Needs.{needs}
 use borrow.Author.Tests.{eq-eqb, ne-eqb}
 use Rattle.cards.proofs.end.Statement.{statement}

@@ -18,6 +18,10 @@ Inv-loop s ps₀ at₀ i₀ ps at i = Listing s ps at i
 abbrev μ-loop : tie.MeasureT-loop
 μ-loop s ps₀ at₀ i₀ ps at i = 7 - i
 
+-- Where the eighth number is read, from where its value is known.
+abbrev eighth : tie.After-value2 Inv-loop μ-loop → tie.After-decimal-at Inv-loop μ-loop
+eighth c = c .before .before
+
 no-prefix : tie.Need-returns Inv-loop μ-loop
 unfolding parametersOf
 no-prefix c = (
@@ -60,7 +64,7 @@ last-broken c =
 bytes-after : tie.Need-returns-4 Inv-loop μ-loop
 bytes-after c =
     let value = c .before .before .before in
-    let number = value .before .before in (
+    let number = eighth value in (
       rw (c .plain4 .ensures .0)
           (ap parametersSay
           (listing-not (number .before .before .loop .inv) (omega arith) (number .decimal-at .ensures)
@@ -71,7 +75,7 @@ bytes-after c =
 eight-read : tie.Need-returns-5 Inv-loop μ-loop
 eight-read c =
     let value = c .before .before in
-    let number = value .before .before in (
+    let number = eighth value in (
       ap parametersSay
           (listing-last (number .before .before .loop .inv) (omega arith) (number .decimal-at .ensures)
           (value .value2 .given .1) (c .if2 .left)),

@@ -6,6 +6,10 @@ use Rattle.cards.specs.Says.{lineSays}
 use Rattle.cards.proofs.read_line.Statement.{statement}
 use Rattle.cards.proofs.read_line.Tie as tie
 
+-- Where the phase is known to be the rule's, from the test of its first bytes.
+abbrev rule-phase : tie.After-has-prefix → tie.After-enum-told3
+rule-phase c = c .before .before
+
 -- An over-long line.
 over-long : tie.Need-returns
 unfolding lineSays
@@ -57,7 +61,7 @@ rule-fine : tie.Need-returns-3
 unfolding lineSays
 rule-fine c =
     let begun = c .before .before in
-    let line = begun .before .before in (
+    let line = rule-phase begun in (
       rw (
         c .plain4 .ensures .0,
         lt-leb _ _ (line .before .before .if1 .left),
@@ -72,7 +76,7 @@ rule-broken : tie.Need-returns-6
 unfolding lineSays
 rule-broken c =
     let begun = c .before .before in
-    let line = begun .before .before in (
+    let line = rule-phase begun in (
       rw (
         c .plain5 .ensures .0,
         lt-leb _ _ (line .before .before .if1 .left),

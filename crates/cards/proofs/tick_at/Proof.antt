@@ -32,6 +32,10 @@ module _ (s : List ℕ) (at : ℕ) where
         let z : at + 20 - at ≡ 20 = omega arith in
         rw (lt-leb (length (drop at s)) 20 long, getD-drop at s 20 0, eq-eqb _ _ e, z)
 
+-- The start, from where the line is known to end.
+abbrev entry : tie.Else3 → tie.Start
+entry c = c .before .before .before .before .before
+
 short-input : tie.Need-returns
 short-input c = let args = c .before .before .args in short (args .s .now) (args .at) (omega arith)
 
@@ -46,7 +50,7 @@ no-line-end c =
 line-ended : tie.Need-returns-4
 line-ended c =
     let line = c .before .before in
-    let args = line .before .before .before .before .before .args in
+    let args = entry line .args in
     c .tick-line .ensures ∙ ended (args .s .now) (args .at) (omega arith) (line .if3 .left)
 
 pub tick-at-spec : {M : Type 1} → statement M

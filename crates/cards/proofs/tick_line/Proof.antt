@@ -15,6 +15,14 @@ Inv-loop s b x₀ i₀ x i = Hexing s b x i
 abbrev μ-loop : tie.MeasureT-loop
 μ-loop s b x₀ i₀ x i = 20 - i
 
+-- Where the line is known to have its `t`, from where it is known to have its `=`; and that place, from where it is
+-- known to have its comma.
+abbrev has-t : tie.Else3 Inv-loop μ-loop → tie.Else2 Inv-loop μ-loop
+has-t c = c .before .before
+
+abbrev has-equals : tie.Else4 Inv-loop μ-loop → tie.Else3 Inv-loop μ-loop
+has-equals c = c .before .before
+
 -- Another length, another byte than `t`, `=` or the comma, a start below 0 or above 1.
 other-length : tie.Need-returns Inv-loop μ-loop
 unfolding tickLine
@@ -34,7 +42,7 @@ no-comma : tie.Need-returns-4 Inv-loop μ-loop
 unfolding tickLine
 no-comma c =
     let equals = c .before .before in
-    let t = equals .before .before in
+    let t = has-t equals in
     simp (
       eq-eqb _ _ (t .before .before .if1 .left),
       eq-eqb _ _ (t .if2 .left),
@@ -46,8 +54,8 @@ start-below : tie.Need-returns-5 Inv-loop μ-loop
 unfolding tickLine
 start-below c =
     let comma = c .before .before in
-    let equals = comma .before .before in
-    let t = equals .before .before in
+    let equals = has-equals comma in
+    let t = has-t equals in
     simp (
       eq-eqb _ _ (t .before .before .if1 .left),
       eq-eqb _ _ (t .if2 .left),
@@ -60,8 +68,8 @@ start-above : tie.Need-returns-6 Inv-loop μ-loop
 unfolding tickLine
 start-above c =
     let comma = c .before .before .before in
-    let equals = comma .before .before in
-    let t = equals .before .before in
+    let equals = has-equals comma in
+    let t = has-t equals in
     simp (
       eq-eqb _ _ (t .before .before .if1 .left),
       eq-eqb _ _ (t .if2 .left),
@@ -75,8 +83,8 @@ start-above c =
 loop-holds : tie.Need-loop-holds Inv-loop μ-loop
 loop-holds c =
     let comma = c .before .before .before in
-    let equals = comma .before .before in
-    let t = equals .before .before in
+    let equals = has-equals comma in
+    let t = has-t equals in
     let length = t .before .before .if1 .left in
     record {
       rest =
