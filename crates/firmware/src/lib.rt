@@ -5,7 +5,6 @@ use lustre::Loaded;
 use lustre::Written;
 use observers::Compiled;
 use rules::Same;
-use traces::Tick;
 ghost use mathlib.Core.Path.{_≡_};
 ghost use Rattle.limits.specs.Limits.{standardCap};
 ghost use Rattle.flows.specs.Step.{freshened, stepped, freshReply, stepReply};
@@ -81,12 +80,7 @@ pub extern "C" fn towerwatch_step(
         ≡ tick (stepped standardCap (now (table .entry)) n (now (state .entry)) (now (values .entry))
         (tickOf start signals (now (parameters .entry)))) ⌝ }
 {
-    let parameters = *parameters;
-    let now = Tick {
-        start,
-        signals,
-        parameters,
-    };
+    let now = traces::tick_of(start, signals, *parameters);
     step_answer(flows::step(table, n, state, values, now))
 }
 

@@ -1,4 +1,4 @@
--- `firmware::towerwatch_fresh_state` meets its contract: it is `tables::fresh_state`, its answer as C gets it.
+-- `firmware::towerwatch_fresh_state` meets its contract: it is `flows::fresh_state`, its answer as C gets it.
 -- Assumes nothing.
 use mathlib.Core.Path.{ap, _∙_}
 use Rattle.firmware.specs.declared.Answer.{Answer}

@@ -1,4 +1,4 @@
--- `player::begin` meets its contract. Assumes nothing.
+-- `player::begin` meets its contract: the first stage, and no equations. Assumes nothing.
 use mathlib.Core.Path.{ap}
 use borrow.Author.Needs.{needs}
 use Rattle.cards.specs.declared.Stage.{Stage}
