@@ -1,0 +1,60 @@
+-- `lists::copy_bytes` meets its contract: the bytes passed are stored (`Copying`), and no others have room. Assumes
+-- nothing.
+use mathlib.Core.Path.{_≡_}
+use Prim.Native.Nat.{_-_, _≤_, min}
+use native.Mathlib.Omega.{arith}
+use borrow.Author.Needs.{needs}
+use lib.ListN.{length}
+use lib.Seq.{take-length}
+use Rattle.lists.proofs.Buffers.{Copying, copy-none, copy-length, copy-more, copy-all}
+use Rattle.lists.proofs.copy_bytes.Statement.{statement}
+use Rattle.lists.proofs.copy_bytes.Tie as tie
+
+abbrev Inv-loop : tie.InvT-loop
+Inv-loop from to₀ at n i₀ to i = Copying from to₀ at to i × (i ≤ n)
+
+abbrev μ-loop : tie.MeasureT-loop
+μ-loop from to₀ at n i₀ to i = n - i
+
+-- The places before a turn of the loop: the two calls of `least`, and the start.
+abbrev bounded : tie.At-loop Inv-loop μ-loop → tie.After-least2 Inv-loop μ-loop
+bounded c = c .before
+
+abbrev start : tie.After-least2 Inv-loop μ-loop → tie.Start Inv-loop μ-loop
+start c = c .before .before .before .before
+
+-- How many bytes are copied: those that are there and have room.
+bound : (c : tie.After-least2 Inv-loop μ-loop) →
+    let args = start c .args in
+    c .least2 .result ≡ min (length (args .from .now)) (length (args .to .now) - args .at)
+bound c = omega (arith, c .before .least .ensures, c .least2 .ensures)
+
+loop-again : tie.Need-loop-again Inv-loop μ-loop
+loop-again c =
+    let loop = c .before .before in
+    (copy-more (loop .loop .inv .0) _ (omega arith) (omega (arith, bound (bounded loop))), omega arith)
+
+returns : tie.Need-returns Inv-loop μ-loop
+returns c =
+    let loop = c .before in
+    let bytes = start (bounded loop) .args .from .now in
+    rw take-length at (copy-all (loop .loop .inv .0) (length bytes) (omega (arith, bound (bounded loop))))
+
+pub copy-bytes-spec : {M : Type 1} → statement M
+copy-bytes-spec =
+    tie.close
+    (tie.spec
+    Inv-loop
+    μ-loop
+    (λ c κs. search needs)
+    (λ c. search needs)
+    (λ c κs. search needs)
+    (λ c. (copy-none _ _ _, omega arith))
+    (λ c. omega (arith, bound (bounded (c .before .before))))
+    (λ c. omega (arith, bound (bounded (c .before .before))))
+    (λ c. omega (arith, bound (bounded (c .before .before)), copy-length (c .before .before .loop .inv .0)))
+    (λ c. search needs)
+    (λ c. omega arith)
+    loop-again
+    (λ c. copy-length (c .before .loop .inv .0))
+    returns)
