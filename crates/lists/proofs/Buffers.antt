@@ -1,4 +1,5 @@
--- Numbers stored in a buffer at a cursor (`sets` of `lib.Seq`), and the copy of a list's front. Assumes nothing.
+-- Numbers stored in a buffer at a cursor (`sets` of `lib.Seq`), the copy of a list's front, and what is left of a list
+-- from a place on. Assumes nothing.
 use mathlib.Core.List.{List, [], _∷_, _++_}
 use mathlib.Core.Path.{_≡_, refl, sym, ap, _∙_}
 use Prim.Native.Nat.{ℕ, suc, _+_, _-_, _≤_, _<_, min}
@@ -7,7 +8,7 @@ use native.Mathlib.Nat.{zero-add, add-zero, add-suc, suc-add}
 use native.Mathlib.Numerals.{add-one}
 use native.Mathlib.Omega.{arith}
 use lib.ListN.{length, getD, take, drop, set, drop-of-length-le}
-use lib.Seq.{sets, length-sets, sets-eq, set-out, take-add, take-suc, take-nil, length-take-le}
+use lib.Seq.{sets, length-sets, sets-eq, set-out, take-add, take-suc, take-nil, drop-cons, length-take-le}
 
 -- Storing xs and then, right after them, ys is storing both at once.
 pub sets-append : (o : List ℕ) (i : ℕ) (xs ys : List ℕ) → sets (sets o i xs) (i + length xs) ys ≡ sets o i (xs ++ ys)
@@ -83,3 +84,7 @@ module _ {xs o u : List ℕ} {at i : ℕ} (h : Copying xs o at u i) where
   -- All of the first k that are there and have room.
   pub copy-all : (k : ℕ) → i ≡ min k (min (length xs) (length o - at)) → u ≡ sets o at (take k xs)
   copy-all k e = h .stored ∙ front-stored o xs at k i e
+
+-- The numbers from place i on: the one at i and those after it.
+pub drop-more : (l : List ℕ) (i : ℕ) → i < length l → drop i l ≡ getD l i 0 ∷ drop (i + 1) l
+drop-more l i h = rw (add-one i) (drop-cons l i 0 h)

@@ -26,7 +26,7 @@ module _ (s : List ℕ) (i : ℕ) where
   line-more h n = rw (drop-cons s i 0, ne-eqb _ _ n, add-one i)
 
 -- A line is no longer than its text.
-line-short : (s : List ℕ) → length (line s) ≤ length s
+pub line-short : (s : List ℕ) → length (line s) ≤ length s
 unfolding line
 line-short [] = omega arith
 line-short (b ∷ s) = at-byte (eqb b lineEnd) (line-short s)

@@ -11,9 +11,9 @@ use borrow.Author.Tests.{lt-ltb, le-ltb, ltb-true, ltb-false, le-leb, leb-true, 
 use Rattle.lists.specs.Decimal.{Numeral, isDigit, settled, digitsAfter, numeral}
 use Rattle.lists.specs.Decimal.Numeral.{is, above, missing}
 use Rattle.lists.proofs.Decimals.{digit-range}
-use Rattle.lists.proofs.Choice.{chosen}
+use Rattle.lists.proofs.Choice.{chosen, false-true}
 use Rattle.lustre.specs.Decimal.{digit, digits, numberText}
-use Rattle.lustre.proofs.Differ.{false-true, is-missing}
+use Rattle.lustre.proofs.Differ.{is-missing}
 
 -- Any k that is large enough gives the same digits.
 digits-same : (k m x : ℕ) → x ≤ k → x ≤ m → digits k x ≡ digits m x

@@ -1,5 +1,4 @@
 -- Values that differ: one law for each type. Assumes nothing.
-use mathlib.Core.Bool.{true, false}
 use mathlib.Core.List.{List}
 use mathlib.Core.Path.{_≡_}
 use Prim.Native.Nat.{ℕ}
@@ -9,9 +8,6 @@ use Rattle.tables.specs.Table.{Equation}
 use Rattle.lustre.specs.Scan.{unlike, scanned}
 use Rattle.lustre.specs.declared.Written.the-variants.{Length, Refused as No-text}
 use Rattle.lustre.specs.declared.Loaded.the-variants.{Equations, Refused as No-table}
-
-pub false-true : false ≡ true → ⊥
-false-true e = let z : _≡_ {A = ℕ} 0 1 = cc in omega arith
 
 pub is-missing : {v : ℕ} {l : List ℕ} → is v l ≡ missing → ⊥
 is-missing e = let z : _≡_ {A = ℕ} 0 1 = cc in omega arith

@@ -13,6 +13,7 @@ use lib.Dec.{ltb, leb, eqb}
 use lib.ListN.{length}
 use borrow.Author.Tests.{ltb-true, leb-true, eqb-true, ne-eqb}
 use Rattle.lists.specs.Decimal.{isDigit}
+use Rattle.lists.proofs.Choice.{false-true}
 use Rattle.tables.specs.Kind.{SIGNAL, START, CONSTANT, NOT, AND, OR, BOOLEAN-PRE, COUNT-PRE, CAPPED, IF}
 use Rattle.tables.specs.Kind.{COMPARE-LITERAL, COMPARE-PARAMETER, kindCount}
 use Rattle.tables.specs.Table.{all, Equation, kinds, kindOf, shapeOf, isFlow, operandFits, shapeFits}
@@ -30,7 +31,6 @@ use Rattle.lustre.specs.Scan.{scanned, scan}
 use Rattle.lustre.specs.declared.Form.{Form}
 use Rattle.lustre.specs.declared.Numbers.{Numbers}
 use Rattle.lustre.proofs.Scans.{closed, once, small, scans, apart, never}
-use Rattle.lustre.proofs.Differ.{false-true}
 
 -- A fact for each number from i up to n, as a list of proofs.
 data Each (P : ℕ → Type 0) (n : ℕ) : ℕ → Type 0 where

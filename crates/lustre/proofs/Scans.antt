@@ -9,6 +9,7 @@ use lib.Dec.{ltb, eqb}
 use borrow.Author.Tests.{ltb-true, eq-eqb, eqb-true, eqb-false, not-true}
 use Rattle.lists.specs.Decimal.{Numeral, isDigit, numeral}
 use Rattle.lists.specs.Decimal.Numeral.{is, above, missing}
+use Rattle.lists.proofs.Choice.{false-true}
 use Rattle.tables.specs.Table.{Equation}
 use Rattle.tables.proofs.Tests.{and-true}
 use Rattle.lustre.specs.Decimal.{numberText}
@@ -18,7 +19,6 @@ use Rattle.lustre.specs.Form.{highest, Small}
 use Rattle.lustre.specs.Scan.{Scanned, unlike, scanned, afterNumber, afterByte, scan}
 use Rattle.lustre.proofs.Decimals.{stops, reads-back, Stood, stood, higher, nothing, number-stood}
 use Rattle.lustre.proofs.Decimals.{same-number, no-clash}
-use Rattle.lustre.proofs.Differ.{false-true}
 
 -- The letters.
 pub letter : (x : ℕ) → letter? x ≡ true → Letter x

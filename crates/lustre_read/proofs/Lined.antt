@@ -12,6 +12,7 @@ use lib.Seq.{sets, length-sets, getD-set-same, getD-set-other}
 use Rattle.lists.specs.Text.{bytes}
 use Rattle.lists.specs.Decimal.{isDigit}
 use Rattle.lists.specs.Number.{numberAt}
+use Rattle.lists.proofs.Choice.{false-true}
 use Rattle.tables.specs.Table.{Equation, equationAt}
 use Rattle.limits.specs.Limits.{equationLimit, tableRoom}
 use Rattle.lustre.specs.Text.{lineRest, lineText, lines}
@@ -31,7 +32,7 @@ use Rattle.lustre.proofs.Scans.Seen.{unseen, seen}
 use Rattle.lustre.proofs.Forms.{form-fine, form-plain, end-form, end-as}
 use Rattle.lustre.proofs.Parts.{line-text}
 use Rattle.lustre.proofs.Tables.{lines-same}
-use Rattle.lustre.proofs.Differ.{false-true, unlike-scanned}
+use Rattle.lustre.proofs.Differ.{unlike-scanned}
 
 -- What the form r finds at p.
 abbrev pub tried : List ℕ → ℕ → Form → Scanned

@@ -3,13 +3,12 @@ use mathlib.Core.Path.{_≡_, refl, _∙_, sym, ap}
 use mathlib.Core.Bool.{Bool, true, false, cond}
 use mathlib.Core.List.{List, [], _∷_}
 use Prim.Native.Nat.{ℕ, _+_, _-_, _≤_, _<_}
-use native.Mathlib.Numerals.{add-one}
 use lib.Dec.{eqb}
 use lib.ListN.{length, drop, getD, drop-of-length-le}
-use lib.Seq.{drop-cons}
 use borrow.Author.Tests.{eq-eqb, ne-eqb}
 use Rattle.lists.specs.Decimal.{Numeral, numeral}
 use Rattle.lists.specs.Decimal.Numeral.{is, above, missing}
+use Rattle.lists.proofs.Buffers.{drop-more}
 use Rattle.tables.specs.Table.{Equation}
 use Rattle.lustre.specs.Form.{letter?, put, highest, equationOf}
 use Rattle.lustre.specs.Scan.{Scanned, afterNumber, afterByte, scan}
@@ -18,9 +17,6 @@ use Rattle.lustre_read.specs.Inner.{scanPiece, scanSeen}
 use Rattle.lustre.specs.declared.Numbers.{Numbers}
 use Rattle.lustre_read.specs.declared.Scan.{Scan}
 use Rattle.lustre_read.specs.declared.Scan.the-variants.{Unlike, Found}
-
-pub drop-at : (l : List ℕ) (i : ℕ) → i < length l → drop i l ≡ getD l i 0 ∷ drop (i + 1) l
-drop-at l i h = rw (add-one i) (drop-cons l i 0 h)
 
 -- What the scanner's answers say, by their cases.
 pub found-told : (text : List ℕ) (r : Scan) (e : Numbers) (q : ℕ) {s : Scanned} → r ≡ Found e q → scanSeen text r ≡ s
@@ -54,12 +50,12 @@ module _ (x : ℕ) (l : List ℕ) (p : ℕ) (e : Equation) where
   pub piece-other : (b : Bool) → b ≡ letter? x → b ≡ false → p < length l → (getD l p 0 ≡ x → ⊥)
       → unlike ≡ scanPiece x (drop p l) e
   unfolding scanPiece
-  piece-other b h k g d = rw (← h, k, drop-at l p g, ne-eqb x (getD l p 0) (λ q. d (sym q)))
+  piece-other b h k g d = rw (← h, k, drop-more l p g, ne-eqb x (getD l p 0) (λ q. d (sym q)))
 
   pub piece-same : (b : Bool) → b ≡ letter? x → b ≡ false → p < length l → getD l p 0 ≡ x
       → scanned e (drop (p + 1) l) ≡ scanPiece x (drop p l) e
   unfolding scanPiece
-  piece-same b h k g d = rw (← h, k, drop-at l p g, eq-eqb x (getD l p 0) (sym d))
+  piece-same b h k g d = rw (← h, k, drop-more l p g, eq-eqb x (getD l p 0) (sym d))
 
 -- One byte of a form, and then the rest of it.
 abbrev goOn : Scanned → List ℕ → Scanned
@@ -87,7 +83,7 @@ scan-step x f l e = go (letter? x) (numeral highest l) l
 module _ (f l : List ℕ) (j p : ℕ) (e : Equation) where
   steps : j < length f → goOn (scanPiece (getD f j 0) (drop p l) e) (drop (j + 1) f) ≡ scan (drop j f) (drop p l) e
   steps h =
-      sym (ap (λ (k : List ℕ). scan k (drop p l) e) (drop-at f j h)
+      sym (ap (λ (k : List ℕ). scan k (drop p l) e) (drop-more f j h)
       ∙ scan-step (getD f j 0) (drop (j + 1) f) (drop p l) e)
 
   pub scan-goes : (q : ℕ) (m : Equation) → j < length f → scanned m (drop q l) ≡ scanPiece (getD f j 0) (drop p l) e
