@@ -5,7 +5,7 @@ use mathlib.Core.Path.{_≡_, refl}
 use Prim.Native.Nat.{ℕ}
 use Rattle.lists.specs.Text.{bytes}
 use Rattle.tables.specs.Table.{kindOf}
-use Rattle.lustre.specs.Decimal.{digits, numberText}
+use Rattle.lustre.specs.Numerals.{digits, numberText}
 use Rattle.lustre.specs.Text.{valueText, lineRest, lineText, lines, foot, textOf}
 
 -- What follows `fN=` for an equation of these four numbers.

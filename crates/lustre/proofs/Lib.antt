@@ -1,6 +1,6 @@
 -- Laws of texts, forms and tables, and what holds of writing and reading together.
 pub mod Differ
-pub mod Decimals
+pub mod Numerals
 pub mod Scans
 pub mod Forms
 pub mod Parts

@@ -12,13 +12,13 @@ use Rattle.lists.specs.Decimal.Numeral.{is, above, missing}
 use Rattle.lists.proofs.Choice.{false-true}
 use Rattle.tables.specs.Table.{Equation}
 use Rattle.tables.proofs.Tests.{and-true}
-use Rattle.lustre.specs.Decimal.{numberText}
+use Rattle.lustre.specs.Numerals.{numberText}
 use Rattle.tables.specs.Table.{equation}
 use Rattle.lustre.specs.Form.{letter?, Letter, isA, isB, isC, slot, put, render, absent, Agree}
 use Rattle.lustre.specs.Form.{highest, Small}
 use Rattle.lustre.specs.Scan.{Scanned, unlike, scanned, afterNumber, afterByte, scan}
-use Rattle.lustre.proofs.Decimals.{stops, reads-back, Stood, stood, higher, nothing, number-stood}
-use Rattle.lustre.proofs.Decimals.{same-number, no-clash}
+use Rattle.lustre.proofs.Numerals.{stops, reads-back, Stood, stood, higher, nothing, number-stood}
+use Rattle.lustre.proofs.Numerals.{same-number, no-clash}
 
 -- The letters.
 pub letter : (x : ℕ) → letter? x ≡ true → Letter x

@@ -17,7 +17,7 @@ use Rattle.tables.specs.declared.Checked.{Checked}
 use Rattle.tables.specs.declared.Checked.the-variants.{Passed, Refused as Failed}
 use Rattle.lustre.specs.Write.{lengthLimit, writeEffect, effectIf, writeChecked, afterText}
 use Rattle.lustre.specs.declared.Written.the-variants.{Length}
-use Rattle.lustre.proofs.Decimals.{digits-short}
+use Rattle.lustre.proofs.Numerals.{digits-short}
 use Rattle.lustre.proofs.Theorems.{text-written}
 use Rattle.lustre.specs.Text.{truthText, opText, valueText, lineRest, lineText, lines, foot, textOf}
 use Rattle.lustre.proofs.Differ.{refused-length}

@@ -23,10 +23,10 @@ use Rattle.tables.specs.declared.Operand.the-variants.{Unused, Earlier, Anywher
 use Rattle.tables.specs.declared.Checked.the-variants.{Passed}
 use Rattle.tables.proofs.Tests.{and-true, all-at, all-of}
 use Rattle.tables.proofs.Checks.{checked-fitting, passed-both, long-enough}
-use Rattle.lustre.specs.Decimal.{numberText}
+use Rattle.lustre.specs.Numerals.{numberText}
 use Rattle.lustre.specs.Text.{lineRest, lineText, lines, foot, textOf}
 use Rattle.lustre.specs.Form.{highest, Plain, PlainTable, NoLine}
-use Rattle.lustre.proofs.Decimals.{same-number}
+use Rattle.lustre.proofs.Numerals.{same-number}
 use Rattle.lustre.proofs.Forms.{fitting-plain, one-end}
 
 -- Every equation of a well-formed table has a form.

@@ -16,7 +16,7 @@ use Rattle.tables.specs.Kind.{COMPARE-LITERAL, COMPARE-PARAMETER}
 use Rattle.tables.specs.Table.{Equation, equation, equationAt, Kind, kindOf}
 use Rattle.tables.specs.Table.Kind.{signal, start, constant, negation, conjunction, disjunction, booleanPre}
 use Rattle.tables.specs.Table.Kind.{countPre, capped, ifElse, compareLiteral, compareParameter, unknown}
-use Rattle.lustre.specs.Decimal.{numberText}
+use Rattle.lustre.specs.Numerals.{numberText}
 use Rattle.lustre.specs.Text.{lineText}
 use Rattle.lustre.specs.declared.Numbers.{Numbers}
 use Rattle.lustre.specs.declared.Form.{Form}

@@ -1,6 +1,6 @@
--- Equation tables as Lustre text. Text, Write and Read, over Decimal, are what the public contracts say. Form and Scan
+-- Equation tables as Lustre text. Text, Write and Read, over Numerals, are what the public contracts say. Form and Scan
 -- are what the writer and the reader agree on.
-pub mod Decimal
+pub mod Numerals
 pub mod Text
 pub mod Write
 pub mod Read

@@ -9,7 +9,7 @@ use Rattle.traces.specs.Compare.Op.{le, lt, eq, gt, ge}
 use Rattle.tables.specs.Table.{Equation, equationAt, Kind, kindOf}
 use Rattle.tables.specs.Table.Kind.{signal, start, constant, negation, conjunction, disjunction, booleanPre}
 use Rattle.tables.specs.Table.Kind.{countPre, capped, ifElse, compareLiteral, compareParameter, unknown}
-use Rattle.lustre.specs.Decimal.{numberText}
+use Rattle.lustre.specs.Numerals.{numberText}
 
 -- The name of the flow of equation x.
 abbrev pub flow : ℕ → List ℕ

@@ -11,13 +11,14 @@ use lib.ListN.{length, take, drop, set, getD, length-append, length-set, take-ap
 use lib.Seq.{sets, length-sets, take-suc, take-length, drop-length, length-take-le, take-all}
 use borrow.Rule.Slice.PartAt.{part-to-end}
 use borrow.Rule.Slice.PartMut.{post-is}
+use Rattle.lists.specs.Decimal.{digit}
 use Rattle.lists.proofs.Buffers.{sets-append, sets-out}
 use Rattle.tables.specs.Table.{Equation, equationAt}
-use Rattle.lustre.specs.Decimal.{digit, numberText}
+use Rattle.lustre.specs.Numerals.{numberText}
 use Rattle.lustre.specs.Text.{lineText, lines}
 use Rattle.lustre.specs.Form.{letter?, slot, piece, render, formWidth}
 use Rattle.lustre_write.specs.Placed.{Placed, pieceRoom, formRoom, lineRoom}
-use Rattle.lustre.proofs.Decimals.{digits-one, digits-more, digits-short}
+use Rattle.lustre.proofs.Numerals.{digits-one, digits-more, digits-short}
 
 -- What stands before is kept.
 sets-cons : (p : ℕ) (xs l : List ℕ) (i : ℕ) → sets (p ∷ l) (suc i) xs ≡ p ∷ sets l i xs

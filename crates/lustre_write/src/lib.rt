@@ -13,7 +13,7 @@ ghost use Prim.Native.Nat.{_+_, _*_, _≤_, _<_};
 ghost use lib.ListN.{length, set};
 ghost use Rattle.limits.specs.Limits.{equationLimit};
 ghost use Rattle.tables.specs.Table.{equationAt, checked};
-ghost use Rattle.lustre.specs.Decimal.{numberText};
+ghost use Rattle.lustre.specs.Numerals.{numberText};
 ghost use Rattle.lustre.specs.Text.{lineRest, lineText, lines, textOf};
 ghost use Rattle.lustre.specs.Write.{afterWrite, writeEffect};
 ghost use Rattle.lustre.specs.Form.{equationOf, slot, piece, render, formWidth, formOf, Plain, PlainTable};

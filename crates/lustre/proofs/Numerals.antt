@@ -8,11 +8,11 @@ use native.Mathlib.Nat.{div-lt-iff-lt-mul, pow-suc}
 use lib.Dec.{ltb, leb, eqb}
 use lib.ListN.{length, length-append}
 use borrow.Author.Tests.{lt-ltb, le-ltb, ltb-true, ltb-false, le-leb, leb-true, ne-eqb, eqb-true, eqb-false, not-true}
-use Rattle.lists.specs.Decimal.{Numeral, isDigit, settled, digitsAfter, numeral}
+use Rattle.lists.specs.Decimal.{Numeral, isDigit, digit, settled, digitsAfter, numeral}
 use Rattle.lists.specs.Decimal.Numeral.{is, above, missing}
 use Rattle.lists.proofs.Decimals.{digit-range}
 use Rattle.lists.proofs.Choice.{chosen, false-true}
-use Rattle.lustre.specs.Decimal.{digit, digits, numberText}
+use Rattle.lustre.specs.Numerals.{digits, numberText}
 use Rattle.lustre.proofs.Differ.{is-missing}
 
 -- Any k that is large enough gives the same digits.

@@ -1,12 +1,9 @@
--- Decimal numbers as texts. Definitions only.
+-- Numbers as texts: decimal numerals. Definitions only.
 use mathlib.Core.Bool.{cond}
 use mathlib.Core.List.{List, [], _∷_, _++_}
-use Prim.Native.Nat.{ℕ, zero, suc, _+_, _/_, _%_}
+use Prim.Native.Nat.{ℕ, zero, suc, _/_, _%_}
 use lib.Dec.{ltb}
-
--- The byte of a digit: 48 is the byte of `0`.
-abbrev pub digit : ℕ → ℕ
-digit d = 48 + d
+use Rattle.lists.specs.Decimal.{digit}
 
 -- The digits of x, the last one apart, for x up to k.
 unfoldable pub digits : ℕ → ℕ → List ℕ
