@@ -17,7 +17,7 @@ use Rattle.lists.proofs.Choice.{false-true}
 use Rattle.tables.specs.Kind.{SIGNAL, START, CONSTANT, NOT, AND, OR, BOOLEAN-PRE, COUNT-PRE, CAPPED, IF}
 use Rattle.tables.specs.Kind.{COMPARE-LITERAL, COMPARE-PARAMETER, kindCount}
 use Rattle.tables.specs.Table.{all, Equation, kinds, kindOf, shapeOf, isFlow, operandFits, shapeFits}
-use Rattle.limits.specs.Limits.{equationLimit, literalCount, parameterCount, truthCount, opCount}
+use Rattle.limits.specs.Limits.{equationLimit, literalCount, lastLiteral, parameterCount, truthCount, opCount}
 use Rattle.tables.specs.declared.Operand.{Operand}
 use Rattle.tables.specs.declared.Operand.the-variants.{Unused, Earlier, Anywhere, Below}
 use Rattle.tables.proofs.Tests.{and-true, all-at}
@@ -25,7 +25,7 @@ use Rattle.tables.proofs.Numbers.{kind-beyond}
 use Rattle.lustre.specs.Text.{valueText, lineRest}
 use Rattle.tables.specs.Table.{equation}
 use Rattle.lustre.specs.Form.{equationOf, Letter, isA, isB, isC, slot, render, absent}
-use Rattle.lustre.specs.Form.{Agree, highest, Small, padded, formWidth, forms, formCount, formAt}
+use Rattle.lustre.specs.Form.{Agree, Small, padded, formWidth, forms, formCount, formAt}
 use Rattle.lustre.specs.Form.{formText, Fits, formNumber, formOf, Plain}
 use Rattle.lustre.specs.Scan.{scanned, scan}
 use Rattle.lustre.specs.declared.Form.{Form}
@@ -200,7 +200,7 @@ having : (f k a b c : ℕ) → formOf (equation k a b c) ≡ f → k ≡ formAt 
     → Keeps (absent 65 (formText (formAt f))) a (formAt f .settled .a)
     → Keeps (absent 66 (formText (formAt f))) b (formAt f .settled .b)
     → Keeps (absent 67 (formText (formAt f))) c (formAt f .settled .c)
-    → (f < formCount) × (a ≤ highest) × (b ≤ highest) × (c ≤ highest) → Plain (equation k a b c)
+    → (f < formCount) × (a ≤ lastLiteral) × (b ≤ lastLiteral) × (c ≤ lastLiteral) → Plain (equation k a b c)
 having f k a b c n hk ka kb kc h = form-plain f (equation k a b c) (h .0) (record {
   agrees = record { kinds = hk; others = λ x i. others x i };
   small = small k a b c (h .1) (h .2) (h .3);

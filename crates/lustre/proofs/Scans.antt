@@ -10,12 +10,13 @@ use borrow.Author.Tests.{ltb-true, eq-eqb, eqb-true, eqb-false, not-true}
 use Rattle.lists.specs.Decimal.{Numeral, isDigit, numeral}
 use Rattle.lists.specs.Decimal.Numeral.{is, above, missing}
 use Rattle.lists.proofs.Choice.{false-true}
+use Rattle.limits.specs.Limits.{lastLiteral}
 use Rattle.tables.specs.Table.{Equation}
 use Rattle.tables.proofs.Tests.{and-true}
 use Rattle.lustre.specs.Numerals.{numberText}
 use Rattle.tables.specs.Table.{equation}
 use Rattle.lustre.specs.Form.{letter?, Letter, isA, isB, isC, slot, put, render, absent, Agree}
-use Rattle.lustre.specs.Form.{highest, Small}
+use Rattle.lustre.specs.Form.{Small}
 use Rattle.lustre.specs.Scan.{Scanned, unlike, scanned, afterNumber, afterByte, scan}
 use Rattle.lustre.proofs.Numerals.{stops, reads-back, Stood, stood, higher, nothing, number-stood}
 use Rattle.lustre.proofs.Numerals.{same-number, no-clash}
@@ -67,15 +68,15 @@ equations-same e e′ k h =
     let p : equation (e .kind) (e .a) (e .b) (e .c) ≡ equation (e′ .kind) (e′ .a) (e′ .b) (e′ .c) = rw (k, a, b, c) in
     p
 
-pub small : (k a b c : ℕ) → a ≤ highest → b ≤ highest → c ≤ highest → Small (equation k a b c)
+pub small : (k a b c : ℕ) → a ≤ lastLiteral → b ≤ lastLiteral → c ≤ lastLiteral → Small (equation k a b c)
 small k a b c ha hb hc x = go (eqb x 65) (eqb x 66)
   where
-    go : (p q : Bool) → cond p a (cond q b c) ≤ highest
+    go : (p q : Bool) → cond p a (cond q b c) ≤ lastLiteral
     go true q = ha
     go false true = hb
     go false false = hc
 
-small-put : (e : Equation) {x : ℕ} (v : ℕ) → Letter x → v ≤ highest → Small e → Small (put e x v)
+small-put : (e : Equation) {x : ℕ} (v : ℕ) → Letter x → v ≤ lastLiteral → Small e → Small (put e x v)
 small-put e v isA h s = small (e .kind) v (e .b) (e .c) h (s 66) (s 67)
 small-put e v isB h s = small (e .kind) (e .a) v (e .c) (s 65) h (s 67)
 small-put e v isC h s = small (e .kind) (e .a) (e .b) v (s 65) (s 66) h
@@ -153,7 +154,7 @@ scans e s (x ∷ f) l e₀ h a =
         → (letter? x ≡ false → scan f (render e f ++ l) e₀ ≡ scanned e l)
         → scan (x ∷ f) (render e (x ∷ f) ++ l) e₀ ≡ scanned e l
     go true p q k m =
-        rw (p, append-assoc, reads-back highest (slot e x) (render e f ++ l) (s x) (opens-stops e f l q))
+        rw (p, append-assoc, reads-back lastLiteral (slot e x) (render e f ++ l) (s x) (opens-stops e f l q))
         (k (letter x p))
     go false p q k m = rw (p, eq-eqb x x refl) (m p)
 
@@ -168,7 +169,7 @@ agree-refl e f = record { kinds = refl; others = λ x i h. refl }
 
 -- A number, and then a text that was scanned.
 seen-number : (x v : ℕ) (f l r : List ℕ) (e₀ : Equation) (c : Scanned) → letter? x ≡ true → absent x f ≡ true
-    → v ≤ highest → l ≡ numberText v ++ r → Seen f r (put e₀ x v) c → Seen (x ∷ f) l e₀ c
+    → v ≤ lastLiteral → l ≡ numberText v ++ r → Seen f r (put e₀ x v) c → Seen (x ∷ f) l e₀ c
 unfolding render absent
 seen-number x v f l r e₀ unlike h s b w unseen = unseen
 seen-number x v f l r e₀ (scanned e z) h s b w (seen m o g) =
@@ -196,7 +197,7 @@ seen-byte x f r e₀ (scanned e z) h (seen m o g) =
     g
 
 after-number : (x : ℕ) (f l : List ℕ) (e₀ : Equation) (n : Numeral) → letter? x ≡ true → absent x f ≡ true
-    → Stood highest l n
+    → Stood lastLiteral l n
     → ((r : List ℕ) (v : ℕ) → Seen f r (put e₀ x v) (scan f r (put e₀ x v)))
     → Seen (x ∷ f) l e₀ (afterNumber n (λ v r. scan f r (put e₀ x v)))
 after-number x f l e₀ missing p s nothing k = unseen
@@ -224,8 +225,8 @@ sees (x ∷ f) l e₀ h =
         → ((r : List ℕ) (v : ℕ) → Seen f r (put e₀ x v) (scan f r (put e₀ x v)))
         → ((r : List ℕ) → Seen f r e₀ (scan f r e₀))
         → Seen (x ∷ f) l e₀
-        (cond b (afterNumber (numeral highest l) (λ v r. scan f r (put e₀ x v))) (afterByte x l (λ r. scan f r e₀)))
-    go true p q k m = after-number x f l e₀ (numeral highest l) p q (number-stood highest l) k
+        (cond b (afterNumber (numeral lastLiteral l) (λ v r. scan f r (put e₀ x v))) (afterByte x l (λ r. scan f r e₀)))
+    go true p q k m = after-number x f l e₀ (numeral lastLiteral l) p q (number-stood lastLiteral l) k
     go false p q k m = after-byte x f l e₀ p m
 
 -- Two forms that share no text: the first place where they differ shows it.
@@ -253,13 +254,13 @@ never e e′ s s′ (x ∷ f) (y ∷ g) l r p q a m =
         → (apart f g ≡ true → render e f ++ l ≡ render e′ g ++ r → ⊥) → ⊥
     go true true d j o o′ k m′ n =
         n k
-        (same-number highest (slot e x) (slot e′ y) (render e f ++ l) (render e′ g ++ r) (s x) (s′ y)
+        (same-number lastLiteral (slot e x) (slot e′ y) (render e f ++ l) (render e′ g ++ r) (s x) (s′ y)
         (opens-stops e f l o) (opens-stops e′ g r o′) (simp append-assoc at m′) .1)
     go true false d j o o′ k m′ n =
-        no-clash highest (slot e x) (render e f ++ l) y (render e′ g ++ r) (s x) (opens-stops e f l o) k
+        no-clash lastLiteral (slot e x) (render e f ++ l) y (render e′ g ++ r) (s x) (opens-stops e f l o) k
         (simp append-assoc at m′)
     go false true d j o o′ k m′ n =
-        no-clash highest (slot e′ y) (render e′ g ++ r) x (render e f ++ l) (s′ y) (opens-stops e′ g r o′) k
+        no-clash lastLiteral (slot e′ y) (render e′ g ++ r) x (render e f ++ l) (s′ y) (opens-stops e′ g r o′) k
         (sym (simp append-assoc at m′))
     go false false true j o o′ k m′ n = n k (cc)
     go false false false j o o′ k m′ n = eqb-false x y j (cc)

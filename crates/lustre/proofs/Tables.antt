@@ -15,7 +15,7 @@ use Rattle.lists.specs.Decimal.{isDigit}
 use Rattle.lists.specs.Number.{numberAt}
 use Rattle.tables.specs.Table.{all, Equation, equationAt, kindOf, kindAt, shapeOf, isFlow}
 use Rattle.tables.specs.Table.{operandFits, shapeFits, equationFits, equationsFit, checked}
-use Rattle.limits.specs.Limits.{equationLimit}
+use Rattle.limits.specs.Limits.{equationLimit, lastLiteral}
 use Rattle.tables.specs.declared.Sort.{Sort}
 use Rattle.tables.specs.declared.Shape.{Shape}
 use Rattle.tables.specs.declared.Operand.{Operand}
@@ -25,7 +25,7 @@ use Rattle.tables.proofs.Tests.{and-true, all-at, all-of}
 use Rattle.tables.proofs.Checks.{checked-fitting, passed-both, long-enough}
 use Rattle.lustre.specs.Numerals.{numberText}
 use Rattle.lustre.specs.Text.{lineRest, lineText, lines, foot, textOf}
-use Rattle.lustre.specs.Form.{highest, Plain, PlainTable, NoLine}
+use Rattle.lustre.specs.Form.{Plain, PlainTable, NoLine}
 use Rattle.lustre.proofs.Numerals.{same-number}
 use Rattle.lustre.proofs.Forms.{fitting-plain, one-end}
 
@@ -48,13 +48,13 @@ unfolding lineText
 line-shape i e l = rw (append-assoc, append-assoc)
 
 -- Two lines with the same number at the front of one text are of the same equation.
-one-line : (i : ℕ) (e e′ : Equation) (l r : List ℕ) → i ≤ highest → Plain e → Plain e′
+one-line : (i : ℕ) (e e′ : Equation) (l r : List ℕ) → i ≤ lastLiteral → Plain e → Plain e′
     → lineText i e ++ l ≡ lineText i e′ ++ r → (e ≡ e′) × (l ≡ r)
 unfolding isDigit
 one-line i e e′ l r h w w′ q =
     let a = sym (line-shape i e l) ∙ q ∙ line-shape i e′ r in
     let b : numberText i ++ (bytes "=" ++ (lineRest e ++ l)) ≡ numberText i ++ (bytes "=" ++ (lineRest e′ ++ r)) = cc in
-    let c = same-number highest i i _ _ h h refl refl b .1 in
+    let c = same-number lastLiteral i i _ _ h h refl refl b .1 in
     one-end e e′ l r w w′ (cc)
 
 -- No line stands where the last lines do.

@@ -3,14 +3,14 @@
 use mathlib.Core.Bool.{Bool, true, false, not, _&&_, cond}
 use mathlib.Core.List.{List, [], _∷_, _++_}
 use mathlib.Core.Path.{_≡_}
-use Prim.Native.Nat.{ℕ, zero, suc, _+_, _-_, _≤_, _<_}
+use Prim.Native.Nat.{ℕ, zero, suc, _+_, _≤_, _<_}
 use lib.Dec.{ltb, eqb}
 use lib.ListN.{length, getD, take}
 use Prim.Native.String.{String}
 use Rattle.lists.specs.Text.{bytes}
 use Rattle.traces.specs.Compare.{opNumber}
 use Rattle.traces.specs.Compare.Op.{le, lt, eq, gt, ge}
-use Rattle.limits.specs.Limits.{equationLimit, literalCount}
+use Rattle.limits.specs.Limits.{equationLimit, lastLiteral}
 use Rattle.tables.specs.Kind.{SIGNAL, START, CONSTANT, NOT, AND, OR, BOOLEAN-PRE, COUNT-PRE, CAPPED, IF}
 use Rattle.tables.specs.Kind.{COMPARE-LITERAL, COMPARE-PARAMETER}
 use Rattle.tables.specs.Table.{Equation, equation, equationAt, Kind, kindOf}
@@ -67,12 +67,9 @@ pub record Agree (e e₀ : Equation) (f : List ℕ) : Type 0 where
   pub kinds : e .kind ≡ e₀ .kind
   pub others : (x : ℕ) → Letter x → absent x f ≡ true → slot e x ≡ slot e₀ x
 
--- The highest number in the text of a well-formed table: a literal.
-abbrev pub highest : ℕ
-highest = literalCount - 1
-
+-- No number is above the highest in the text of a well-formed table: a literal.
 abbrev pub Small : Equation → Type 0
-Small e = (x : ℕ) → slot e x ≤ highest
+Small e = (x : ℕ) → slot e x ≤ lastLiteral
 
 -- A form in 22 bytes, filled up with spaces.
 unfoldable pub padded : ℕ → List ℕ → List ℕ

@@ -6,8 +6,9 @@ use Prim.Native.Nat.{ℕ}
 use lib.Dec.{eqb}
 use Rattle.lists.specs.Decimal.{Numeral, numeral}
 use Rattle.lists.specs.Decimal.Numeral.{is, above, missing}
+use Rattle.limits.specs.Limits.{lastLiteral}
 use Rattle.tables.specs.Table.{Equation}
-use Rattle.lustre.specs.Form.{letter?, put, highest}
+use Rattle.lustre.specs.Form.{letter?, put}
 
 -- A form at the front of a text: the equation with the numbers found at its letters, and what follows it.
 pub data Scanned : Type 0 where
@@ -26,4 +27,4 @@ afterByte x (y ∷ r) k = cond (eqb x y) (k r) unlike
 unfoldable pub scan : List ℕ → List ℕ → Equation → Scanned
 scan [] l e = scanned e l
 scan (x ∷ f) l e =
-    cond (letter? x) (afterNumber (numeral highest l) (λ v r. scan f r (put e x v))) (afterByte x l (λ r. scan f r e))
+    cond (letter? x) (afterNumber (numeral lastLiteral l) (λ v r. scan f r (put e x v))) (afterByte x l (λ r. scan f r e))

@@ -14,11 +14,11 @@ use Rattle.lists.specs.Decimal.{isDigit}
 use Rattle.lists.specs.Number.{numberAt}
 use Rattle.lists.proofs.Choice.{false-true}
 use Rattle.tables.specs.Table.{Equation, equationAt}
-use Rattle.limits.specs.Limits.{equationLimit, tableRoom}
+use Rattle.limits.specs.Limits.{equationLimit, lastLiteral, tableRoom}
 use Rattle.lustre.specs.Text.{lineRest, lineText, lines}
 use Rattle.lustre.specs.Form.{equationOf, own, Letter, slot, render, absent}
 use Rattle.lustre.specs.Form.Letter.{isA, isB, isC}
-use Rattle.lustre.specs.Form.{Agree, highest, Small, formCount, formAt, formText, formOf, Fits, Plain, NoLine}
+use Rattle.lustre.specs.Form.{Agree, Small, formCount, formAt, formText, formOf, Fits, Plain, NoLine}
 use Rattle.lustre.specs.Scan.{Scanned, scan}
 use Rattle.lustre.specs.Scan.Scanned.{unlike, scanned}
 use Rattle.lustre_read.specs.Inner.{NoEnd, EndAt, endSeen, LineAt, lineSeen}
@@ -86,7 +86,7 @@ scanned-text f l r e₀ e o h = go (scan f l e₀) h (sees f l e₀ o)
     go unlike h unseen = absurd (unlike-scanned (sym h))
     go (scanned m z) h (seen b _ _) = let p : m ≡ e = cc in let q : z ≡ r = cc in b ∙ rw (p, q)
 
-pub own-small : (i : ℕ) → i ≤ highest → Small (own i)
+pub own-small : (i : ℕ) → i ≤ lastLiteral → Small (own i)
 own-small i h = small 0 i 0 0 h (omega arith) (omega arith)
 
 pub own-agrees : (i : ℕ) (f : List ℕ) → absent 65 f ≡ false → Agree (own i) (own 0) f
@@ -97,7 +97,7 @@ own-agrees i f n = record { kinds = refl; others = others }
     others x isB e = refl
     others x isC e = refl
 
-line-scans : (i : ℕ) (e : Equation) (r : List ℕ) → i ≤ highest
+line-scans : (i : ℕ) (e : Equation) (r : List ℕ) → i ≤ lastLiteral
     → scan (bytes "fA=") (lineText i e ++ r) (own 0) ≡ scanned (own i) (lineRest e ++ r)
 unfolding closed absent isDigit
 line-scans i e r h =

@@ -9,8 +9,9 @@ use borrow.Author.Tests.{eq-eqb, ne-eqb}
 use Rattle.lists.specs.Decimal.{Numeral, numeral}
 use Rattle.lists.specs.Decimal.Numeral.{is, above, missing}
 use Rattle.lists.proofs.Buffers.{drop-more}
+use Rattle.limits.specs.Limits.{lastLiteral}
 use Rattle.tables.specs.Table.{Equation}
-use Rattle.lustre.specs.Form.{letter?, put, highest, equationOf}
+use Rattle.lustre.specs.Form.{letter?, put, equationOf}
 use Rattle.lustre.specs.Scan.{Scanned, afterNumber, afterByte, scan}
 use Rattle.lustre.specs.Scan.Scanned.{unlike, scanned}
 use Rattle.lustre_read.specs.Inner.{scanPiece, scanSeen}
@@ -29,16 +30,16 @@ unlike-told text r h w = sym (ap (scanSeen text) h) ∙ w
 -- One byte of a form at p.
 module _ (x : ℕ) (l : List ℕ) (p : ℕ) (e : Equation) where
   pub piece-number : (b : Bool) (v q : ℕ) (s : Equation) → b ≡ letter? x → b ≡ true
-      → numeral highest (drop p l) ≡ is v (drop q l) → s ≡ put e x v → scanned s (drop q l) ≡ scanPiece x (drop p l) e
+      → numeral lastLiteral (drop p l) ≡ is v (drop q l) → s ≡ put e x v → scanned s (drop q l) ≡ scanPiece x (drop p l) e
   unfolding scanPiece
   piece-number b v q s h k m g = rw (← h, k, m, g)
 
-  pub piece-above : (b : Bool) (r : List ℕ) → b ≡ letter? x → b ≡ true → numeral highest (drop p l) ≡ above r
+  pub piece-above : (b : Bool) (r : List ℕ) → b ≡ letter? x → b ≡ true → numeral lastLiteral (drop p l) ≡ above r
       → unlike ≡ scanPiece x (drop p l) e
   unfolding scanPiece
   piece-above b r h k m = rw (← h, k, m)
 
-  pub piece-missing : (b : Bool) → b ≡ letter? x → b ≡ true → numeral highest (drop p l) ≡ missing
+  pub piece-missing : (b : Bool) → b ≡ letter? x → b ≡ true → numeral lastLiteral (drop p l) ≡ missing
       → unlike ≡ scanPiece x (drop p l) e
   unfolding scanPiece
   piece-missing b h k m = rw (← h, k, m)
@@ -64,7 +65,7 @@ goOn (scanned e l) f = scan f l e
 
 scan-step : (x : ℕ) (f l : List ℕ) (e : Equation) → scan (x ∷ f) l e ≡ goOn (scanPiece x l e) f
 unfolding scan scanPiece
-scan-step x f l e = go (letter? x) (numeral highest l) l
+scan-step x f l e = go (letter? x) (numeral lastLiteral l) l
   where
     at-byte : (b : Bool) (k : List ℕ) → cond b (scan f k e) unlike ≡ goOn (cond b (scanned e k) unlike) f
     at-byte true k = refl

@@ -5,12 +5,12 @@ use mathlib.Core.Path.{_≡_}
 use Prim.Native.Nat.{ℕ, _*_, _≤_, _<_}
 use lib.ListN.{drop}
 use lib.Seq.{sets}
-use Rattle.limits.specs.Limits.{equationLimit}
+use Rattle.limits.specs.Limits.{equationLimit, lastLiteral}
 use Rattle.lists.specs.Decimal.{numeral}
 use Rattle.tables.specs.Table.{Equation, equationAt}
 use Rattle.lustre.specs.Text.{lineRest, lineText, lines, textOf}
 use Rattle.lustre.specs.Read.{Writes}
-use Rattle.lustre.specs.Form.{letter?, put, highest, Plain, PlainTable, NoLine, equationOf}
+use Rattle.lustre.specs.Form.{letter?, put, Plain, PlainTable, NoLine, equationOf}
 use Rattle.lustre.specs.Scan.{Scanned, afterNumber, afterByte}
 use Rattle.lustre.specs.Scan.Scanned.{unlike, scanned}
 use Rattle.lustre.specs.declared.Numbers.{Numbers}
@@ -22,7 +22,7 @@ use Rattle.lustre_read.specs.declared.Proposal.the-variants.{Nothing, Ta
 -- One byte of a form.
 unfoldable pub scanPiece : ℕ → List ℕ → Equation → Scanned
 scanPiece x l e =
-    cond (letter? x) (afterNumber (numeral highest l) (λ v r. scanned (put e x v) r)) (afterByte x l (λ r. scanned e r))
+    cond (letter? x) (afterNumber (numeral lastLiteral l) (λ v r. scanned (put e x v) r)) (afterByte x l (λ r. scanned e r))
 
 -- What the form scanner's answer says of the text.
 abbrev pub scanSeen : List ℕ → Scan → Scanned

@@ -20,9 +20,6 @@ ghost use Rattle.lustre.specs.Scan.{scan};
 ghost use Rattle.lustre_read.specs.Inner.{scanPiece, scanSeen, endSeen, lineSeen, stored, AllLinesAt};
 ghost use Rattle.lustre_read.specs.Inner.{proposalSeen, tableSeen};
 
-// The highest number in the text of a well-formed table: a literal.
-const HIGHEST: u32 = limits::LITERALS - 1;
-
 // Whether a form stands in the text, with which numbers, and where it ends.
 enum Scan {
     Unlike,
@@ -60,7 +57,7 @@ fn scan_piece(x: u8, text: &[u8], p: usize, e: Numbers) -> Scan
     ensures { λ r. ⌜ scanSeen (now (text .entry)) r ≡ scanPiece x (drop p (now (text .entry))) (equationOf e) ⌝ }
 {
     if is_letter(x) {
-        let number = read_decimal(text, p, HIGHEST);
+        let number = read_decimal(text, p, limits::LAST_LITERAL);
         return match number {
             Decimal::Is { value, next } => Scan::Found {
                 numbers: put_in(e, x, value),
