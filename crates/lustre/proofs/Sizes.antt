@@ -1,10 +1,11 @@
--- A table's text is short: at most 100 bytes a line, so a number of 32 bits holds its length. Assumes nothing.
+-- A table's text is short: it has short lines, so a number of 32 bits holds its length. Assumes nothing.
 use mathlib.Core.Bool.{Bool, true, false}
 use mathlib.Core.List.{List}
 use mathlib.Core.Path.{_≡_}
 use Prim.Native.Nat.{ℕ, zero, suc, _*_, _-_, _≤_, _<_}
 use native.Mathlib.Omega.{arith}
-use lib.ListN.{length, getD, length-append}
+use lib.ListN.{length, length-append}
+use Rattle.lists.specs.Number.{numberAt}
 use Rattle.limits.specs.Limits.{equationLimit}
 use Rattle.traces.specs.Compare.{Op, opOf}
 use Rattle.traces.specs.Compare.Op.{le, lt, eq, gt, ge}
@@ -15,7 +16,7 @@ use Rattle.tables.specs.Table.Kind.{countPre, capped, ifElse, compareLiteral, c
 use Rattle.tables.proofs.Checks.{checked-fitting}
 use Rattle.tables.specs.declared.Checked.{Checked}
 use Rattle.tables.specs.declared.Checked.the-variants.{Passed, Refused as Failed}
-use Rattle.lustre.specs.Write.{lengthLimit, writeEffect, effectIf, writeChecked, afterText}
+use Rattle.lustre.specs.Write.{lineLength, lengthLimit, writeEffect, effectIf, writeChecked, afterText}
 use Rattle.lustre.specs.declared.Written.the-variants.{Length}
 use Rattle.lustre.proofs.Numerals.{digits-short}
 use Rattle.lustre.proofs.Theorems.{text-written}
@@ -58,15 +59,15 @@ value-few compareParameter e w =
     simp length-append (omega (arith, digits-short (e .a) (w .a), op-few (opOf (e .b)), digits-short (e .c) (w .c)))
 value-few unknown e w = omega arith
 
-module _ (t : List ℕ) (small : (i : ℕ) → getD t i 0 < 4294967296) where
-  line-few : (i : ℕ) → i < 4294967296 → length (lineText i (equationAt t i)) ≤ 100
+module _ (t : List ℕ) (small : (i : ℕ) → numberAt t i < 4294967296) where
+  line-few : (i : ℕ) → i < 4294967296 → length (lineText i (equationAt t i)) ≤ lineLength
   unfolding lineText lineRest
   line-few i h =
       let e = equationAt t i in
       let value = value-few (kindOf (e .kind)) e (record { a = small _; b = small _; c = small _ }) in
       simp length-append (omega (arith, digits-short i h, value))
 
-  lines-few : (n : ℕ) → n ≤ equationLimit → length (lines t n) ≤ 100 * n
+  lines-few : (n : ℕ) → n ≤ equationLimit → length (lines t n) ≤ lineLength * n
   unfolding lines
   lines-few zero h = omega arith
   lines-few (suc n) h = simp length-append (omega (arith, lines-few n (omega arith), line-few n (omega arith)))

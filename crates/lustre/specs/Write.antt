@@ -1,9 +1,10 @@
 -- Writing a table as Lustre text: the whole effect of a call as one record. Definitions only.
 -- The sentences quoted are document 01's, from "Each operation and its refusals".
 use mathlib.Core.List.{List, [], _∷_, _++_}
-use Prim.Native.Nat.{ℕ}
+use Prim.Native.Nat.{ℕ, _+_, _*_}
 use lib.Dec.{leb}
 use lib.ListN.{length, drop}
+use Rattle.limits.specs.Limits.{equationLimit}
 use Rattle.tables.specs.Table.{Test, test, firstFailed, tableTests}
 use Rattle.tables.specs.Reply.{Reply, refused, gives}
 use Rattle.tables.specs.declared.Checked.{Checked}
@@ -17,9 +18,13 @@ abbrev pub writeReply : Written → Reply
 writeReply (Length l) = gives l
 writeReply (Refused r) = refused r
 
--- No table's text is longer, at 100 bytes a line (proofs/Sizes.antt).
+-- No line is longer, nor are the first line and the last two together (proofs/Sizes.antt).
+abbrev pub lineLength : ℕ
+lineLength = 100
+
+-- No table's text is longer.
 abbrev pub lengthLimit : ℕ
-lengthLimit = 409700
+lengthLimit = lineLength * equationLimit + lineLength
 
 -- "Write as Lustre text. 10, 11; 15: the buffer is shorter than that text."
 abbrev pub writeTests : List ℕ → ℕ → List ℕ → List Test
