@@ -307,7 +307,7 @@ pub fn only(i: usize) -> Numbers
     Numbers {
         kind: 0,
         a: i as u32,
-        b: tables::AT_MOST,
+        b: 0,
         c: 0,
     }
 }
