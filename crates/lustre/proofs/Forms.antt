@@ -24,7 +24,8 @@ use Rattle.tables.proofs.Tests.{and-true, all-at}
 use Rattle.tables.proofs.Numbers.{kind-beyond}
 use Rattle.lustre.specs.Text.{valueText, lineRest}
 use Rattle.tables.specs.Table.{equation}
-use Rattle.lustre.specs.Form.{equationOf, Letter, isA, isB, isC, slot, render, absent}
+use Rattle.lustre.specs.Form.{equationOf, letterA, letterB, letterC, Letter, isA, isB, isC}
+use Rattle.lustre.specs.Form.{slot, render, absent}
 use Rattle.lustre.specs.Form.{Agree, Small, padded, formWidth, forms, formCount, formAt}
 use Rattle.lustre.specs.Form.{formText, Fits, formNumber, formOf, Plain}
 use Rattle.lustre.specs.Scan.{scanned, scan}
@@ -112,14 +113,14 @@ Gives f = (e : Equation) → Agree e (equationOf (formAt f .settled)) (formText 
 
 -- A number that the form settles.
 module _ {e e₀ : Equation} {f : List ℕ} (w : Agree e e₀ f) where
-  a-settled : absent 65 f ≡ true → e .a ≡ e₀ .a
-  a-settled h = w .others 65 isA h
+  a-settled : absent letterA f ≡ true → e .a ≡ e₀ .a
+  a-settled h = w .others letterA isA h
 
-  b-settled : absent 66 f ≡ true → e .b ≡ e₀ .b
-  b-settled h = w .others 66 isB h
+  b-settled : absent letterB f ≡ true → e .b ≡ e₀ .b
+  b-settled h = w .others letterB isB h
 
-  c-settled : absent 67 f ≡ true → e .c ≡ e₀ .c
-  c-settled h = w .others 67 isC h
+  c-settled : absent letterC f ≡ true → e .c ≡ e₀ .c
+  c-settled h = w .others letterC isC h
 
 of-form : (f : ℕ) → Gives f → Gives f
 of-form f p = p
@@ -197,9 +198,9 @@ kept false k e = absurd (false-true e)
 
 -- An equation has form f if it has the kind and the numbers that the form settles.
 having : (f k a b c : ℕ) → formOf (equation k a b c) ≡ f → k ≡ formAt f .settled .kind
-    → Keeps (absent 65 (formText (formAt f))) a (formAt f .settled .a)
-    → Keeps (absent 66 (formText (formAt f))) b (formAt f .settled .b)
-    → Keeps (absent 67 (formText (formAt f))) c (formAt f .settled .c)
+    → Keeps (absent letterA (formText (formAt f))) a (formAt f .settled .a)
+    → Keeps (absent letterB (formText (formAt f))) b (formAt f .settled .b)
+    → Keeps (absent letterC (formText (formAt f))) c (formAt f .settled .c)
     → (f < formCount) × (a ≤ lastLiteral) × (b ≤ lastLiteral) × (c ≤ lastLiteral) → Plain (equation k a b c)
 having f k a b c n hk ka kb kc h = form-plain f (equation k a b c) (h .0) (record {
   agrees = record { kinds = hk; others = λ x i. others x i };
@@ -208,9 +209,9 @@ having f k a b c n hk ka kb kc h = form-plain f (equation k a b c) (h .0) (recor
   where
     others : (x : ℕ) → Letter x → absent x (formText (formAt f)) ≡ true
         → slot (equation k a b c) x ≡ slot (equationOf (formAt f .settled)) x
-    others x isA e = kept (absent 65 (formText (formAt f))) ka e
-    others x isB e = kept (absent 66 (formText (formAt f))) kb e
-    others x isC e = kept (absent 67 (formText (formAt f))) kc e
+    others x isA e = kept (absent letterA (formText (formAt f))) ka e
+    others x isB e = kept (absent letterB (formText (formAt f))) kb e
+    others x isC e = kept (absent letterC (formText (formAt f))) kc e
 
 -- Every equation that keeps the rules of its kind has a form.
 abbrev Formed : ℕ → Type 0

@@ -3,10 +3,10 @@
 use mathlib.Core.Path.{_≡_, refl, _∙_, sym, ap}
 use mathlib.Core.Bool.{Bool, true, false, cond, not, _&&_}
 use mathlib.Core.List.{List, [], _∷_, _++_, append-assoc}
-use Prim.Native.Nat.{ℕ, _≤_, _<_}
+use Prim.Native.Nat.{ℕ, _≤_}
 use native.Mathlib.Omega.{arith}
-use lib.Dec.{ltb, eqb}
-use borrow.Author.Tests.{ltb-true, eq-eqb, eqb-true, eqb-false, not-true}
+use lib.Dec.{leb, eqb}
+use borrow.Author.Tests.{leb-true, eq-eqb, eqb-true, eqb-false, not-true}
 use Rattle.lists.specs.Decimal.{Numeral, isDigit, numeral}
 use Rattle.lists.specs.Decimal.Numeral.{is, above, missing}
 use Rattle.lists.proofs.Choice.{false-true}
@@ -15,28 +15,26 @@ use Rattle.tables.specs.Table.{Equation}
 use Rattle.tables.proofs.Tests.{and-true}
 use Rattle.lustre.specs.Numerals.{numberText}
 use Rattle.tables.specs.Table.{equation}
-use Rattle.lustre.specs.Form.{letter?, Letter, isA, isB, isC, slot, put, render, absent, Agree}
-use Rattle.lustre.specs.Form.{Small}
+use Rattle.lustre.specs.Form.{letterA, letterB, letterC, letter?, Letter, isA, isB, isC}
+use Rattle.lustre.specs.Form.{slot, put, render, absent, Agree, Small}
 use Rattle.lustre.specs.Scan.{Scanned, unlike, scanned, afterNumber, afterByte, scan}
 use Rattle.lustre.proofs.Numerals.{stops, reads-back, Stood, stood, higher, nothing, number-stood}
 use Rattle.lustre.proofs.Numerals.{same-number, no-clash}
 
 -- The letters.
 pub letter : (x : ℕ) → letter? x ≡ true → Letter x
-letter x h = go (ltb 64 x) refl h
+letter x h =
+    let both = and-true (leb letterA x) _ h in
+    go (leb-true letterA x (both .0)) (leb-true x letterC (both .1)) (eqb x letterA) (eqb x letterB) refl refl
   where
-    three : (y : ℕ) → 64 < y → y < 68 → (b c : Bool) → eqb y 65 ≡ b → eqb y 66 ≡ c → Letter y
-    three y g l true c p q = rw (eqb-true y 65 p) isA
-    three y g l false true p q = rw (eqb-true y 66 q) isB
-    three y g l false false p q =
-        let n = eqb-false y 65 p in
-        let m = eqb-false y 66 q in
-        let z : y ≡ 67 = omega arith in
+    go : letterA ≤ x → x ≤ letterC → (b c : Bool) → eqb x letterA ≡ b → eqb x letterB ≡ c → Letter x
+    go g l true c p q = rw (eqb-true x letterA p) isA
+    go g l false true p q = rw (eqb-true x letterB q) isB
+    go g l false false p q =
+        let n = eqb-false x letterA p in
+        let m = eqb-false x letterB q in
+        let z : x ≡ letterC = omega arith in
         rw z isC
-
-    go : (b : Bool) → ltb 64 x ≡ b → cond b (ltb x 68) false ≡ true → Letter x
-    go true p q = three x (ltb-true 64 x p) (ltb-true x 68 q) (eqb x 65) (eqb x 66) refl refl
-    go false p q = absurd (false-true q)
 
 put-same : (e : Equation) {x : ℕ} (v : ℕ) → Letter x → slot (put e x v) x ≡ v
 put-same e v isA = refl
@@ -62,14 +60,14 @@ put-kind e v isC = refl
 -- Equations are equal by their kinds and the numbers at the three letters.
 pub equations-same : (e e′ : Equation) → e .kind ≡ e′ .kind → ((x : ℕ) → Letter x → slot e x ≡ slot e′ x) → e ≡ e′
 equations-same e e′ k h =
-    let a = h 65 isA in
-    let b = h 66 isB in
-    let c = h 67 isC in
+    let a = h letterA isA in
+    let b = h letterB isB in
+    let c = h letterC isC in
     let p : equation (e .kind) (e .a) (e .b) (e .c) ≡ equation (e′ .kind) (e′ .a) (e′ .b) (e′ .c) = rw (k, a, b, c) in
     p
 
 pub small : (k a b c : ℕ) → a ≤ lastLiteral → b ≤ lastLiteral → c ≤ lastLiteral → Small (equation k a b c)
-small k a b c ha hb hc x = go (eqb x 65) (eqb x 66)
+small k a b c ha hb hc x = go (eqb x letterA) (eqb x letterB)
   where
     go : (p q : Bool) → cond p a (cond q b c) ≤ lastLiteral
     go true q = ha
@@ -77,9 +75,9 @@ small k a b c ha hb hc x = go (eqb x 65) (eqb x 66)
     go false false = hc
 
 small-put : (e : Equation) {x : ℕ} (v : ℕ) → Letter x → v ≤ lastLiteral → Small e → Small (put e x v)
-small-put e v isA h s = small (e .kind) v (e .b) (e .c) h (s 66) (s 67)
-small-put e v isB h s = small (e .kind) (e .a) v (e .c) (s 65) h (s 67)
-small-put e v isC h s = small (e .kind) (e .a) (e .b) v (s 65) (s 66) h
+small-put e v isA h s = small (e .kind) v (e .b) (e .c) h (s letterB) (s letterC)
+small-put e v isB h s = small (e .kind) (e .a) v (e .c) (s letterA) h (s letterC)
+small-put e v isC h s = small (e .kind) (e .a) (e .b) v (s letterA) (s letterB) h
 
 -- A form's text begins with a byte that ends a number.
 abbrev pub opens : List ℕ → Bool

@@ -4,10 +4,10 @@ use mathlib.Core.Bool.{Bool, true, false, not, _&&_, cond}
 use mathlib.Core.List.{List, [], _∷_, _++_}
 use mathlib.Core.Path.{_≡_}
 use Prim.Native.Nat.{ℕ, zero, suc, _+_, _≤_, _<_}
-use lib.Dec.{ltb, eqb}
+use lib.Dec.{leb, eqb}
 use lib.ListN.{length, getD, take}
 use Prim.Native.String.{String}
-use Rattle.lists.specs.Text.{bytes}
+use Rattle.lists.specs.Text.{bytes, byte}
 use Rattle.traces.specs.Compare.{opNumber}
 use Rattle.traces.specs.Compare.Op.{le, lt, eq, gt, ge}
 use Rattle.limits.specs.Limits.{equationLimit, lastLiteral}
@@ -29,24 +29,34 @@ equationOf e = equation (e .kind) (e .a) (e .b) (e .c)
 abbrev pub own : ℕ → Equation
 own i = equation 0 i 0 0
 
+-- The letters that stand for numbers.
+abbrev pub letterA : ℕ
+letterA = byte "A"
+
+abbrev pub letterB : ℕ
+letterB = byte "B"
+
+abbrev pub letterC : ℕ
+letterC = byte "C"
+
 -- A, B or C.
 abbrev pub letter? : ℕ → Bool
-letter? x = cond (ltb 64 x) (ltb x 68) false
+letter? x = leb letterA x && leb x letterC
 
 pub data Letter : ℕ → Type 0 where
-  isA : Letter 65
-  isB : Letter 66
-  isC : Letter 67
+  isA : Letter letterA
+  isB : Letter letterB
+  isC : Letter letterC
 
 -- The number that a letter stands for.
 abbrev pub slot : Equation → ℕ → ℕ
-slot e x = cond (eqb x 65) (e .a) (cond (eqb x 66) (e .b) (e .c))
+slot e x = cond (eqb x letterA) (e .a) (cond (eqb x letterB) (e .b) (e .c))
 
 -- The equation with v where that letter stands.
 abbrev pub put : Equation → ℕ → ℕ → Equation
 put e x v =
-    cond (eqb x 65) (equation (e .kind) v (e .b) (e .c))
-    (cond (eqb x 66) (equation (e .kind) (e .a) v (e .c)) (equation (e .kind) (e .a) (e .b) v))
+    cond (eqb x letterA) (equation (e .kind) v (e .b) (e .c))
+    (cond (eqb x letterB) (equation (e .kind) (e .a) v (e .c)) (equation (e .kind) (e .a) (e .b) v))
 
 -- The text of one byte of a form.
 abbrev pub piece : Equation → ℕ → List ℕ
@@ -74,7 +84,7 @@ Small e = (x : ℕ) → slot e x ≤ lastLiteral
 -- A form in 22 bytes, filled up with spaces.
 unfoldable pub padded : ℕ → List ℕ → List ℕ
 padded zero f = []
-padded (suc k) [] = 32 ∷ padded k []
+padded (suc k) [] = byte " " ∷ padded k []
 padded (suc k) (x ∷ f) = x ∷ padded k f
 
 abbrev pub formWidth : ℕ

@@ -27,4 +27,5 @@ afterByte x (y ∷ r) k = cond (eqb x y) (k r) unlike
 unfoldable pub scan : List ℕ → List ℕ → Equation → Scanned
 scan [] l e = scanned e l
 scan (x ∷ f) l e =
-    cond (letter? x) (afterNumber (numeral lastLiteral l) (λ v r. scan f r (put e x v))) (afterByte x l (λ r. scan f r e))
+    cond (letter? x) (afterNumber (numeral lastLiteral l) (λ v r. scan f r (put e x v)))
+    (afterByte x l (λ r. scan f r e))

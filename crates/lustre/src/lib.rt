@@ -292,11 +292,11 @@ pub fn form_at(f: usize) -> Form
     FORMS[f]
 }
 
-// Whether a byte of a form stands for a number: A, B and C are the bytes 65 to 67.
+// Whether a byte of a form stands for a number: A, B or C.
 pub fn is_letter(x: u8) -> bool
     ensures { λ r. ⌜ r ≡ letter? x ⌝ }
 {
-    if 64 < x { x < 68 } else { false }
+    if b'A' <= x { x <= b'C' } else { false }
 }
 
 // Numbers that stand for i alone, as in `fN=` and in `a=fN;`.

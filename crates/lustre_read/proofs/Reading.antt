@@ -30,7 +30,8 @@ unlike-told text r h w = sym (ap (scanSeen text) h) ∙ w
 -- One byte of a form at p.
 module _ (x : ℕ) (l : List ℕ) (p : ℕ) (e : Equation) where
   pub piece-number : (b : Bool) (v q : ℕ) (s : Equation) → b ≡ letter? x → b ≡ true
-      → numeral lastLiteral (drop p l) ≡ is v (drop q l) → s ≡ put e x v → scanned s (drop q l) ≡ scanPiece x (drop p l) e
+      → numeral lastLiteral (drop p l) ≡ is v (drop q l) → s ≡ put e x v
+      → scanned s (drop q l) ≡ scanPiece x (drop p l) e
   unfolding scanPiece
   piece-number b v q s h k m g = rw (← h, k, m, g)
 

@@ -22,7 +22,8 @@ use Rattle.lustre_read.specs.declared.Proposal.the-variants.{Nothing, Ta
 -- One byte of a form.
 unfoldable pub scanPiece : ℕ → List ℕ → Equation → Scanned
 scanPiece x l e =
-    cond (letter? x) (afterNumber (numeral lastLiteral l) (λ v r. scanned (put e x v) r)) (afterByte x l (λ r. scanned e r))
+    cond (letter? x) (afterNumber (numeral lastLiteral l) (λ v r. scanned (put e x v) r))
+    (afterByte x l (λ r. scanned e r))
 
 -- What the form scanner's answer says of the text.
 abbrev pub scanSeen : List ℕ → Scan → Scanned

@@ -1,17 +1,17 @@
--- `lustre::is_letter` meets its contract: one case above 64, and one up to 64. Assumes nothing.
-use borrow.Author.Tests.{le-ltb, lt-ltb}
+-- `lustre::is_letter` meets its contract: below `A` the first test decides, else the second. Assumes nothing.
+use borrow.Author.Tests.{le-leb, lt-leb}
 use Rattle.lustre.proofs.is_letter.Statement.{statement}
 use Rattle.lustre.proofs.is_letter.Tie as tie
 
-above-64 : tie.Need-returns
-above-64 c = rw (lt-ltb 64 _ (c .if1 .taken))
+from-a : tie.Need-returns
+from-a c = simp (le-leb _ _ (c .if1 .taken))
 
-up-to-64 : tie.Need-returns-2
-up-to-64 c = rw (le-ltb 64 _ (c .if1 .left))
+below-a : tie.Need-returns-2
+below-a c = simp (lt-leb _ _ (c .if1 .left))
 
 pub is-letter-spec : {M : Type 1} → statement M
 is-letter-spec =
     tie.close
     (tie.spec
-    above-64
-    up-to-64)
+    from-a
+    below-a)
