@@ -5,7 +5,7 @@ use mathlib.Core.Logic.{⊎-elim}
 use mathlib.Core.Bool.{Bool, true, false, cond, _&&_}
 use mathlib.Core.List.{List, _++_}
 use mathlib.Core.List.{append-assoc as assoc}
-use Prim.Native.Nat.{ℕ, suc, _≤_, _<_}
+use Prim.Native.Nat.{ℕ, suc, _+_, _≤_, _<_}
 use native.Mathlib.Omega.{arith}
 use native.Mathlib.Nat.{eq-or-lt-of-le}
 use native.Mathlib.Decide.{ℕ-discrete, decLt}
@@ -27,7 +27,7 @@ use Rattle.tables.specs.Table.{equation}
 use Rattle.lustre.specs.Form.{equationOf, letterA, letterB, letterC, Letter, isA, isB, isC}
 use Rattle.lustre.specs.Form.{slot, render, absent}
 use Rattle.lustre.specs.Form.{Agree, Small, padded, formWidth, forms, formCount, formAt}
-use Rattle.lustre.specs.Form.{formText, Fits, formNumber, formOf, Plain}
+use Rattle.lustre.specs.Form.{formText, Fits, firstOf, firstForm, formNumber, formOf, Plain}
 use Rattle.lustre.specs.Scan.{scanned, scan}
 use Rattle.lustre.specs.declared.Form.{Form}
 use Rattle.lustre.specs.declared.Numbers.{Numbers}
@@ -127,7 +127,7 @@ of-form f p = p
 
 -- In the order of the forms. Forms of one kind are told apart by a number that they settle.
 each-gives : Each Gives formCount 0
-unfolding formAt forms padded absent kindOf formNumber lineRest valueText render
+unfolding formAt forms padded absent kindOf firstOf firstForm formNumber lineRest valueText render
 each-gives =
     of-form 0 (λ e w. rw (w .kinds) (record { form = refl; text = refl }))
     also of-form 1 (λ e w. rw (w .kinds) (record { form = refl; text = refl }))
@@ -196,22 +196,28 @@ kept : (b : Bool) {x y : ℕ} → Keeps b x y → b ≡ true → x ≡ y
 kept true k e = k
 kept false k e = absurd (false-true e)
 
--- An equation has form f if it has the kind and the numbers that the form settles.
-having : (f k a b c : ℕ) → formOf (equation k a b c) ≡ f → k ≡ formAt f .settled .kind
-    → Keeps (absent letterA (formText (formAt f))) a (formAt f .settled .a)
-    → Keeps (absent letterB (formText (formAt f))) b (formAt f .settled .b)
-    → Keeps (absent letterC (formText (formAt f))) c (formAt f .settled .c)
-    → (f < formCount) × (a ≤ lastLiteral) × (b ≤ lastLiteral) × (c ≤ lastLiteral) → Plain (equation k a b c)
-having f k a b c n hk ka kb kc h = form-plain f (equation k a b c) (h .0) (record {
+-- An equation has form n of its kind if it has the numbers that the form settles.
+having : (k n a b c : ℕ) →
+    let f = formAt (firstForm k + n) in
+    k ≡ f .settled .kind
+    → Keeps (absent letterA (formText f)) a (f .settled .a)
+    → Keeps (absent letterB (formText f)) b (f .settled .b)
+    → Keeps (absent letterC (formText f)) c (f .settled .c)
+    → (firstForm k + n < formCount) × (a ≤ lastLiteral) × (b ≤ lastLiteral) × (c ≤ lastLiteral)
+    → Plain (equation k a b c)
+having k n a b c hk ka kb kc h = form-plain (firstForm k + n) (equation k a b c) (h .0) (record {
   agrees = record { kinds = hk; others = λ x i. others x i };
   small = small k a b c (h .1) (h .2) (h .3);
 })
   where
-    others : (x : ℕ) → Letter x → absent x (formText (formAt f)) ≡ true
-        → slot (equation k a b c) x ≡ slot (equationOf (formAt f .settled)) x
-    others x isA e = kept (absent letterA (formText (formAt f))) ka e
-    others x isB e = kept (absent letterB (formText (formAt f))) kb e
-    others x isC e = kept (absent letterC (formText (formAt f))) kc e
+    text : List ℕ
+    text = formText (formAt (firstForm k + n))
+
+    others : (x : ℕ) → Letter x → absent x text ≡ true
+        → slot (equation k a b c) x ≡ slot (equationOf (formAt (firstForm k + n) .settled)) x
+    others x isA e = kept (absent letterA text) ka e
+    others x isB e = kept (absent letterB text) kb e
+    others x isC e = kept (absent letterC text) kc e
 
 -- Every equation that keeps the rules of its kind has a form.
 abbrev Formed : ℕ → Type 0
@@ -224,54 +230,54 @@ of-kind k p = p
 
 -- A constant and a boolean memory have two forms, a comparison has five.
 constants : (b c : ℕ) → b ≡ 0 → c ≡ 0 → Each (λ a. Plain (equation CONSTANT a b c)) truthCount 0
-unfolding formAt forms padded absent kindOf formNumber
+unfolding formAt forms padded absent firstOf firstForm
 constants b c q r =
-    having 2 CONSTANT 0 b c refl refl refl q r (omega arith)
-    also having 3 CONSTANT 1 b c refl refl refl q r (omega arith)
+    having CONSTANT 0 0 b c refl refl q r (omega arith)
+    also having CONSTANT 1 1 b c refl refl q r (omega arith)
     also end
 
 pres : (a b : ℕ) → a < equationLimit → b ≡ 0 → Each (λ c. Plain (equation BOOLEAN-PRE a b c)) truthCount 0
-unfolding formAt forms padded absent kindOf formNumber
+unfolding formAt forms padded absent firstOf firstForm
 pres a b p q =
-    having 7 BOOLEAN-PRE a b 0 refl refl tt q refl (omega arith)
-    also having 8 BOOLEAN-PRE a b 1 refl refl tt q refl (omega arith)
+    having BOOLEAN-PRE 0 a b 0 refl tt q refl (omega arith)
+    also having BOOLEAN-PRE 1 a b 1 refl tt q refl (omega arith)
     also end
 
 literals : (a c : ℕ) → a < equationLimit → c < literalCount
     → Each (λ b. Plain (equation COMPARE-LITERAL a b c)) opCount 0
-unfolding formAt forms padded absent kindOf formNumber
+unfolding formAt forms padded absent firstOf firstForm
 literals a c p r =
-    having 12 COMPARE-LITERAL a 0 c refl refl tt refl tt (omega arith)
-    also having 13 COMPARE-LITERAL a 1 c refl refl tt refl tt (omega arith)
-    also having 14 COMPARE-LITERAL a 2 c refl refl tt refl tt (omega arith)
-    also having 15 COMPARE-LITERAL a 3 c refl refl tt refl tt (omega arith)
-    also having 16 COMPARE-LITERAL a 4 c refl refl tt refl tt (omega arith)
+    having COMPARE-LITERAL 0 a 0 c refl tt refl tt (omega arith)
+    also having COMPARE-LITERAL 1 a 1 c refl tt refl tt (omega arith)
+    also having COMPARE-LITERAL 2 a 2 c refl tt refl tt (omega arith)
+    also having COMPARE-LITERAL 3 a 3 c refl tt refl tt (omega arith)
+    also having COMPARE-LITERAL 4 a 4 c refl tt refl tt (omega arith)
     also end
 
 parameters : (a c : ℕ) → a < equationLimit → c < parameterCount
     → Each (λ b. Plain (equation COMPARE-PARAMETER a b c)) opCount 0
-unfolding formAt forms padded absent kindOf formNumber
+unfolding formAt forms padded absent firstOf firstForm
 parameters a c p r =
-    having 17 COMPARE-PARAMETER a 0 c refl refl tt refl tt (omega arith)
-    also having 18 COMPARE-PARAMETER a 1 c refl refl tt refl tt (omega arith)
-    also having 19 COMPARE-PARAMETER a 2 c refl refl tt refl tt (omega arith)
-    also having 20 COMPARE-PARAMETER a 3 c refl refl tt refl tt (omega arith)
-    also having 21 COMPARE-PARAMETER a 4 c refl refl tt refl tt (omega arith)
+    having COMPARE-PARAMETER 0 a 0 c refl tt refl tt (omega arith)
+    also having COMPARE-PARAMETER 1 a 1 c refl tt refl tt (omega arith)
+    also having COMPARE-PARAMETER 2 a 2 c refl tt refl tt (omega arith)
+    also having COMPARE-PARAMETER 3 a 3 c refl tt refl tt (omega arith)
+    also having COMPARE-PARAMETER 4 a 4 c refl tt refl tt (omega arith)
     also end
 
 each-formed : Each Formed kindCount 0
-unfolding formAt forms padded absent kindOf formNumber shapeOf
+unfolding formAt forms padded absent kindOf firstOf firstForm shapeOf
 each-formed =
-    of-kind SIGNAL (λ a b c p q r. having 0 SIGNAL a b c refl refl tt q r (omega arith))
-    also of-kind START (λ a b c p q r. having 1 START a b c refl refl p q r (omega arith))
+    of-kind SIGNAL (λ a b c p q r. having SIGNAL 0 a b c refl tt q r (omega arith))
+    also of-kind START (λ a b c p q r. having START 0 a b c refl p q r (omega arith))
     also of-kind CONSTANT (λ a b c p q r. each (constants b c q r) a (omega arith) p)
-    also of-kind NOT (λ a b c p q r. having 4 NOT a b c refl refl tt q r (omega arith))
-    also of-kind AND (λ a b c p q r. having 5 AND a b c refl refl tt tt r (omega arith))
-    also of-kind OR (λ a b c p q r. having 6 OR a b c refl refl tt tt r (omega arith))
+    also of-kind NOT (λ a b c p q r. having NOT 0 a b c refl tt q r (omega arith))
+    also of-kind AND (λ a b c p q r. having AND 0 a b c refl tt tt r (omega arith))
+    also of-kind OR (λ a b c p q r. having OR 0 a b c refl tt tt r (omega arith))
     also of-kind BOOLEAN-PRE (λ a b c p q r. each (pres a b p q) c (omega arith) r)
-    also of-kind COUNT-PRE (λ a b c p q r. having 9 COUNT-PRE a b c refl refl tt q r (omega arith))
-    also of-kind CAPPED (λ a b c p q r. having 10 CAPPED a b c refl refl tt tt r (omega arith))
-    also of-kind IF (λ a b c p q r. having 11 IF a b c refl refl tt tt r (omega arith))
+    also of-kind COUNT-PRE (λ a b c p q r. having COUNT-PRE 0 a b c refl tt q r (omega arith))
+    also of-kind CAPPED (λ a b c p q r. having CAPPED 0 a b c refl tt tt r (omega arith))
+    also of-kind IF (λ a b c p q r. having IF 0 a b c refl tt tt r (omega arith))
     also of-kind COMPARE-LITERAL (λ a b c p q r. each (literals a c p r) b (omega arith) q)
     also of-kind COMPARE-PARAMETER (λ a b c p q r. each (parameters a c p r) b (omega arith) q)
     also end

@@ -142,20 +142,28 @@ pub record Fits (f : Form) (e : Equation) : Type 0 where
   pub agrees : Agree e (equationOf (f .settled)) (formText f)
   pub small : Small e
 
+-- The first form of a kind.
+unfoldable pub firstOf : ℕ → List Form → ℕ
+firstOf k [] = 0
+firstOf k (f ∷ fs) = cond (eqb (f .settled .kind) k) 0 (suc (firstOf k fs))
+
+unfoldable pub firstForm : ℕ → ℕ
+firstForm k = firstOf k forms
+
 -- The number of the form of an equation.
 unfoldable pub formNumber : Kind → Equation → ℕ
-formNumber signal e = 0
-formNumber start e = 1
-formNumber constant e = 2 + e .a
-formNumber negation e = 4
-formNumber conjunction e = 5
-formNumber disjunction e = 6
-formNumber booleanPre e = 7 + e .c
-formNumber countPre e = 9
-formNumber capped e = 10
-formNumber ifElse e = 11
-formNumber compareLiteral e = 12 + e .b
-formNumber compareParameter e = 17 + e .b
+formNumber signal e = firstForm SIGNAL
+formNumber start e = firstForm START
+formNumber constant e = firstForm CONSTANT + e .a
+formNumber negation e = firstForm NOT
+formNumber conjunction e = firstForm AND
+formNumber disjunction e = firstForm OR
+formNumber booleanPre e = firstForm BOOLEAN-PRE + e .c
+formNumber countPre e = firstForm COUNT-PRE
+formNumber capped e = firstForm CAPPED
+formNumber ifElse e = firstForm IF
+formNumber compareLiteral e = firstForm COMPARE-LITERAL + e .b
+formNumber compareParameter e = firstForm COMPARE-PARAMETER + e .b
 formNumber unknown e = 0
 
 abbrev pub formOf : Equation → ℕ

@@ -30,8 +30,38 @@ pub struct Numbers {
 // The bytes of the longest form.
 const FORM_WIDTH: usize = 22;
 
+// The forms that a kind can have: two if a truth value tells them apart, five if a comparison does, else one.
+const TRUTH_FORMS: usize = limits::TRUTHS as usize;
+
+const COMPARISON_FORMS: usize = limits::COMPARISONS as usize;
+
+// The first form of each kind.
+pub const SIGNAL_FORM: usize = 0;
+
+pub const START_FORM: usize = SIGNAL_FORM + 1;
+
+pub const CONSTANT_FORM: usize = START_FORM + 1;
+
+pub const NOT_FORM: usize = CONSTANT_FORM + TRUTH_FORMS;
+
+pub const AND_FORM: usize = NOT_FORM + 1;
+
+pub const OR_FORM: usize = AND_FORM + 1;
+
+pub const BOOLEAN_PRE_FORM: usize = OR_FORM + 1;
+
+pub const COUNT_PRE_FORM: usize = BOOLEAN_PRE_FORM + TRUTH_FORMS;
+
+pub const CAPPED_FORM: usize = COUNT_PRE_FORM + 1;
+
+pub const IF_FORM: usize = CAPPED_FORM + 1;
+
+pub const LITERAL_FORM: usize = IF_FORM + 1;
+
+pub const PARAMETER_FORM: usize = LITERAL_FORM + COMPARISON_FORMS;
+
 // How many forms there are.
-pub const FORM_COUNT: usize = 22;
+pub const FORM_COUNT: usize = PARAMETER_FORM + COMPARISON_FORMS;
 
 // A form: a text that can follow `fN=` in a line, with the letters A, B and C where numbers stand, and the kind and the
 // numbers that it settles. The first len bytes of its text count.

@@ -98,18 +98,18 @@ fn form_of(e: Numbers) -> usize
 {
     let kind = e.kind;
     match kind {
-        tables::SIGNAL => 0,
-        tables::START => 1,
-        tables::CONSTANT => 2 + e.a as usize,
-        tables::NOT => 4,
-        tables::AND => 5,
-        tables::OR => 6,
-        tables::BOOLEAN_PRE => 7 + e.c as usize,
-        tables::COUNT_PRE => 9,
-        tables::CAPPED => 10,
-        tables::IF => 11,
-        tables::COMPARE_LITERAL => 12 + e.b as usize,
-        tables::COMPARE_PARAMETER => 17 + e.b as usize,
+        tables::SIGNAL => lustre::SIGNAL_FORM,
+        tables::START => lustre::START_FORM,
+        tables::CONSTANT => lustre::CONSTANT_FORM + e.a as usize,
+        tables::NOT => lustre::NOT_FORM,
+        tables::AND => lustre::AND_FORM,
+        tables::OR => lustre::OR_FORM,
+        tables::BOOLEAN_PRE => lustre::BOOLEAN_PRE_FORM + e.c as usize,
+        tables::COUNT_PRE => lustre::COUNT_PRE_FORM,
+        tables::CAPPED => lustre::CAPPED_FORM,
+        tables::IF => lustre::IF_FORM,
+        tables::COMPARE_LITERAL => lustre::LITERAL_FORM + e.b as usize,
+        tables::COMPARE_PARAMETER => lustre::PARAMETER_FORM + e.b as usize,
         _ => 0,
     }
 }

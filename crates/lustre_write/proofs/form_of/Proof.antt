@@ -1,59 +1,60 @@
--- `lustre_write::form_of` meets its contract, kind by kind. Assumes nothing.
+-- `lustre_write::form_of` meets its contract, kind by kind: the constants are the first forms of the kinds. Assumes
+-- nothing.
 use borrow.Author.Needs.{needs}
 use Rattle.tables.specs.Kind.{kindCount}
 use Rattle.tables.specs.Table.{kindOf}
 use Rattle.tables.proofs.Numbers.{none-below, kind-beyond}
-use Rattle.lustre.specs.Form.{formNumber}
+use Rattle.lustre.specs.Form.{forms, firstOf, firstForm, formNumber}
 use Rattle.lustre_write.proofs.form_of.Statement.{statement}
 use Rattle.lustre_write.proofs.form_of.Tie as tie
 
 -- Kind by kind, in the order of their numbers.
 of-signal : tie.Need-returns
-unfolding kindOf formNumber
+unfolding kindOf forms firstOf firstForm formNumber
 of-signal c = rw (c .match .keys1)
 
 of-start : tie.Need-returns-2
-unfolding kindOf formNumber
+unfolding kindOf forms firstOf firstForm formNumber
 of-start c = rw (c .match .keys2)
 
 of-constant : tie.Need-returns-3
-unfolding kindOf formNumber
+unfolding kindOf forms firstOf firstForm formNumber
 of-constant c = rw (c .before .match .keys3)
 
 of-not : tie.Need-returns-4
-unfolding kindOf formNumber
+unfolding kindOf forms firstOf firstForm formNumber
 of-not c = rw (c .match .keys4)
 
 of-and : tie.Need-returns-5
-unfolding kindOf formNumber
+unfolding kindOf forms firstOf firstForm formNumber
 of-and c = rw (c .match .keys5)
 
 of-or : tie.Need-returns-6
-unfolding kindOf formNumber
+unfolding kindOf forms firstOf firstForm formNumber
 of-or c = rw (c .match .keys6)
 
 of-boolean-pre : tie.Need-returns-7
-unfolding kindOf formNumber
+unfolding kindOf forms firstOf firstForm formNumber
 of-boolean-pre c = rw (c .before .match .keys7)
 
 of-count-pre : tie.Need-returns-8
-unfolding kindOf formNumber
+unfolding kindOf forms firstOf firstForm formNumber
 of-count-pre c = rw (c .match .keys8)
 
 of-capped : tie.Need-returns-9
-unfolding kindOf formNumber
+unfolding kindOf forms firstOf firstForm formNumber
 of-capped c = rw (c .match .keys9)
 
 of-if : tie.Need-returns-10
-unfolding kindOf formNumber
+unfolding kindOf forms firstOf firstForm formNumber
 of-if c = rw (c .match .keys10)
 
 of-compare-literal : tie.Need-returns-11
-unfolding kindOf formNumber
+unfolding kindOf forms firstOf firstForm formNumber
 of-compare-literal c = rw (c .before .match .keys11)
 
 of-compare-parameter : tie.Need-returns-12
-unfolding kindOf formNumber
+unfolding kindOf forms firstOf firstForm formNumber
 of-compare-parameter c = rw (c .before .match .keys12)
 
 -- No other number is that of a kind.
