@@ -2,7 +2,7 @@
 -- table has a form, and two equations with the same text are the same. Assumes nothing.
 use mathlib.Core.Path.{_≡_, refl, _∙_, sym, subst}
 use mathlib.Core.Logic.{⊎-elim}
-use mathlib.Core.Bool.{Bool, true, false, cond, _&&_}
+use mathlib.Core.Bool.{Bool, true, false, cond, not, _&&_}
 use mathlib.Core.List.{List, _++_}
 use mathlib.Core.List.{append-assoc as assoc}
 use Prim.Native.Nat.{ℕ, suc, _+_, _≤_, _<_}
@@ -17,7 +17,7 @@ use Rattle.lists.proofs.Choice.{false-true}
 use Rattle.tables.specs.Kind.{SIGNAL, START, CONSTANT, NOT, AND, OR, BOOLEAN-PRE, COUNT-PRE, CAPPED, IF}
 use Rattle.tables.specs.Kind.{COMPARE-LITERAL, COMPARE-PARAMETER, kindCount}
 use Rattle.tables.specs.Table.{all, Equation, kinds, kindOf, shapeOf, isFlow, operandFits, shapeFits}
-use Rattle.limits.specs.Limits.{equationLimit, literalCount, lastLiteral, parameterCount, truthCount, opCount}
+use Rattle.limits.specs.Limits.{equationLimit, literalCount, lastLiteral, truthCount, opCount}
 use Rattle.tables.specs.declared.Operand.{Operand}
 use Rattle.tables.specs.declared.Operand.the-variants.{Unused, Earlier, Anywhere, Below}
 use Rattle.tables.proofs.Tests.{and-true, all-at}
@@ -196,6 +196,14 @@ kept : (b : Bool) {x y : ℕ} → Keeps b x y → b ≡ true → x ≡ y
 kept true k e = k
 kept false k e = absurd (false-true e)
 
+keeps : (b : Bool) {x y : ℕ} → x ≡ y → Keeps b x y
+keeps true e = e
+keeps false e = tt
+
+free : (b : Bool) (x y : ℕ) → not b ≡ true → Keeps b x y
+free true x y e = absurd (false-true e)
+free false x y e = tt
+
 -- An equation has form n of its kind if it has the numbers that the form settles.
 having : (k n a b c : ℕ) →
     let f = formAt (firstForm k + n) in
@@ -228,7 +236,7 @@ Formed k =
 of-kind : (k : ℕ) → Formed k → Formed k
 of-kind k p = p
 
--- A constant and a boolean memory have two forms, a comparison has five.
+-- A constant and a boolean memory have two forms,
 constants : (b c : ℕ) → b ≡ 0 → c ≡ 0 → Each (λ a. Plain (equation CONSTANT a b c)) truthCount 0
 unfolding formAt forms padded absent firstOf firstForm
 constants b c q r =
@@ -243,27 +251,36 @@ pres a b p q =
     also having BOOLEAN-PRE 1 a b 1 refl tt q refl (omega arith)
     also end
 
-literals : (a c : ℕ) → a < equationLimit → c < literalCount
-    → Each (λ b. Plain (equation COMPARE-LITERAL a b c)) opCount 0
-unfolding formAt forms padded absent firstOf firstForm
-literals a c p r =
-    having COMPARE-LITERAL 0 a 0 c refl tt refl tt (omega arith)
-    also having COMPARE-LITERAL 1 a 1 c refl tt refl tt (omega arith)
-    also having COMPARE-LITERAL 2 a 2 c refl tt refl tt (omega arith)
-    also having COMPARE-LITERAL 3 a 3 c refl tt refl tt (omega arith)
-    also having COMPARE-LITERAL 4 a 4 c refl tt refl tt (omega arith)
-    also end
+-- and a comparison has five: they settle its kind and its operator, and have the letters of the other two numbers.
+abbrev comparing : ℕ → ℕ → Bool
+comparing k b =
+    let f = formAt (firstForm k + b) in
+    ltb (firstForm k + b) formCount
+    && (eqb k (f .settled .kind)
+    && (eqb b (f .settled .b) && (not (absent letterA (formText f)) && not (absent letterC (formText f)))))
 
-parameters : (a c : ℕ) → a < equationLimit → c < parameterCount
-    → Each (λ b. Plain (equation COMPARE-PARAMETER a b c)) opCount 0
-unfolding formAt forms padded absent firstOf firstForm
-parameters a c p r =
-    having COMPARE-PARAMETER 0 a 0 c refl tt refl tt (omega arith)
-    also having COMPARE-PARAMETER 1 a 1 c refl tt refl tt (omega arith)
-    also having COMPARE-PARAMETER 2 a 2 c refl tt refl tt (omega arith)
-    also having COMPARE-PARAMETER 3 a 3 c refl tt refl tt (omega arith)
-    also having COMPARE-PARAMETER 4 a 4 c refl tt refl tt (omega arith)
-    also end
+compared : (k : ℕ) → all (comparing k) opCount ≡ true
+    → (a b c : ℕ) → a < equationLimit → b < opCount → c < literalCount → Plain (equation k a b c)
+compared k t a b c p q r =
+    let f = formAt (firstForm k + b) in
+    let known = and-true (ltb (firstForm k + b) formCount) _ (all-at (comparing k) opCount t b q) in
+    let kind = and-true (eqb k (f .settled .kind)) _ (known .1) in
+    let op = and-true (eqb b (f .settled .b)) _ (kind .1) in
+    let letters = and-true (not (absent letterA (formText f))) _ (op .1) in
+    let below = ltb-true (firstForm k + b) formCount (known .0) in
+    having k b a b c (eqb-true k (f .settled .kind) (kind .0))
+    (free (absent letterA (formText f)) a (f .settled .a) (letters .0))
+    (keeps (absent letterB (formText f)) (eqb-true b (f .settled .b) (op .0)))
+    (free (absent letterC (formText f)) c (f .settled .c) (letters .1))
+    (below, omega arith, omega arith, omega arith)
+
+literals : all (comparing COMPARE-LITERAL) opCount ≡ true
+unfolding all formAt forms padded absent firstOf firstForm
+literals = refl
+
+parameters : all (comparing COMPARE-PARAMETER) opCount ≡ true
+unfolding all formAt forms padded absent firstOf firstForm
+parameters = refl
 
 each-formed : Each Formed kindCount 0
 unfolding formAt forms padded absent kindOf firstOf firstForm shapeOf
@@ -278,8 +295,8 @@ each-formed =
     also of-kind COUNT-PRE (λ a b c p q r. having COUNT-PRE 0 a b c refl tt q r (omega arith))
     also of-kind CAPPED (λ a b c p q r. having CAPPED 0 a b c refl tt tt r (omega arith))
     also of-kind IF (λ a b c p q r. having IF 0 a b c refl tt tt r (omega arith))
-    also of-kind COMPARE-LITERAL (λ a b c p q r. each (literals a c p r) b (omega arith) q)
-    also of-kind COMPARE-PARAMETER (λ a b c p q r. each (parameters a c p r) b (omega arith) q)
+    also of-kind COMPARE-LITERAL (compared COMPARE-LITERAL literals)
+    also of-kind COMPARE-PARAMETER (λ a b c p q r. compared COMPARE-PARAMETER parameters a b c p q (omega arith))
     also end
 
 no-kind : (k a : ℕ) → kindCount ≤ k → Admits (shapeOf (kindOf k) .a) a → ⊥
