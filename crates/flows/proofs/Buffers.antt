@@ -70,27 +70,11 @@ module _ (t : List ℕ) (f : ℕ → ℕ) where
   store-length true i state = length-set state i (f i)
   store-length false i state = refl
 
-  pub length-written : (n : ℕ) (state : List ℕ) → length (memoriesSet t f n state) ≡ length state
+  pub length-memories : (n : ℕ) (state : List ℕ) → length (memoriesSet t f n state) ≡ length state
   unfolding memoriesSet
-  length-written zero state = refl
-  length-written (suc i) state =
-      store-length (isMemory (kindAt t i)) i (memoriesSet t f i state) ∙ length-written i state
-
-  pub written-none : (state : List ℕ) → memoriesSet t f 0 state ≡ state
-  unfolding memoriesSet
-  written-none state = refl
-
-  -- The loop that writes: the cell of a memory is set,
-  pub written-memory : (i x : ℕ) (state cells : List ℕ) → cells ≡ memoriesSet t f i state
-      → isMemory (kindAt t i) ≡ true → x ≡ f i → set cells i x ≡ memoriesSet t f (i + 1) state
-  unfolding memoriesSet
-  written-memory i x state cells now m e = rw (add-one i, m, now, e)
-
-  -- and any other is kept.
-  pub written-other : (i : ℕ) (state cells : List ℕ) → cells ≡ memoriesSet t f i state → isMemory (kindAt t i) ≡ false
-      → cells ≡ memoriesSet t f (i + 1) state
-  unfolding memoriesSet
-  written-other i state cells now m = rw (add-one i, m) now
+  length-memories zero state = refl
+  length-memories (suc i) state =
+      store-length (isMemory (kindAt t i)) i (memoriesSet t f i state) ∙ length-memories i state
 
   store-other : (b : Bool) (i j : ℕ) (state : List ℕ) → j ≢ i
       → numberAt (cond b (set state i (f i)) state) j ≡ numberAt state j
@@ -98,14 +82,46 @@ module _ (t : List ℕ) (f : ℕ → ℕ) where
   store-other false i j state q = refl
 
   -- The cell of a memory below n has what is written to it.
-  pub written-at : (n i : ℕ) (state : List ℕ) → i < n → n ≤ length state → isMemory (kindAt t i) ≡ true
+  pub set-cell : (n i : ℕ) (state : List ℕ) → i < n → n ≤ length state → isMemory (kindAt t i) ≡ true
       → numberAt (memoriesSet t f n state) i ≡ f i
   unfolding memoriesSet
-  written-at zero i state h room m = absurd (omega arith)
-  written-at (suc n) i state h room m =
+  set-cell zero i state h room m = absurd (omega arith)
+  set-cell (suc n) i state h room m =
       elim (ℕ-discrete i n) [
         | yes q ↦ rw (q, rw q at m)
-            (getD-set-same (memoriesSet t f n state) n (f n) 0 (rw (length-written n state) room))
+            (getD-set-same (memoriesSet t f n state) n (f n) 0 (rw (length-memories n state) room))
         | no q ↦ store-other (isMemory (kindAt t n)) n i (memoriesSet t f n state) q
-            ∙ written-at n i state (omega arith) (omega arith) m
+            ∙ set-cell n i state (omega arith) (omega arith) m
       ]
+
+-- The loop that writes: the memories among the first i equations are set, and `state` has become `cells`.
+pub record Setting (t : List ℕ) (f : ℕ → ℕ) (n : ℕ) (state cells : List ℕ) (i : ℕ) : Type 0 where
+  pub within : i ≤ n
+  pub long : length cells ≡ length state
+  pub set : cells ≡ memoriesSet t f i state
+
+pub set-none : (t : List ℕ) (f : ℕ → ℕ) (n : ℕ) (state : List ℕ) → Setting t f n state state 0
+unfolding memoriesSet
+set-none t f n state = record { within = omega arith; long = refl; set = refl }
+
+module _ {t : List ℕ} {f : ℕ → ℕ} {n : ℕ} {state cells : List ℕ} {i : ℕ} (h : Setting t f n state cells i) where
+  -- The cell of a memory is set,
+  pub set-memory : {after : List ℕ} (x : ℕ) → i < n → isMemory (kindAt t i) ≡ true → x ≡ f i → after ≡ set cells i x
+      → Setting t f n state after (i + 1)
+  unfolding memoriesSet
+  set-memory x l m e a =
+      record {
+        within = omega arith;
+        long = rw (a, length-set) (h .long);
+        set = a ∙ rw (add-one i, m, h .set, e);
+      }
+
+  -- and any other is kept.
+  pub set-other : {after : List ℕ} → i < n → isMemory (kindAt t i) ≡ false → after ≡ cells
+      → Setting t f n state after (i + 1)
+  unfolding memoriesSet
+  set-other l m a =
+      record { within = omega arith; long = ap length a ∙ h .long; set = a ∙ rw (add-one i, m) (h .set) }
+
+  pub set-all : n ≤ i → cells ≡ memoriesSet t f n state
+  set-all l = let z : i ≡ n = omega arith in rw z at (h .set)

@@ -25,7 +25,7 @@ use Rattle.flows.specs.Step.{cellFits, cellFitsAt, cellsFit}
 use Rattle.tables.specs.declared.Sort.{Sort}
 use Rattle.tables.specs.declared.Sort.the-variants.{Boolean, Count}
 use Rattle.tables.proofs.Tests.{and-true, all-at, all-of}
-use Rattle.flows.proofs.Buffers.{flows-kept, flows-at, written-at}
+use Rattle.flows.proofs.Buffers.{flows-kept, flows-at, set-cell}
 
 -- The memories are the kinds of the two `pre`.
 pub memory-kind : (q : Kind) → isMemory q ≡ true → (q ≡ booleanPre) ⊎ (q ≡ countPre)
@@ -169,18 +169,18 @@ module _ (cap : ℕ) where
     flows-range k state h i l = ranged-below k state h n i l (omega arith)
 
     -- Cells are in range once what is written to the memories is.
-    written-fits : (f : ℕ → ℕ) (state : List ℕ) → n ≤ length state
+    set-fits : (f : ℕ → ℕ) (state : List ℕ) → n ≤ length state
         → ((i : ℕ) → i < n → isMemory (kindAt t i) ≡ true → inRange cap (sortOf (kindAt t i)) (f i) ≡ true)
         → cellsFit cap t n (memoriesSet t f n state) ≡ true
     unfolding cellFits
-    written-fits f state room h =
+    set-fits f state room h =
         all-of (cellFitsAt cap t (memoriesSet t f n state)) n
-        (λ i l. cell-fits (isMemory (kindAt t i)) _ (λ m. rw (written-at t f n i state l room m) (h i l m)))
+        (λ i l. cell-fits (isMemory (kindAt t i)) _ (λ m. rw (set-cell t f n i state l room m) (h i l m)))
 
     -- A fresh state is in range,
     pub fresh-fits : (old : List ℕ) → n ≤ length old → cellsFit cap t n (freshState t n old) ≡ true
     fresh-fits old room =
-        written-fits (initialAt t) old room
+        set-fits (initialAt t) old room
         (λ i l m. initial-range t n i (equationAt t i) (kindAt t i) (all-at (equationFits t n) n fit i l) m)
 
     -- and a tick leaves the cells in range.
@@ -188,6 +188,6 @@ module _ (cap : ℕ) where
         → cellsFit cap t n (nextState t (flows cap t k state n) n state) ≡ true
     next-fits k state room h =
         let fs = flows cap t k state n in
-        written-fits (operandAt t fs) state room
+        set-fits (operandAt t fs) state room
         (λ i l m. next-range t n i (equationAt t i) (numberAt fs) (flows-range k state h) (kindAt t i)
         (all-at (equationFits t n) n fit i l) m)

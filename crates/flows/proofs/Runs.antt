@@ -30,7 +30,7 @@ use Rattle.tables.specs.declared.Checked.the-variants.{Passed, Refused as Faile
 use Rattle.flows.specs.declared.Stepped.{Stepped}
 use Rattle.flows.specs.declared.Stepped.the-variants.{Verdict, Refused as NotStepped}
 use Rattle.tables.proofs.Tests.{and-true, all-at}
-use Rattle.flows.proofs.Buffers.{length-flows, flows-kept, flows-at, length-written, written-at}
+use Rattle.flows.proofs.Buffers.{length-flows, flows-kept, flows-at, length-memories, set-cell}
 use Rattle.tables.proofs.Checks.{checked-fitting, passed-both}
 use Rattle.flows.proofs.Checks.{step-passed, step-admitted}
 use Rattle.flows.proofs.Ranges.{flow-below, flows-range, fresh-fits, next-fits}
@@ -89,10 +89,10 @@ not-14 false b e = let z : _≡_ {A = ℕ} 12 14 = cc in omega arith
 module _ (cap : ℕ) (t : List ℕ) (n : ℕ) (old : List ℕ) (trace : Trace) (room : n ≤ length old) where
   pub length-state : (k : ℕ) → length (stateAt cap t n old trace k) ≡ length old
   unfolding stateAt
-  length-state zero = length-written t (initialAt t) n old
+  length-state zero = length-memories t (initialAt t) n old
   length-state (suc k) =
       let state = stateAt cap t n old trace k in
-      length-written t (operandAt t (flows cap t (trace k) state n)) n state ∙ length-state k
+      length-memories t (operandAt t (flows cap t (trace k) state n)) n state ∙ length-state k
 
   state-room : (k : ℕ) → n ≤ length (stateAt cap t n old trace k)
   state-room k = rw (length-state k) room
@@ -101,10 +101,10 @@ module _ (cap : ℕ) (t : List ℕ) (n : ℕ) (old : List ℕ) (trace : Trace) (
   pub cell-at : (k i : ℕ) → i < n → isMemory (kindAt t i) ≡ true
       → numberAt (stateAt cap t n old trace k) i ≡ remembered t (flowAt cap t n old trace) i k
   unfolding stateAt flowAt
-  cell-at zero i h m = written-at t (initialAt t) n i old h room m
+  cell-at zero i h m = set-cell t (initialAt t) n i old h room m
   cell-at (suc k) i h m =
       let state = stateAt cap t n old trace k in
-      written-at t (operandAt t (flows cap t (trace k) state n)) n i state h (state-room k) m
+      set-cell t (operandAt t (flows cap t (trace k) state n)) n i state h (state-room k) m
 
   module _ (fit : all (equationFits t n) n ≡ true) where
     -- The cells of a run are in range at every tick.
@@ -209,7 +209,7 @@ module _ (cap : ℕ) (t : List ℕ) (n : ℕ) (c v : List ℕ) (k : Tick) (e : s
       let p = step-passed t n cap c v k e in
       let fs = flows cap t k c n in
       call-decides cap t n (step-admitted t n cap c v k e .0) (nextState t fs n c) (fs ++ drop n v) k′
-      (rw (length-written t (operandAt t fs) n c) (p .1)) (next-fits cap t n (p .0 .equations) k c (p .1) (p .3))
+      (rw (length-memories t (operandAt t fs) n c) (p .1)) (next-fits cap t n (p .0 .equations) k c (p .1) (p .3))
       ∙ admitted-on k′ q (fs ++ drop n v)
       (omega (arith, length-append fs (drop n v), length-flows cap t k c n))
 

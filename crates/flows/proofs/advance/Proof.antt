@@ -1,58 +1,29 @@
--- `flows::advance` meets its contract. The invariant: the memories among the first i equations have the flows of
--- their operands. Assumes nothing.
-use mathlib.Core.Path.{_≡_, refl, sym, ap, _∙_}
+-- `flows::advance` meets its contract. The invariant (`Setting`): the memories among the first i equations have the
+-- flows of their operands. Assumes nothing.
+use mathlib.Core.Path.{sym, _∙_}
 use mathlib.Core.Logic.{⊎-elim}
-use Prim.Native.Nat.{_≤_, _-_}
+use Prim.Native.Nat.{_-_}
 use native.Mathlib.Omega.{arith}
 use borrow.Author.Needs.{needs}
-use lib.ListN.{length, length-set}
-use Rattle.flows.specs.Flow.{operandAt, nextState}
-use Rattle.flows.proofs.Buffers.{written-none, written-memory, written-other}
+use Rattle.flows.specs.Flow.{operandAt}
+use Rattle.flows.proofs.Buffers.{Setting, set-none, set-memory, set-other, set-all}
 use Rattle.flows.proofs.advance.Statement.{statement}
 use Rattle.flows.proofs.advance.Tie as tie
 
 abbrev Inv-loop : tie.InvT-loop
-Inv-loop table n state₀ flows i₀ state i =
-    (i ≤ n) × (length state ≡ length state₀) × (state ≡ nextState table flows i state₀)
+Inv-loop table n state₀ flows i₀ state i = Setting table (operandAt table flows) n state₀ state i
 
 abbrev μ-loop : tie.MeasureT-loop
 μ-loop table n state₀ flows i₀ state i = n - i
 
--- The start, from the loop.
-abbrev start : tie.At-loop Inv-loop μ-loop → tie.Start Inv-loop μ-loop
-start c = c .before .before .before .before
-
-loop-holds : tie.Need-loop-holds Inv-loop μ-loop
-loop-holds c =
-    let args = c .before .before .before .args in
-    let t = args .table .now in
-    (omega arith, refl, sym (written-none t (operandAt t (args .flows .now)) (args .state .now)))
-
 loop-again : tie.Need-loop-again Inv-loop μ-loop
 loop-again c =
     let turn = c .before .before .before .before in
-    let args = start turn .args in
-    let t = args .table .now in
-    let f = operandAt t (args .flows .now) in
-    let inv = turn .loop .inv in
     let memory = sym (c .before .is-memory .ensures) in
     ⊎-elim
-    (λ w. (
-      omega arith,
-      rw (w .3, length-set) (inv .1),
-      w .3 ∙ written-memory t f _ _ _ _ (inv .2) (memory ∙ w .0 .taken) (w .2 .ensures),
-    ))
-    (λ w. (omega arith, ap length (w .1) ∙ inv .1, w .1 ∙ written-other t f _ _ _ (inv .2) (memory ∙ w .0 .left)))
+    (λ w. set-memory (turn .loop .inv) _ (omega arith) (memory ∙ w .0 .taken) (w .2 .ensures) (w .3))
+    (λ w. set-other (turn .loop .inv) (omega arith) (memory ∙ w .0 .left) (w .1))
     (c .if1 .came)
-
-same-length : tie.Need-same-length Inv-loop μ-loop
-same-length c = c .before .loop .inv .1
-
-returns : tie.Need-returns Inv-loop μ-loop
-returns c =
-    let loop = c .before .loop in
-    let z : loop .i ≡ start (c .before) .args .n = omega arith in
-    rw z at (loop .inv .2)
 
 pub advance-spec : {M : Type 1} → statement M
 advance-spec =
@@ -60,7 +31,7 @@ advance-spec =
     (tie.spec
     Inv-loop
     μ-loop
-    loop-holds
+    (λ c. set-none _ _ _ _)
     (λ c. omega arith)
     (λ c. omega arith)
     (λ c. omega arith)
@@ -75,5 +46,5 @@ advance-spec =
     (λ c. omega arith)
     (λ c. omega arith)
     loop-again
-    same-length
-    returns)
+    (λ c. c .before .loop .inv .long)
+    (λ c. set-all (c .before .loop .inv) (omega arith)))
