@@ -1,11 +1,11 @@
--- `flows::parameters_fit` meets its contract. The invariant: the first j parameters are below the cap.
-use Rattle.traces.specs.Trace.{parameterAt}
--- Assumes nothing.
+-- `flows::parameters_fit` meets its contract. The invariant: the first j parameters are below the cap. Assumes nothing.
 use mathlib.Core.Path.{_≡_, sym}
 use mathlib.Core.Bool.{true}
 use Prim.Native.Nat.{_≤_, _-_}
 use native.Mathlib.Omega.{arith}
 use borrow.Author.Needs.{needs}
+use Rattle.limits.specs.Limits.{parameterCount}
+use Rattle.traces.specs.Trace.{parameterAt}
 use Rattle.tables.specs.Table.{all}
 use Rattle.flows.specs.Step.{parameterFits}
 use Rattle.tables.proofs.Tests.{all-none, all-more, all-stop}
@@ -14,10 +14,10 @@ use Rattle.flows.proofs.parameters_fit.Statement.{statement}
 use Rattle.flows.proofs.parameters_fit.Tie as tie
 
 abbrev Inv-loop : tie.InvT-loop
-Inv-loop cap tick j₀ j = (j ≤ 8) × (all (parameterFits cap tick) j ≡ true)
+Inv-loop cap tick j₀ j = (j ≤ parameterCount) × (all (parameterFits cap tick) j ≡ true)
 
 abbrev μ-loop : tie.MeasureT-loop
-μ-loop cap tick j₀ j = 8 - j
+μ-loop cap tick j₀ j = parameterCount - j
 
 loop-holds : tie.Need-loop-holds Inv-loop μ-loop
 loop-holds c = (omega arith, all-none _)
@@ -27,7 +27,7 @@ unfolding parameterFits
 one-unfit c =
     let args = c .before .before .before .before .args in
     let j = c .before .before .before .loop .j in
-    sym (all-stop (parameterFits (args .cap) (args .tick)) j 8 (omega arith)
+    sym (all-stop (parameterFits (args .cap) (args .tick)) j parameterCount (omega arith)
     (le-ltb (parameterAt (args .tick) j) (args .cap) (omega (arith, c .before .parameter .ensures))))
 
 loop-again : tie.Need-loop-again Inv-loop μ-loop
@@ -42,7 +42,7 @@ loop-again c =
     )
 
 all-fit : tie.Need-returns-2 Inv-loop μ-loop
-all-fit c = let z : c .before .loop .j ≡ 8 = omega arith in rw z at (sym (c .before .loop .inv .1))
+all-fit c = let z : c .before .loop .j ≡ parameterCount = omega arith in rw z at (sym (c .before .loop .inv .1))
 
 pub parameters-fit-spec : {M : Type 1} → statement M
 parameters-fit-spec =
