@@ -7,17 +7,20 @@ use Prim.Native.Nat.{ℕ, suc, _+_, _-_, _≤_, _<_}
 use native.Mathlib.Decide.{decLt}
 use native.Mathlib.Omega.{arith}
 use lib.Dec.{eqb, leb, ltb}
-use lib.ListN.{length, getD, drop, length-append, List·getD-append, List·getD-eq-default}
+use lib.ListN.{length, drop, length-append, List·getD-append, List·getD-eq-default}
 use lib.Seq.{getD-append-seam}
 use borrow.Author.Tests.{ltb-true, leb-true, eqb-false, not-true}
-use Rattle.limits.specs.Limits.{textLimit, wordLimit, signalCount, parameterCount, literalCount}
+use Rattle.limits.specs.Limits.{textLimit, wordLimit, signalCount, parameterCount, lastLiteral}
+use Rattle.lists.specs.Text.{byte}
+use Rattle.lists.specs.Number.{numberAt}
 use Rattle.lists.specs.Same.{same}
 use Rattle.lists.specs.Decimal.{Numeral, numeral}
 use Rattle.lists.specs.Decimal.Numeral.{is, above, missing}
 use Rattle.lists.proofs.Choice.{chosen}
 use Rattle.lists.proofs.Decimals.{is-bounded}
-use Rattle.words.specs.Word.{within, LT, GT, BEGIN, keywords, PARAMETER, SIGNAL, LITERAL, lastWord}
-use Rattle.words.specs.Split.{SPACE, RUN, OTHER, Operator, operators, wordAmong, classOf, goesOn, begins, run}
+use Rattle.words.specs.Word.{LT, GT, BEGIN, keywords, PARAMETER, SIGNAL, LITERAL, lastWord}
+use Rattle.words.specs.Split.{SPACE, RUN, OTHER, Operator, operators, wordAmong, inRun, classOf}
+use Rattle.words.specs.Split.{goesOn, begins, run}
 use Rattle.words.specs.Split.{keywordAmong, keywordOf, wordFrom, numberOf, runOf, longest}
 use Rattle.words.specs.Split.{wordOf, Out, add, words, splitOf}
 use Rattle.words.specs.Split.Out.{refused, made}
@@ -35,29 +38,30 @@ FineWord (Bad n) = Unit {0}
 
 pub record FineList (ws : List ℕ) : Type 0 where
   pub few : length ws ≤ wordLimit
-  pub each : (i : ℕ) → i < length ws → Fine (getD ws i 0)
+  pub each : (i : ℕ) → i < length ws → Fine (numberAt ws i)
 
 abbrev pub FineOut : Out → Type 0
 FineOut (refused n) = Unit {0}
 FineOut (made ws) = FineList ws
 
--- A class is at most 50: the operators' words by a test over their table.
+-- A class is at most OTHER: the operators' words by a test over their table.
 small : List Operator → Bool
 small [] = true
-small (o ∷ os) = leb (o .word) 50 && small os
+small (o ∷ os) = leb (o .word) OTHER && small os
 
-among-small : (os : List Operator) (b : ℕ) → small os ≡ true → wordAmong os b ≤ 50
+among-small : (os : List Operator) (b : ℕ) → small os ≡ true → wordAmong os b ≤ OTHER
 unfolding small
 among-small [] b t = omega arith
 among-small (o ∷ os) b t =
-    let both = and-eq-true-iff (leb (o .word) 50) (small os) .0 t in
-    chosen (λ c. c ≤ 50) (eqb b (o .byte)) (λ _. leb-true (o .word) 50 (both .0)) (λ _. among-small os b (both .1))
+    let both = and-eq-true-iff (leb (o .word) OTHER) (small os) .0 t in
+    chosen (λ c. c ≤ OTHER) (eqb b (o .byte)) (λ _. leb-true (o .word) OTHER (both .0))
+    (λ _. among-small os b (both .1))
 
-class-small : (b : ℕ) → classOf b ≤ 50
+class-small : (b : ℕ) → classOf b ≤ OTHER
 unfolding classOf small
 class-small b =
-    chosen (λ c. c ≤ 50) (within 97 122 b || within 48 57 b) (λ _. omega arith)
-    (λ _. chosen (λ c. c ≤ 50) (eqb b 32) (λ _. omega arith) (λ _. among-small operators b refl))
+    chosen (λ c. c ≤ OTHER) (inRun b) (λ _. omega arith)
+    (λ _. chosen (λ c. c ≤ OTHER) (eqb b (byte " ")) (λ _. omega arith) (λ _. among-small operators b refl))
 
 -- A byte that begins a word is no space.
 class-some : (p c : ℕ) → begins p c ≡ true → 0 < c
@@ -92,32 +96,32 @@ unfolding runOf keywordOf
 run-fine r =
     chosen FineWord (ltb 0 (keywordOf r))
     (λ t. record { some = ltb-true 0 (keywordOf r) t; low = omega (arith, among-bound keywords BEGIN r) })
-    (λ _. chosen FineWord (eqb (getD r 0 0) 115)
+    (λ _. chosen FineWord (eqb (numberAt r 0) (byte "s"))
     (λ _. number-fine SIGNAL (signalCount - 1) (drop 1 r) (omega arith) (omega arith))
-    (λ _. chosen FineWord (eqb (getD r 0 0) 107)
+    (λ _. chosen FineWord (eqb (numberAt r 0) (byte "k"))
     (λ _. number-fine PARAMETER (parameterCount - 1) (drop 1 r) (omega arith) (omega arith))
-    (λ _. number-fine LITERAL (literalCount - 1) r (omega arith) (omega arith))))
+    (λ _. number-fine LITERAL lastLiteral r (omega arith) (omega arith))))
 
-longest-fine : (c next : ℕ) → 0 < c → c ≤ 50 → FineWord (longest c next)
+longest-fine : (c next : ℕ) → 0 < c → c ≤ OTHER → FineWord (longest c next)
 longest-fine c next s h =
-    chosen Fine (eqb c LT && eqb next 61) (λ _. record { some = omega arith; low = omega arith })
-    (λ _. chosen Fine (eqb c GT && eqb next 61) (λ _. record { some = omega arith; low = omega arith })
+    chosen Fine (eqb c LT && eqb next (byte "=")) (λ _. record { some = omega arith; low = omega arith })
+    (λ _. chosen Fine (eqb c GT && eqb next (byte "=")) (λ _. record { some = omega arith; low = omega arith })
     (λ _. record { some = s; low = omega arith }))
 
-word-fine : (c : ℕ) (l : List ℕ) → 0 < c → c ≤ 50 → FineWord (wordOf c l)
+word-fine : (c : ℕ) (l : List ℕ) → 0 < c → c ≤ OTHER → FineWord (wordOf c l)
 unfolding wordOf
 word-fine c l s h =
     chosen FineWord (eqb c RUN) (λ _. run-fine (run l))
-    (λ _. chosen FineWord (eqb c OTHER) (λ _. tt) (λ _. longest-fine c (getD l 1 0) s h))
+    (λ _. chosen FineWord (eqb c OTHER) (λ _. tt) (λ _. longest-fine c (numberAt l 1) s h))
 
 -- One word more, where there are not yet so many.
 more-fine : (ws : List ℕ) (w : ℕ) → FineList ws → (length ws ≡ wordLimit → ⊥) → Fine w → FineList (ws ++ w ∷ [])
 more-fine ws w h n f = record { few = simp length-append (omega (arith, h .few)); each = each }
   where
-    last : (i : ℕ) → i ≡ length ws → Fine (getD (ws ++ w ∷ []) i 0)
+    last : (i : ℕ) → i ≡ length ws → Fine (numberAt (ws ++ w ∷ []) i)
     last i e = rw (e, getD-append-seam ws w [] 0) f
 
-    each : (i : ℕ) → i < length (ws ++ w ∷ []) → Fine (getD (ws ++ w ∷ []) i 0)
+    each : (i : ℕ) → i < length (ws ++ w ∷ []) → Fine (numberAt (ws ++ w ∷ []) i)
     each i l =
         elim (decLt i (length ws)) [
           | yes a ↦ rw (List·getD-append ws (w ∷ []) 0 i a) (h .each i a)
@@ -155,10 +159,10 @@ module _ (text ws : List ℕ) (e : splitOf text ≡ made ws) where
   pub words-few : length ws ≤ wordLimit
   words-few = fine .few
 
-  pub word-made : (i : ℕ) → i < length ws → 0 < getD ws i 0
+  pub word-made : (i : ℕ) → i < length ws → 0 < numberAt ws i
   word-made i h = fine .each i h .some
 
-  pub word-bound : (i : ℕ) → getD ws i 0 ≤ lastWord
+  pub word-bound : (i : ℕ) → numberAt ws i ≤ lastWord
   word-bound i =
       elim (decLt i (length ws)) [
         | yes h ↦ fine .each i h .low

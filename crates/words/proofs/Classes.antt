@@ -2,13 +2,15 @@
 use mathlib.Core.Bool.{Bool, true, false, not, cond, _&&_, _||_, and-false, and-eq-true-iff}
 use mathlib.Core.List.{List, [], _∷_, map}
 use mathlib.Core.Path.{_≡_, refl, sym, ap, _∙_}
-use Prim.Native.Nat.{ℕ, _≤_, _<_}
+use Prim.Native.Nat.{ℕ, _+_, _≤_, _<_}
 use native.Mathlib.Omega.{arith}
 use lib.Dec.{eqb, leb}
 use borrow.Author.Tests.{eqb-false, ne-eqb, le-leb, lt-leb}
+use Rattle.lists.specs.Text.{byte}
+use Rattle.lists.specs.Decimal.{isDigit}
 use Rattle.lists.proofs.Choice.{chosen}
 use Rattle.words.specs.Word.{within, EQ}
-use Rattle.words.specs.Split.{SPACE, RUN, OTHER, Operator, operators, wordAmong, classOf}
+use Rattle.words.specs.Split.{SPACE, RUN, OTHER, Operator, operators, wordAmong, inRun, classOf}
 
 -- Inside, below and above a range.
 pub within-inside : (lo hi w : ℕ) → lo ≤ w → w ≤ hi → within lo hi w ≡ true
@@ -20,14 +22,15 @@ within-below lo hi w p = simp (lt-leb lo w p)
 pub within-above : (lo hi w : ℕ) → hi < w → within lo hi w ≡ false
 within-above lo hi w p = ap (λ (x : Bool). leb lo w && x) (lt-leb w hi p) ∙ and-false (leb lo w)
 
--- A letter or a digit is part of a run.
-pub letter : (b : ℕ) → 97 ≤ b → b < 123 → classOf b ≡ RUN
+-- A letter or a digit is part of a run. The bounds are those that a `match` gives.
+pub letter-in-run : (b : ℕ) → byte "a" ≤ b → b < byte "z" + 1 → classOf b ≡ RUN
 unfolding classOf
-letter b p q = simp (within-inside 97 122 b p (omega arith))
+letter-in-run b p q = simp (within-inside (byte "a") (byte "z") b p (omega arith))
 
-pub digit : (b : ℕ) → 48 ≤ b → b < 58 → classOf b ≡ RUN
-unfolding classOf
-digit b p q = simp (within-below 97 122 b (omega arith), within-inside 48 57 b p (omega arith))
+pub digit-in-run : (b : ℕ) → byte "0" ≤ b → b < byte "9" + 1 → classOf b ≡ RUN
+unfolding classOf isDigit
+digit-in-run b p q =
+    simp (within-below (byte "a") (byte "z") b (omega arith), within-inside (byte "0") (byte "9") b p (omega arith))
 
 -- The byte b is one of these.
 unfoldable pub among : ℕ → List ℕ → Bool
@@ -69,12 +72,12 @@ outside false true w r s o = absurd (eqb-false SPACE SPACE s refl)
 outside false false w r s o = o
 
 pub other : (b : ℕ) → eqb (classOf b) RUN ≡ false
-    → NoneOf b (32 ∷ map (λ o. o .byte) operators) (Unit {0}) → classOf b ≡ OTHER
+    → NoneOf b (byte " " ∷ map (λ o. o .byte) operators) (Unit {0}) → classOf b ≡ OTHER
 unfolding classOf among
 other b r h =
-    let bytes : List ℕ = 32 ∷ map (λ o. o .byte) operators in
-    let no = both-false (eqb b 32) (among b (map (λ o. o .byte) operators)) (none-among b bytes h) in
-    outside (within 97 122 b || within 48 57 b) (eqb b 32) _ r (no .0) (no-operator operators b (no .1))
+    let bytes : List ℕ = byte " " ∷ map (λ o. o .byte) operators in
+    let no = both-false (eqb b (byte " ")) (among b (map (λ o. o .byte) operators)) (none-among b bytes h) in
+    outside (inRun b) (eqb b (byte " ")) _ r (no .0) (no-operator operators b (no .1))
 
 -- No operator that is the byte b has the word w.
 lacks : ℕ → ℕ → List Operator → Bool
@@ -93,16 +96,31 @@ lacking w b (o ∷ os) p h =
     let both = and-eq-true-iff (not (eqb (o .word) w && eqb b (o .byte))) (lacks w b os) .0 h in
     chosen (λ c. eqb c w ≡ false) (eqb b (o .byte)) (one-false _ _ (both .0)) (λ _. lacking w b os p (both .1))
 
--- No other byte than a letter or a digit is part of a run.
-pub no-run : (b : ℕ) → within 97 122 b ≡ false → within 48 57 b ≡ false → eqb (classOf b) RUN ≡ false
+-- No other byte than a letter or a digit is part of a run: one below the digits, between them and the letters, above
+-- the letters.
+no-run : (b : ℕ) → within (byte "a") (byte "z") b ≡ false → isDigit b ≡ false → eqb (classOf b) RUN ≡ false
 unfolding classOf lacks
 no-run b p q =
-    simp (p, q) (chosen (λ c. eqb c RUN ≡ false) (eqb b 32) (λ _. refl) (λ _. lacking RUN b operators refl refl))
+    simp (p, q)
+    (chosen (λ c. eqb c RUN ≡ false) (eqb b (byte " ")) (λ _. refl) (λ _. lacking RUN b operators refl refl))
+
+module _ (b : ℕ) where
+  pub below-digits : b < byte "0" → eqb (classOf b) RUN ≡ false
+  unfolding isDigit
+  below-digits p = no-run b (within-below _ (byte "z") b (omega arith)) (within-below _ (byte "9") b p)
+
+  pub between : byte "9" < b → b < byte "a" → eqb (classOf b) RUN ≡ false
+  unfolding isDigit
+  between p q = no-run b (within-below _ (byte "z") b q) (within-above (byte "0") _ b p)
+
+  pub above-letters : byte "z" < b → eqb (classOf b) RUN ≡ false
+  unfolding isDigit
+  above-letters p = no-run b (within-above (byte "a") _ b p) (within-above (byte "0") (byte "9") b (omega arith))
 
 -- No other byte than `=` has its class.
-pub no-equals : (b : ℕ) → (b ≡ 61 → ⊥) → eqb (classOf b) EQ ≡ false
+pub no-equals : (b : ℕ) → (b ≡ byte "=" → ⊥) → eqb (classOf b) EQ ≡ false
 unfolding classOf lacks
 no-equals b n =
-    chosen (λ c. eqb c EQ ≡ false) (within 97 122 b || within 48 57 b) (λ _. refl)
-    (λ _. chosen (λ c. eqb c EQ ≡ false) (eqb b 32) (λ _. refl)
-    (λ _. lacking EQ b operators refl (simp (ne-eqb b 61 n))))
+    chosen (λ c. eqb c EQ ≡ false) (inRun b) (λ _. refl)
+    (λ _. chosen (λ c. eqb c EQ ≡ false) (eqb b (byte " ")) (λ _. refl)
+    (λ _. lacking EQ b operators refl (simp (ne-eqb b (byte "=") n))))

@@ -5,7 +5,8 @@ use mathlib.Core.Path.{_≡_, refl}
 use Prim.Native.Nat.{ℕ, _+_, _-_}
 use lib.ListN.{replicate}
 use Rattle.limits.specs.Limits.{textLimit, wordLimit}
-use Rattle.lists.specs.Text.{bytes}
+use Rattle.lists.specs.Text.{byte, bytes}
+use Rattle.lists.specs.Line.{lineEnd}
 use Rattle.lists.specs.Decimal.{isDigit, digitsAfter, numeral}
 use Rattle.words.specs.Word.{ROUND, ROUND-END, SQUARE, SQUARE-END, NOT, AND, OR, LE, LT, EQ, GT, GE}
 use Rattle.words.specs.Word.{BEGIN, KEPT, LEN, SUM, AGE, THEN, CHOP, EXISTS, PARAMETER, SIGNAL, LITERAL}
@@ -26,10 +27,10 @@ refuses text n = record { text = text; out = refused n }
 
 -- n words `(`, and n spaces.
 abbrev rounds : ℕ → List ℕ
-rounds n = replicate n 40
+rounds n = replicate n (byte "(")
 
 abbrev spaces : ℕ → List ℕ
-spaces n = replicate n 32
+spaces n = replicate n (byte " ")
 
 -- Words with a number.
 abbrev signal : ℕ → ℕ
@@ -90,7 +91,7 @@ examples =
     -- bytes of which no word can be made: `B`, tab and line end
     refuses (bytes "Begin") 2 ∷
     refuses (9 ∷ []) 2 ∷
-    refuses (10 ∷ []) 2 ∷
+    refuses (lineEnd ∷ []) 2 ∷
     -- the longest match
     splits (bytes "<=") (LE ∷ []) ∷
     splits (bytes ">=") (GE ∷ []) ∷

@@ -9,6 +9,7 @@ use lib.ListN.{getD}
 use borrow.Author.Tests.{eqb-true, eqb-false}
 use Rattle.lists.specs.Same.{same}
 use Rattle.lists.specs.Text.{bytes}
+use Rattle.lists.specs.Number.{numberAt}
 use Rattle.words.specs.Word.{BEGIN, keywords}
 use Rattle.words.specs.Split.{spelledOr, keywordAmong, keywordOf}
 use Rattle.words.proofs.Classes.{among, NoneOf, none-among}
@@ -18,7 +19,7 @@ abbrev pub spelledAs : ℕ → List ℕ → ℕ → ℕ
 spelledAs i r other = spelledOr r (getD keywords i []) (BEGIN + i) other
 
 -- What is right of every run that begins with the byte b, is right of a run whose first byte is b.
-pub by-first : (f : List ℕ → ℕ) (r : List ℕ) (b : ℕ) → getD r 0 0 ≡ b → T (ltb 0 b)
+pub by-first : (f : List ℕ → ℕ) (r : List ℕ) (b : ℕ) → numberAt r 0 ≡ b → T (ltb 0 b)
     → ((l : List ℕ) → f (b ∷ l) ≡ keywordOf (b ∷ l)) → f r ≡ keywordOf r
 by-first f [] b e z h = absurd (omega (arith, ltb→lt 0 b z))
 by-first f (x ∷ l) b e z h = rw e (h l)
@@ -30,11 +31,11 @@ firstBytes = bytes "bephklsatc"
 -- The keywords begin with these bytes.
 begin-in : List ℕ → List (List ℕ) → Bool
 begin-in bs [] = true
-begin-in bs (k ∷ ks) = among (getD k 0 0) bs && begin-in bs ks
+begin-in bs (k ∷ ks) = among (numberAt k 0) bs && begin-in bs ks
 
 -- A run with another first byte is none of them.
 module _ (b : ℕ) (l bs : List ℕ) (no : among b bs ≡ false) where
-  differs : (k : List ℕ) → among (getD k 0 0) bs ≡ true → same (b ∷ l) k ≡ false
+  differs : (k : List ℕ) → among (numberAt k 0) bs ≡ true → same (b ∷ l) k ≡ false
   differs [] h = refl
   differs (x ∷ k) h = at-first (eqb b x) refl
     where
@@ -48,10 +49,10 @@ module _ (b : ℕ) (l bs : List ℕ) (no : among b bs ≡ false) where
   unfolding keywordAmong begin-in
   none-spelled [] n h = refl
   none-spelled (k ∷ ks) n h =
-      let both = and-eq-true-iff (among (getD k 0 0) bs) (begin-in bs ks) .0 h in
+      let both = and-eq-true-iff (among (numberAt k 0) bs) (begin-in bs ks) .0 h in
       rw (differs k (both .0)) (none-spelled ks (suc n) (both .1))
 
-pub no-keyword : (r : List ℕ) → NoneOf (getD r 0 0) firstBytes (Unit {0}) → 0 ≡ keywordOf r
+pub no-keyword : (r : List ℕ) → NoneOf (numberAt r 0) firstBytes (Unit {0}) → 0 ≡ keywordOf r
 unfolding keywordOf keywordAmong begin-in among
 no-keyword [] h = refl
 no-keyword (b ∷ l) h = sym (none-spelled b l firstBytes (none-among b firstBytes h) keywords BEGIN refl)

@@ -6,9 +6,10 @@ use Prim.Native.Nat.{ℕ, suc, _+_, _≤_}
 use native.Mathlib.Decide.{decLt}
 use native.Mathlib.Omega.{arith}
 use lib.Dec.{ltb}
-use lib.ListN.{length, getD, drop, drop-of-length-le}
+use lib.ListN.{length, drop, drop-of-length-le}
 use lib.Seq.{drop-cons}
 use borrow.Author.Tests.{lt-ltb, le-ltb}
+use Rattle.lists.specs.Number.{numberAt}
 use Rattle.lists.specs.Decimal.{DecimalAt}
 use Rattle.lists.specs.Decimal.Numeral.{is, above}
 use Rattle.lists.proofs.Decimals.{is-of, above-of, missing-of, is-bounded}
@@ -23,7 +24,7 @@ by-rest : (n : ℕ) (l : List ℕ) (f : List ℕ → Word) {w : Word} → w ≡ 
     → cond (ltb n (length l)) (Bad 2) w ≡ f (drop n l)
 by-rest n l f e g =
     elim (decLt n (length l)) [
-      | yes p ↦ rw (lt-ltb n (length l) p, drop-cons l n 0 p) (g (getD l n 0) (drop (suc n) l))
+      | yes p ↦ rw (lt-ltb n (length l) p, drop-cons l n 0 p) (g (numberAt l n) (drop (suc n) l))
       | no p ↦ (let past : length l ≤ n = omega arith in rw (le-ltb n (length l) past, drop-of-length-le l past) e)
     ]
 

@@ -7,10 +7,12 @@ use native.Mathlib.Nat.{add-sub-cancel-left}
 use native.Mathlib.Numerals.{add-one}
 use native.Mathlib.Omega.{arith}
 use lib.Dec.{eqb}
-use lib.ListN.{length, getD, take, drop, drop-of-length-le, length-drop}
+use lib.ListN.{length, take, drop, drop-of-length-le, length-drop}
 use lib.Seq.{drop-cons}
 use borrow.Author.Tests.{eq-eqb, ne-eqb}
-use Rattle.limits.specs.Limits.{signalCount, parameterCount, literalCount}
+use Rattle.limits.specs.Limits.{signalCount, parameterCount, lastLiteral}
+use Rattle.lists.specs.Text.{byte}
+use Rattle.lists.specs.Number.{numberAt}
 use Rattle.words.specs.Word.{PARAMETER, SIGNAL, LITERAL}
 use Rattle.words.specs.Split.{RUN, OTHER, classOf, run, keywordOf, numberOf, runOf, longest, wordOf}
 use Rattle.words.specs.declared.Word.the-variants.{Bad}
@@ -20,12 +22,12 @@ pub run-past : (t : List ℕ) (i : ℕ) → length t ≤ i → run (drop i t) �
 unfolding run
 run-past t i h = ap run (drop-of-length-le t h)
 
-pub run-stops : (t : List ℕ) (i : ℕ) → i < length t → (classOf (getD t i 0) ≡ RUN → ⊥) → run (drop i t) ≡ []
+pub run-stops : (t : List ℕ) (i : ℕ) → i < length t → (classOf (numberAt t i) ≡ RUN → ⊥) → run (drop i t) ≡ []
 unfolding run
 run-stops t i h n = rw (drop-cons t i 0 h, ne-eqb _ RUN n)
 
-pub run-goes : (t : List ℕ) (i : ℕ) → i < length t → classOf (getD t i 0) ≡ RUN
-    → run (drop i t) ≡ getD t i 0 ∷ run (drop (i + 1) t)
+pub run-goes : (t : List ℕ) (i : ℕ) → i < length t → classOf (numberAt t i) ≡ RUN
+    → run (drop i t) ≡ numberAt t i ∷ run (drop (i + 1) t)
 unfolding run
 run-goes t i h n = rw (add-one, drop-cons t i 0 h, eq-eqb _ RUN n)
 
@@ -59,23 +61,23 @@ module _ (t : List ℕ) (i : ℕ) where
   pub run-part : (end : ℕ) → end ≡ i + length (run (drop i t)) → take (end - i) (drop i t) ≡ run (drop i t)
   run-part end e = rw (e, add-sub-cancel-left i (length (run (drop i t)))) (take-run (drop i t))
 
-  pub run-some : i < length t → classOf (getD t i 0) ≡ RUN → 0 < length (run (drop i t))
+  pub run-some : i < length t → classOf (numberAt t i) ≡ RUN → 0 < length (run (drop i t))
   run-some h k = omega (arith, ap length (run-goes t i h k))
 
 -- The word of a run that is no keyword, by its first byte.
 module _ (r : List ℕ) (n : keywordOf r ≡ 0) where
-  pub run-signal : getD r 0 0 ≡ 115 → runOf r ≡ numberOf SIGNAL (signalCount - 1) (drop 1 r)
+  pub run-signal : numberAt r 0 ≡ byte "s" → runOf r ≡ numberOf SIGNAL (signalCount - 1) (drop 1 r)
   unfolding runOf
   run-signal e = simp (n, e)
 
-  pub run-parameter : getD r 0 0 ≡ 107 → runOf r ≡ numberOf PARAMETER (parameterCount - 1) (drop 1 r)
+  pub run-parameter : numberAt r 0 ≡ byte "k" → runOf r ≡ numberOf PARAMETER (parameterCount - 1) (drop 1 r)
   unfolding runOf
   run-parameter e = simp (n, e)
 
-  pub run-literal : (getD r 0 0 ≡ 115 → ⊥) → (getD r 0 0 ≡ 107 → ⊥)
-      → runOf r ≡ numberOf LITERAL (literalCount - 1) r
+  pub run-literal : (numberAt r 0 ≡ byte "s" → ⊥) → (numberAt r 0 ≡ byte "k" → ⊥)
+      → runOf r ≡ numberOf LITERAL lastLiteral r
   unfolding runOf
-  run-literal s k = simp (n, ne-eqb (getD r 0 0) 115 s, ne-eqb (getD r 0 0) 107 k)
+  run-literal s k = simp (n, ne-eqb (numberAt r 0) (byte "s") s, ne-eqb (numberAt r 0) (byte "k") k)
 
 -- The word at the front of a text, by the class of its first byte.
 module _ (l : List ℕ) (c : ℕ) where
@@ -87,6 +89,6 @@ module _ (l : List ℕ) (c : ℕ) where
   unfolding wordOf
   word-none e = simp e
 
-  pub word-operator : (c ≡ RUN → ⊥) → (c ≡ OTHER → ⊥) → wordOf c l ≡ longest c (getD l 1 0)
+  pub word-operator : (c ≡ RUN → ⊥) → (c ≡ OTHER → ⊥) → wordOf c l ≡ longest c (numberAt l 1)
   unfolding wordOf
   word-operator r o = simp (ne-eqb c RUN r, ne-eqb c OTHER o)

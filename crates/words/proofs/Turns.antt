@@ -7,10 +7,11 @@ use native.Mathlib.Nat.{zero-add}
 use native.Mathlib.Numerals.{add-one}
 use native.Mathlib.Omega.{arith}
 use lib.Dec.{eqb}
-use lib.ListN.{length, getD, drop, set, drop-of-length-le, length-append}
+use lib.ListN.{length, drop, set, drop-of-length-le, length-append}
 use lib.Seq.{sets, length-sets, drop-cons}
 use borrow.Author.Tests.{eq-eqb, ne-eqb, lt-ltb, le-ltb}
 use Rattle.limits.specs.Limits.{textLimit, wordLimit}
+use Rattle.lists.specs.Number.{numberAt}
 use Rattle.lists.proofs.Buffers.{sets-append}
 use Rattle.words.specs.Split.{SPACE, classOf, begins, wordOf, add, words, splitOf}
 use Rattle.words.specs.Split.Out.{refused, made}
@@ -64,7 +65,7 @@ splitting-length {out₀ = out₀} h = ap length (h .stored) ∙ length-sets out
 -- The definition at byte i.
 words-at : (text : List ℕ) (i p : ℕ) (ws : List ℕ) → i < length text
     → words (drop i text) p ws
-    ≡ let c = classOf (getD text i 0) in
+    ≡ let c = classOf (numberAt text i) in
     let one = add (wordOf c (drop i text)) ws (λ more. words (drop (i + 1) text) c more) in
     cond (begins p c) (cond (eqb (length ws) wordLimit) (refused 4) one) (words (drop (i + 1) text) c ws)
 unfolding words
@@ -72,7 +73,7 @@ words-at text i p ws h = rw (add-one i, drop-cons text i 0 h)
 
 -- What the byte at i, of class c, does.
 module _ {text out₀ out : List ℕ} {count i : ℕ} (h : Splitting text out₀ out count i) (l : i < length text) (c : ℕ)
-    (e : c ≡ classOf (getD text i 0)) where
+    (e : c ≡ classOf (numberAt text i)) where
   turn : words text SPACE []
       ≡ let one = add (wordOf c (drop i text)) (h .ws) (λ more. words (drop (i + 1) text) c more) in
       cond (begins SPACE c) (cond (eqb count wordLimit) (refused 4) one) (words (drop (i + 1) text) c (h .ws))

@@ -6,9 +6,12 @@ use Prim.Native.Nat.{ℕ, _+_, _<_}
 use native.Mathlib.Numerals.{add-one}
 use native.Mathlib.Omega.{arith}
 use lib.Dec.{eqb}
-use lib.ListN.{length, getD, drop}
+use lib.ListN.{length, drop}
 use lib.Seq.{drop-cons, drop-drop}
 use borrow.Author.Tests.{eqb-true, eqb-false, ne-eqb}
+use Rattle.lists.specs.Text.{byte}
+use Rattle.lists.specs.Number.{numberAt}
+use Rattle.lists.specs.Decimal.{isDigit}
 use Rattle.words.specs.Word.{LT, EQ, GT}
 use Rattle.words.specs.Split.{SPACE, RUN, OTHER, classOf, goesOn, run, words}
 use Rattle.words.specs.Width.{operatorWidth, widthOf}
@@ -16,7 +19,7 @@ use Rattle.words.proofs.Classes.{no-equals}
 use Rattle.words.proofs.Runs.{run-some}
 
 -- Where no word goes on.
-afresh : (p : ℕ) (l ws : List ℕ) → goesOn p (classOf (getD l 0 0)) ≡ false → words l p ws ≡ words l SPACE ws
+afresh : (p : ℕ) (l ws : List ℕ) → goesOn p (classOf (numberAt l 0)) ≡ false → words l p ws ≡ words l SPACE ws
 unfolding words
 afresh p [] ws h = refl
 afresh p (b ∷ l) ws h = rw h
@@ -37,19 +40,19 @@ past-run (b ∷ l) ws = past-run-at b l ws (eqb (classOf b) RUN) refl (past-run 
 
 -- After an operator of class c at the byte b.
 module _ (c b : ℕ) (n : c ≡ RUN → ⊥) where
-  operator-past : (l ws : List ℕ) (x y : Bool) → (eqb c LT || eqb c GT) ≡ x → eqb (getD l 0 0) 61 ≡ y
+  operator-past : (l ws : List ℕ) (x y : Bool) → (eqb c LT || eqb c GT) ≡ x → eqb (numberAt l 0) (byte "=") ≡ y
       → words l c ws ≡ words (drop (cond (x && y) 2 1) (b ∷ l)) SPACE ws
-  unfolding words classOf
+  unfolding words classOf isDigit
   operator-past l ws false y p q = afresh c l ws (simp (ne-eqb c RUN n, p))
   operator-past l ws true false p q =
-      afresh c l ws (simp (ne-eqb c RUN n, p, no-equals (getD l 0 0) (eqb-false _ 61 q)))
+      afresh c l ws (simp (ne-eqb c RUN n, p, no-equals (numberAt l 0) (eqb-false _ (byte "=") q)))
   operator-past [] ws true true p q = absurd (eqb-false 0 1 refl (cc))
-  operator-past (d ∷ l) ws true true p q = rw (eqb-true d 61 q) (simp (ne-eqb c RUN n, p) (afresh EQ l ws refl))
+  operator-past (d ∷ l) ws true true p q = rw (eqb-true d (byte "=") q) (simp (ne-eqb c RUN n, p) (afresh EQ l ws refl))
 
 -- After the word of class c at the byte b.
 word-past : (c b : ℕ) (l ws : List ℕ) → c ≡ classOf b → (z : Bool) → eqb c RUN ≡ z
     → words l c ws
-    ≡ words (drop (cond z (length (run (b ∷ l))) (operatorWidth c (getD l 0 0))) (b ∷ l)) SPACE ws
+    ≡ words (drop (cond z (length (run (b ∷ l))) (operatorWidth c (numberAt l 0))) (b ∷ l)) SPACE ws
 unfolding run
 word-past c b l ws e true t =
     let is-run = eqb-true c RUN t in
@@ -57,12 +60,12 @@ word-past c b l ws e true t =
 word-past c b l ws e false t = operator-past c b (eqb-false c RUN t) l ws _ _ refl refl
 
 -- The same at the byte i of a text.
-pub text-past : (text : List ℕ) (i c : ℕ) (ws : List ℕ) → i < length text → c ≡ classOf (getD text i 0)
+pub text-past : (text : List ℕ) (i c : ℕ) (ws : List ℕ) → i < length text → c ≡ classOf (numberAt text i)
     → words (drop (i + 1) text) c ws ≡ words (drop (i + widthOf c (drop i text)) text) SPACE ws
 unfolding widthOf
 text-past text i c ws h e =
     rw (← (drop-drop (widthOf c (drop i text)) i text), drop-cons text i 0 h, add-one i)
-    (word-past c (getD text i 0) _ ws e (eqb c RUN) refl)
+    (word-past c (numberAt text i) _ ws e (eqb c RUN) refl)
 
 -- The width of a word, by the class of its first byte.
 module _ (l : List ℕ) (c : ℕ) where
@@ -74,7 +77,7 @@ module _ (l : List ℕ) (c : ℕ) where
   unfolding widthOf
   width-none e = simp e
 
-  pub width-operator : (c ≡ RUN → ⊥) → widthOf c l ≡ operatorWidth c (getD l 1 0)
+  pub width-operator : (c ≡ RUN → ⊥) → widthOf c l ≡ operatorWidth c (numberAt l 1)
   unfolding widthOf
   width-operator r = simp (ne-eqb c RUN r)
 
@@ -85,9 +88,9 @@ some-at n true true false h = omega arith
 some-at n true false false h = omega arith
 some-at n false y false h = omega arith
 
-pub width-some : (text : List ℕ) (i c : ℕ) → i < length text → c ≡ classOf (getD text i 0)
+pub width-some : (text : List ℕ) (i c : ℕ) → i < length text → c ≡ classOf (numberAt text i)
     → 0 < widthOf c (drop i text)
 unfolding widthOf
 width-some text i c h e =
-    some-at _ (eqb c LT || eqb c GT) (eqb (getD (drop i text) 1 0) 61) (eqb c RUN)
+    some-at _ (eqb c LT || eqb c GT) (eqb (numberAt (drop i text) 1) (byte "=")) (eqb c RUN)
     (λ t. run-some text i h (sym e ∙ eqb-true c RUN t))

@@ -2,11 +2,14 @@
 use mathlib.Core.Bool.{Bool, not, _&&_, _||_, cond}
 use mathlib.Core.List.{List, [], _∷_, _++_}
 use Prim.Native.Nat.{ℕ, suc, _+_, _-_}
+use Prim.Native.String.{String}
 use lib.Dec.{eqb, ltb}
-use lib.ListN.{length, getD, drop}
-use Rattle.limits.specs.Limits.{textLimit, wordLimit, signalCount, parameterCount, literalCount}
+use lib.ListN.{length, drop}
+use Rattle.limits.specs.Limits.{textLimit, wordLimit, signalCount, parameterCount, lastLiteral}
+use Rattle.lists.specs.Text.{byte}
+use Rattle.lists.specs.Number.{numberAt}
 use Rattle.lists.specs.Same.{same}
-use Rattle.lists.specs.Decimal.{Numeral, numeral}
+use Rattle.lists.specs.Decimal.{Numeral, isDigit, numeral}
 use Rattle.lists.specs.Decimal.Numeral.{is, above, missing}
 use Rattle.words.specs.Word.{ROUND, ROUND-END, SQUARE, SQUARE-END, NOT, AND, OR, LE, LT, EQ, GT, GE}
 use Rattle.words.specs.Word.{BEGIN, PARAMETER, SIGNAL, LITERAL, keywords, within}
@@ -29,21 +32,24 @@ pub record Operator : Type 0 where
   pub byte : ℕ
   pub word : ℕ
 
-abbrev pub operator : ℕ → ℕ → Operator
-operator b w = record { byte = b; word = w }
+abbrev pub operator : String → ℕ → Operator
+operator s w = record { byte = byte s; word = w }
 
 abbrev pub operators : List Operator
 operators =
-    operator 40 ROUND ∷ operator 41 ROUND-END ∷ operator 91 SQUARE ∷ operator 93 SQUARE-END ∷ operator 33 NOT ∷
-    operator 38 AND ∷ operator 124 OR ∷ operator 60 LT ∷ operator 61 EQ ∷ operator 62 GT ∷ []
+    operator "(" ROUND ∷ operator ")" ROUND-END ∷ operator "[" SQUARE ∷ operator "]" SQUARE-END ∷ operator "!" NOT ∷
+    operator "&" AND ∷ operator "|" OR ∷ operator "<" LT ∷ operator "=" EQ ∷ operator ">" GT ∷ []
 
 abbrev pub wordAmong : List Operator → ℕ → ℕ
 wordAmong [] b = OTHER
 wordAmong (o ∷ os) b = cond (eqb b (o .byte)) (o .word) (wordAmong os b)
 
 -- "a longest run of `a` to `z` and `0` to `9`"
+abbrev pub inRun : ℕ → Bool
+inRun b = within (byte "a") (byte "z") b || isDigit b
+
 unfoldable pub classOf : ℕ → ℕ
-classOf b = cond (within 97 122 b || within 48 57 b) RUN (cond (eqb b 32) SPACE (wordAmong operators b))
+classOf b = cond (inRun b) RUN (cond (eqb b (byte " ")) SPACE (wordAmong operators b))
 
 -- A byte of class c goes on with the word of the byte before it, of class p: a run goes on, and `=` after `<` or `>`.
 abbrev pub goesOn : ℕ → ℕ → Bool
@@ -87,18 +93,18 @@ numberOf base max l = wordFrom base (numeral max l)
 unfoldable pub runOf : List ℕ → Word
 runOf r =
     cond (ltb 0 (keywordOf r)) (Made (keywordOf r))
-    (cond (eqb (getD r 0 0) 115) (numberOf SIGNAL (signalCount - 1) (drop 1 r))
-    (cond (eqb (getD r 0 0) 107) (numberOf PARAMETER (parameterCount - 1) (drop 1 r))
-    (numberOf LITERAL (literalCount - 1) r)))
+    (cond (eqb (numberAt r 0) (byte "s")) (numberOf SIGNAL (signalCount - 1) (drop 1 r))
+    (cond (eqb (numberAt r 0) (byte "k")) (numberOf PARAMETER (parameterCount - 1) (drop 1 r))
+    (numberOf LITERAL lastLiteral r)))
 
 -- "by longest match": `<` and `>` with a `=` behind them.
 abbrev pub longest : ℕ → ℕ → Word
 longest c next =
-    Made (cond (eqb c LT && eqb next 61) LE (cond (eqb c GT && eqb next 61) GE c))
+    Made (cond (eqb c LT && eqb next (byte "=")) LE (cond (eqb c GT && eqb next (byte "=")) GE c))
 
 -- The word at the front of a text whose first byte is of class c.
 unfoldable pub wordOf : ℕ → List ℕ → Word
-wordOf c l = cond (eqb c RUN) (runOf (run l)) (cond (eqb c OTHER) (Bad 2) (longest c (getD l 1 0)))
+wordOf c l = cond (eqb c RUN) (runOf (run l)) (cond (eqb c OTHER) (Bad 2) (longest c (numberAt l 1)))
 
 -- What splitting a text gives: its words, or the first refusal.
 pub data Out : Type 0 where

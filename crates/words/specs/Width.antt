@@ -4,14 +4,16 @@ use mathlib.Core.Bool.{_&&_, _||_, cond}
 use mathlib.Core.List.{List}
 use Prim.Native.Nat.{ℕ}
 use lib.Dec.{eqb}
-use lib.ListN.{length, getD}
+use lib.ListN.{length}
+use Rattle.lists.specs.Text.{byte}
+use Rattle.lists.specs.Number.{numberAt}
 use Rattle.words.specs.Word.{LT, GT}
 use Rattle.words.specs.Split.{RUN, run}
 
 -- An operator byte of class c before the byte next: `<` and `>` go with a `=` behind them.
 abbrev pub operatorWidth : ℕ → ℕ → ℕ
-operatorWidth c next = cond ((eqb c LT || eqb c GT) && eqb next 61) 2 1
+operatorWidth c next = cond ((eqb c LT || eqb c GT) && eqb next (byte "=")) 2 1
 
 -- The word at the front of a text whose first byte is of class c.
 unfoldable pub widthOf : ℕ → List ℕ → ℕ
-widthOf c l = cond (eqb c RUN) (length (run l)) (operatorWidth c (getD l 1 0))
+widthOf c l = cond (eqb c RUN) (length (run l)) (operatorWidth c (numberAt l 1))

@@ -3,7 +3,7 @@ use mathlib.Core.Bool.{Bool, _&&_, _||_}
 use mathlib.Core.List.{List, [], _∷_}
 use Prim.Native.Nat.{ℕ, _+_, _-_}
 use lib.Dec.{leb}
-use Rattle.limits.specs.Limits.{signalCount, parameterCount, literalCount}
+use Rattle.limits.specs.Limits.{signalCount, parameterCount, lastLiteral}
 use Rattle.lists.specs.Text.{bytes}
 
 -- "A word is `( ) [ ] ! & | <= < = > >=` by longest match, or a longest run of `a` to `z` and `0` to `9`."
@@ -87,7 +87,7 @@ LITERAL = 1000000
 
 -- The highest word.
 abbrev pub lastWord : ℕ
-lastWord = LITERAL + (literalCount - 1)
+lastWord = LITERAL + lastLiteral
 
 -- A number from lo to hi.
 abbrev pub within : ℕ → ℕ → ℕ → Bool

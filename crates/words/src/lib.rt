@@ -4,8 +4,9 @@ ghost use mathlib.Core.Path.{_≡_};
 ghost use mathlib.Core.Bool.{cond};
 ghost use Prim.Native.Nat.{_+_, _≤_, _<_, _^_};
 ghost use lib.Dec.{eqb, ltb};
-ghost use lib.ListN.{length, getD, drop};
+ghost use lib.ListN.{length, drop};
 ghost use Rattle.limits.specs.Limits.{wordLimit, literalCount};
+ghost use Rattle.lists.specs.Number.{numberAt};
 ghost use Rattle.words.specs.Word.{LITERAL, within, isOp, isSignal, isNum, isBit, isTest, isCount};
 ghost use Rattle.words.specs.Split.{RUN, classOf, run, spelledOr, keywordOf, numberOf, runOf};
 ghost use Rattle.words.specs.Split.{longest, wordOf};
@@ -65,12 +66,10 @@ pub const SIGNAL: u32 = 64;
 
 pub const LITERAL: u32 = 1000000;
 
-// The highest number of a signal, a parameter and a literal.
+// The highest number of a signal and of a parameter.
 const LAST_SIGNAL: u32 = limits::SIGNALS - 1;
 
 const LAST_PARAMETER: u32 = limits::PARAMETERS as u32 - 1;
-
-const LAST_LITERAL: u32 = limits::LITERALS - 1;
 
 // Classes of bytes beside the operators, whose class is their word.
 const SPACE: u32 = 0;
@@ -209,7 +208,7 @@ fn run_word(run: &[u8]) -> Word
     match run[0] {
         b's' => number(&run[1..], SIGNAL, LAST_SIGNAL),
         b'k' => number(&run[1..], PARAMETER, LAST_PARAMETER),
-        _ => number(run, LITERAL, LAST_LITERAL),
+        _ => number(run, LITERAL, limits::LAST_LITERAL),
     }
 }
 
@@ -242,7 +241,7 @@ fn operator_at(c: u32, next: u8, i: usize) -> Token
 
 // The word that begins at i with a byte of class c.
 fn word_at(text: &[u8], i: usize, c: u32) -> Token
-    requires { ⌜ (i < length (now text)) × (c ≡ classOf (getD (now text) i 0)) ⌝ }
+    requires { ⌜ (i < length (now text)) × (c ≡ classOf (numberAt (now text) i)) ⌝ }
     ensures { λ r. ⌜ (r .word ≡ wordOf c (drop i (now (text .entry))))
         × (r .end ≡ i + widthOf c (drop i (now (text .entry)))) ⌝ }
 {

@@ -1,9 +1,9 @@
 -- `words::class` meets its contract: at a single byte the definition computes; else the tests decide. Assumes nothing.
 use mathlib.Core.Path.{_≡_, sym, ap}
 use Prim.Native.Nat.{ℕ}
-use native.Mathlib.Omega.{arith}
+use Rattle.lists.specs.Decimal.{isDigit}
 use Rattle.words.specs.Split.{classOf}
-use Rattle.words.proofs.Classes.{within-below, within-above, letter, digit, no-run, other}
+use Rattle.words.proofs.Classes.{letter-in-run, digit-in-run, below-digits, between, above-letters, other}
 use Rattle.words.proofs.class.Statement.{statement}
 use Rattle.words.proofs.class.Tie as tie
 
@@ -11,36 +11,8 @@ use Rattle.words.proofs.class.Tie as tie
 known : {b k : ℕ} → b ≡ k → classOf k ≡ classOf b
 known e = sym (ap classOf e)
 
--- Digits, then letters.
-digit-run : tie.Need-returns-12
-digit-run c = let b = c .before .before .before .args .b in sym (digit b (c .before .if1 .left) (c .if2 .taken))
-
-letter-run : tie.Need-returns-13
-letter-run c =
-    let b = c .before .before .before .before .before .args .b in
-    sym (letter b (c .before .if3 .left) (c .if4 .taken))
-
--- Any other byte, below the digits, between digits and letters, above the letters.
-below-digits : tie.Need-returns-14
-below-digits c =
-    let b = c .before .before .args .b in
-    let no = no-run b (within-below 97 122 b (omega arith)) (within-below 48 57 b (c .if1 .taken)) in
-    sym (other b no (c .before .match .rest))
-
-between : tie.Need-returns-15
-between c =
-    let b = c .before .before .before .before .args .b in
-    let no = no-run b (within-below 97 122 b (c .if3 .taken)) (within-above 48 57 b (c .before .if2 .left)) in
-    sym (other b no (c .before .before .before .match .rest))
-
-above-letters : tie.Need-returns-16
-above-letters c =
-    let b = c .before .before .before .before .before .args .b in
-    let no = no-run b (within-above 97 122 b (c .if4 .left)) (within-above 48 57 b (c .before .before .if2 .left)) in
-    sym (other b no (c .before .before .before .before .match .rest))
-
 pub class-spec : {M : Type 1} → statement M
-unfolding classOf
+unfolding classOf isDigit
 class-spec =
     tie.close
     (tie.spec
@@ -55,8 +27,8 @@ class-spec =
     (λ c. known (c .match .keys9))
     (λ c. known (c .match .keys10))
     (λ c. known (c .match .keys11))
-    digit-run
-    letter-run
-    below-digits
-    between
-    above-letters)
+    (λ c. sym (digit-in-run _ (c .before .if1 .left) (c .if2 .taken)))
+    (λ c. sym (letter-in-run _ (c .before .if3 .left) (c .if4 .taken)))
+    (λ c. sym (other _ (below-digits _ (c .if1 .taken)) (c .before .match .rest)))
+    (λ c. sym (other _ (between _ (c .before .if2 .left) (c .if3 .taken)) (c .before .before .before .match .rest)))
+    (λ c. sym (other _ (above-letters _ (c .if4 .left)) (c .before .before .before .before .match .rest))))

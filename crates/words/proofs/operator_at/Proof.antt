@@ -2,29 +2,31 @@
 use mathlib.Core.Bool.{and-false}
 use borrow.Author.Needs.{needs}
 use borrow.Author.Tests.{eq-eqb, ne-eqb}
+use Rattle.lists.specs.Text.{byte}
+use Rattle.words.specs.Word.{LT, GT}
 use Rattle.words.proofs.operator_at.Statement.{statement}
 use Rattle.words.proofs.operator_at.Tie as tie
 
 next-other : tie.Need-returns
 next-other c =
-    let no-equals = ne-eqb _ 61 (c .if1 .taken) in
+    let no-equals = ne-eqb _ (byte "=") (c .if1 .taken) in
     (simp (no-equals, and-false), simp (no-equals, and-false))
 
 less-equals : tie.Need-returns-2
 less-equals c =
-    let equals = eq-eqb _ 61 (c .before .if1 .left) in
+    let equals = eq-eqb _ (byte "=") (c .before .if1 .left) in
     (simp (c .match .keys1, equals), simp (c .match .keys1, equals))
 
 greater-equals : tie.Need-returns-3
 greater-equals c =
-    let equals = eq-eqb _ 61 (c .before .if1 .left) in
+    let equals = eq-eqb _ (byte "=") (c .before .if1 .left) in
     (simp (c .match .keys2, equals), simp (c .match .keys2, equals))
 
 other-class : tie.Need-returns-4
 other-class c =
     let class = c .before .before .args .c in
-    let no-less = ne-eqb class 9 (c .match .rest .0 .1) in
-    let no-greater = ne-eqb class 11 (c .match .rest .1) in
+    let no-less = ne-eqb class LT (c .match .rest .0 .1) in
+    let no-greater = ne-eqb class GT (c .match .rest .1) in
     (simp (no-less, no-greater), simp (no-less, no-greater))
 
 pub operator-at-spec : {M : Type 1} → statement M
