@@ -18,7 +18,8 @@ use Rattle.words.specs.Word.{within, isOp, isSignal, isNum, isBit, isTest, isCo
 use Rattle.grammar.specs.Grammar.{Symbol, bitWord, signalWord, opWord, numWord, countWord}
 use Rattle.grammar.specs.Grammar.Symbol.{F, D, C, U, B}
 use Rattle.grammar.specs.Parse.{Result, Join, Unit as First, Atom, word, bind, joinOf, unitOf, atomOf}
-use Rattle.grammar.specs.Parse.{leafAt, withComparison, closed, stepF, stepD, stepC, stepExists, stepU, stepA, stepB}
+use Rattle.grammar.specs.Parse.{leafAt, withComparison, closed}
+use Rattle.grammar.specs.Parse.{stepF, stepD, stepC, stepExists, stepU, stepA, stepB}
 use Rattle.grammar.specs.Parse.{read}
 use Rattle.grammar.specs.Parse.Result.{no-rule, ok}
 use Rattle.grammar.specs.Parse.Goal.{goF, goD, goDs, goC, goCs, goU, goA, goB}

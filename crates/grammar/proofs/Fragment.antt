@@ -19,7 +19,7 @@ use Rattle.grammar.specs.Grammar.Symbol.{F, D, C, U, B}
 use Rattle.grammar.specs.Grammar.Derives.{F-one, F-then, F-chop, D-one, D-or, C-one, C-and}
 use Rattle.grammar.specs.Grammar.Derives.{U-not, U-exists, U-round, U-constant, U-signal}
 use Rattle.grammar.specs.Grammar.Derives.{U-test, U-len, U-count, B-square}
-use Rattle.grammar.specs.Fragment.{names, beyond}
+use Rattle.grammar.specs.Fragment.{hasWord, beyond}
 use Rattle.grammar.proofs.Position.{within-high, num-pos, bit-pos, signal-pos}
 
 -- ---- words
@@ -34,10 +34,10 @@ hits (w ∷ s) = hit w || hits s
 
 -- That is how `beyond` looks at them.
 beyond-hits : (s : List ℕ) → beyond s ≡ hits s
-unfolding names
+unfolding hasWord
 beyond-hits [] = refl
 beyond-hits (w ∷ s) =
-    swap (eqb w CHOP) (eqb w EXISTS) (names CHOP s) (names EXISTS s) ∙ ap (λ (x : Bool). hit w || x) (beyond-hits s)
+    swap (eqb w CHOP) (eqb w EXISTS) (hasWord CHOP s) (hasWord EXISTS s) ∙ ap (λ (x : Bool). hit w || x) (beyond-hits s)
   where
     swap : (a b c d : Bool) → (a || c) || (b || d) ≡ (a || b) || (c || d)
     swap true b c d = refl

@@ -6,10 +6,10 @@ use lib.Dec.{eqb}
 use Rattle.words.specs.Word.{CHOP, EXISTS}
 
 -- The word w stands among the words.
-unfoldable pub names : ℕ → List ℕ → Bool
-names w [] = false
-names w (x ∷ xs) = eqb x w || names w xs
+unfoldable pub hasWord : ℕ → List ℕ → Bool
+hasWord w [] = false
+hasWord w (x ∷ xs) = eqb x w || hasWord w xs
 
 -- "7: `chop` or `exists` stands in it."
 abbrev pub beyond : List ℕ → Bool
-beyond ws = names CHOP ws || names EXISTS ws
+beyond ws = hasWord CHOP ws || hasWord EXISTS ws

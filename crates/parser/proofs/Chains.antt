@@ -21,7 +21,7 @@ use Rattle.facts.specs.Facts.{factsOf, joinFacts}
 use Rattle.facts.specs.declared.Facts.{Facts}
 use Rattle.parser.specs.Contract.{Parses, Room, Pushed}
 use Rattle.parser.specs.declared.Parsed.the-variants.{At, No}
-use Rattle.parser.proofs.Stored.{Took, Turn, Space, pushed, stored-as, stored-on, says, fails}
+use Rattle.parser.proofs.Stored.{Took, PartsRead, Space, pushed, stored-as, stored-on, says, fails}
 use Rattle.parser.proofs.Stored.{space, past-word, past-tree}
 
 -- The goal g reads parts `sub` that the word op joins to trees `f a b`, with records of the kind `node`; `k a` is what
@@ -61,7 +61,7 @@ module _ {g : Goal} {k : Tree → Goal} {sub : Goal} {f : Tree → Tree → Tree
     (z : Chain g k sub f op node) where
   -- The word that joins leaves room for two records after the parts so far.
   pub joined : {ws : List ℕ} {i : ℕ} {before : List ℕ} {top n e : ℕ} {x : Facts} {mid : List ℕ} →
-      Room ws i before top → Turn g k ws i before top n e x mid → word ws n ≡ op → Space 8 ws (n + 1) mid e
+      Room ws i before top → PartsRead g k ws i before top n e x mid → word ws n ≡ op → Space 8 ws (n + 1) mid e
   joined {ws} {n = n} room h w = past-word (past-tree (space room) (h .part)) (inside ws n (omega (arith, z .real)))
 
   module _ {ws : List ℕ} {i : ℕ} {before : List ℕ} {top : ℕ} {after : List ℕ} where
@@ -70,24 +70,25 @@ module _ {g : Goal} {k : Tree → Goal} {sub : Goal} {f : Tree → Tree → Tree
     none e = fails _ (z .begins ws i) e
 
     pub first : {n e : ℕ} {x : Facts} → Took sub ws i before top n e x after →
-        Turn g k ws i before top n e x after
+        PartsRead g k ws i before top n e x after
     first h = record { part = h .part; is = z .begins ws i ∙ then-on _ (h .is) }
 
     -- no further part,
-    pub done : {n e : ℕ} {x : Facts} → Turn g k ws i before top n e x after → (word ws n ≡ op → ⊥) →
+    pub done : {n e : ℕ} {x : Facts} → PartsRead g k ws i before top n e x after → (word ws n ≡ op → ⊥) →
         Parses g ws i before top (At n e x) after
     done {n} h w =
         let a = h .part in
         says (a .tree) (h .is ∙ z .stops ws (a .tree) n w) (a .stored) (a .known)
 
-    module _ {n e : ℕ} {x : Facts} {mid : List ℕ} (h : Turn g k ws i before top n e x mid) (w : word ws n ≡ op) where
+    module _ {n e : ℕ} {x : Facts} {mid : List ℕ} (h : PartsRead g k ws i before top n e x mid)
+        (w : word ws n ≡ op) where
       -- one that is not there,
       pub missing : read ws sub (n + 1) ≡ no-rule → Parses g ws i before top No after
       missing e = fails _ (h .is ∙ z .turns ws (h .part .tree) n w) e
 
       -- and one more.
       pub more : {m e′ p : ℕ} {x′ x″ : Facts} {mid′ : List ℕ} → Took sub ws (n + 1) mid e m e′ x′ mid′ →
-          Pushed mid′ e′ node 0 0 0 p after → x″ ≡ joinFacts x x′ → Turn g k ws i before top m p x″ after
+          Pushed mid′ e′ node 0 0 0 p after → x″ ≡ joinFacts x x′ → PartsRead g k ws i before top m p x″ after
       more h′ u facts =
           let a = h .part .tree in
           let b = h′ .part .tree in

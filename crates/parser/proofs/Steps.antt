@@ -31,7 +31,7 @@ use Rattle.parser.specs.Contract.{comparisonRow, Parses, Pushed, ParsesL
 use Rattle.parser.specs.declared.Parsed.{Parsed}
 use Rattle.parser.specs.declared.Parsed.the-variants.{At, No}
 use Rattle.parser.proofs.Stored.{Stored, Took, stored-none, pushed, stored-as, stored-on}
-use Rattle.parser.proofs.Stored.{said-as, parses, says, says-no, fails}
+use Rattle.parser.proofs.Stored.{to-same, parses, says, says-no, fails}
 
 -- ---- reading by the word at hand
 
@@ -175,7 +175,7 @@ module _ {l : Bool} {ws : List ℕ} {i : ℕ} {before : List ℕ} {top : ℕ} {a
   module _ (no-not : word ws i ≡ Word.NOT → ⊥) (no-round : word ws i ≡ Word.ROUND → ⊥) where
     pub U-leaf : {r : Parsed} → l ≡ true → ParsesLeaf ws i before top r after → Parses (goU l) ws i before top r after
     U-leaf ins h =
-        parses (said-as (U-at ws l i unit-leaf (simp (ne-eqb _ _ no-not, ne-eqb _ _ no-round, ins)))
+        parses (to-same (U-at ws l i unit-leaf (simp (ne-eqb _ _ no-not, ne-eqb _ _ no-round, ins)))
         (record { result = h .result; filled = h .filled }))
 
     pub U-atom : {r : Parsed} → l ≡ false → (word ws i ≡ Word.EXISTS → ⊥) → Parses goA ws i before top r after →
@@ -183,7 +183,7 @@ module _ {l : Bool} {ws : List ℕ} {i : ℕ} {before : List ℕ} {top : ℕ} {a
     U-atom out no-exists h =
         let class : unitOf l (word ws i) ≡ unit-atom =
         simp (ne-eqb _ _ no-not, ne-eqb _ _ no-round, out, ne-eqb _ _ no-exists) in
-        parses (said-as (U-at ws l i unit-atom class) (record { result = h .result; filled = h .filled }))
+        parses (to-same (U-at ws l i unit-atom class) (record { result = h .result; filled = h .filled }))
 
 -- ---- atoms
 
@@ -204,7 +204,8 @@ module _ {ws : List ℕ} {i : ℕ} {before : List ℕ} {top : ℕ} {after : List
 
   -- op n ends an atom whose numbers so far are xs.
   A-compared : {xs : List ℕ} {j e k : ℕ} {r : Parsed} {mid : List ℕ} {lead : Bool} (tree : Op → Num → Tree) →
-      read ws goA i ≡ withComparison ws tree j → Stored before top xs e mid → ParsesComparison ws j mid e k lead r after →
+      read ws goA i ≡ withComparison ws tree j → Stored before top xs e mid →
+      ParsesComparison ws j mid e k lead r after →
       ((o : Op) (n : Num) → flat (tree o n) ≡ xs ++ comparisonRow k o n) →
       ((o : Op) (n : Num) → factsOf (tree o n) ≡ atomFacts (lead && upper o)) → Parses goA ws i before top r after
   A-compared {xs} {j} {e} {k} {r} {mid} {lead} tree is stored h flats facts =

@@ -78,8 +78,8 @@ pub record Took (g : Goal) (ws : List ℕ) (i : ℕ) (before : List ℕ) (top n 
 abbrev pub Gave : Goal → List ℕ → ℕ → List ℕ → ℕ → ℕ × (ℕ × (Facts × Unit {0})) → List ℕ → Type 0
 Gave g ws i before top x after = Took g ws i before top (x .0) (x .1 .0) (x .1 .1 .0) after
 
--- A loop at its head: what is to be read is what is to be read after the tree so far.
-pub record Turn (g : Goal) (k : Tree → Goal) (ws : List ℕ) (i : ℕ) (before : List ℕ) (top n e : ℕ) (f : Facts)
+-- The parts that a loop has read, as one tree: what is to be read is what is to be read after it.
+pub record PartsRead (g : Goal) (k : Tree → Goal) (ws : List ℕ) (i : ℕ) (before : List ℕ) (top n e : ℕ) (f : Facts)
     (after : List ℕ) : Type 0 where
   pub part : Part ws i before top n e f after
   pub is : read ws g i ≡ read ws (k (part .tree)) n
@@ -127,15 +127,15 @@ module _ {g : Goal} {ws : List ℕ} {i : ℕ} {before : List ℕ} {top : ℕ} {r
 -- ---- what a return has to say
 
 -- What the answer r and the arena say of a result x, as in `Parses` and in `ParsesLeaf`.
-pub record Said (x : Result) (before : List ℕ) (top : ℕ) (r : Parsed) (after : List ℕ) : Type 0 where
+pub record ParsesTo (x : Result) (before : List ℕ) (top : ℕ) (r : Parsed) (after : List ℕ) : Type 0 where
   pub result : r ≡ parsedOf x top
   pub filled : (t : Tree) (j : ℕ) → x ≡ ok t j → after ≡ sets before top (flat t)
 
 module _ {x : Result} {before : List ℕ} {top : ℕ} {after : List ℕ} where
   -- A tree that is read, stored and known,
-  pub said : {n e : ℕ} {f : Facts} (t : Tree) → x ≡ ok t n → Stored before top (flat t) e after → f ≡ factsOf t →
-      Said x before top (At n e f) after
-  said {n} t is stored known =
+  pub to-tree : {n e : ℕ} {f : Facts} (t : Tree) → x ≡ ok t n → Stored before top (flat t) e after → f ≡ factsOf t →
+      ParsesTo x before top (At n e f) after
+  to-tree {n} t is stored known =
       record {
         result = ap₂ (At n) (stored .end) known ∙ ap (λ (y : Result). parsedOf y top) (sym is);
         filled = λ t′ j q.
@@ -144,28 +144,28 @@ module _ {x : Result} {before : List ℕ} {top : ℕ} {after : List ℕ} where
       }
 
   -- or none;
-  pub said-no : x ≡ no-rule → Said x before top No after
-  said-no is =
+  pub to-none : x ≡ no-rule → ParsesTo x before top No after
+  to-none is =
       record {
         result = ap (λ (y : Result). parsedOf y top) (sym is);
         filled = λ t j q. cc;
       }
 
-  -- and what is said of another result that is the same.
-  pub said-as : {y : Result} {r : Parsed} → x ≡ y → Said y before top r after → Said x before top r after
-  said-as {r = r} q h = subst (λ (z : Result). Said z before top r after) (sym q) h
+  -- and the same of another result that is equal.
+  pub to-same : {y : Result} {r : Parsed} → x ≡ y → ParsesTo y before top r after → ParsesTo x before top r after
+  to-same {r = r} q h = subst (λ (z : Result). ParsesTo z before top r after) (sym q) h
 
 module _ {g : Goal} {ws : List ℕ} {i : ℕ} {before : List ℕ} {top : ℕ} {after : List ℕ} where
   -- In the terms of the contracts.
-  pub parses : {r : Parsed} → Said (read ws g i) before top r after → Parses g ws i before top r after
+  pub parses : {r : Parsed} → ParsesTo (read ws g i) before top r after → Parses g ws i before top r after
   parses h = record { result = h .result; filled = h .filled }
 
   pub says : {n e : ℕ} {f : Facts} (t : Tree) → read ws g i ≡ ok t n → Stored before top (flat t) e after →
       f ≡ factsOf t → Parses g ws i before top (At n e f) after
-  says t is stored known = parses (said t is stored known)
+  says t is stored known = parses (to-tree t is stored known)
 
   pub says-no : read ws g i ≡ no-rule → Parses g ws i before top No after
-  says-no is = parses (said-no is)
+  says-no is = parses (to-none is)
 
   -- None is read where what is read first is not there.
   pub fails : {s : Result} (f : Tree → ℕ → Result) → read ws g i ≡ bind s f → s ≡ no-rule →

@@ -9,7 +9,7 @@ use Rattle.words.specs.Split.Out.{made}
 use Rattle.formulas.specs.Tree.{Tree, leads}
 use Rattle.grammar.specs.Fragment.{beyond}
 use Rattle.grammar.specs.Parse.{treeOf}
-use Rattle.rules.specs.Limits.{over}
+use Rattle.rules.specs.Limits.{beyondLimits}
 use Rattle.rules.specs.Reading.{ofWords, ofTree}
 use Rattle.rules.specs.Reading.Outcome.{refused, rule}
 
@@ -19,14 +19,14 @@ refused-rule q = let z : _≡_ {A = ℕ} 0 1 = cc in omega arith
 
 module _ (ws : List ℕ) where
   -- Over the limits;
-  pub over-words : over ws ≡ true → ofWords (made ws) ≡ refused 5
-  over-words o = ap (λ (b : Bool). cond b (refused 5) (ofTree ws (treeOf ws))) o
+  pub limits-words : beyondLimits ws ≡ true → ofWords (made ws) ≡ refused 5
+  limits-words o = ap (λ (b : Bool). cond b (refused 5) (ofTree ws (treeOf ws))) o
 
   -- within them, what the parser's tree decides;
-  pub tree-words : {x : Option Tree} → over ws ≡ false → treeOf ws ≡ x → ofWords (made ws) ≡ ofTree ws x
+  pub tree-words : {x : Option Tree} → beyondLimits ws ≡ false → treeOf ws ≡ x → ofWords (made ws) ≡ ofTree ws x
   tree-words o e = ap (λ (b : Bool). cond b (refused 5) (ofTree ws (treeOf ws))) o ∙ ap (ofTree ws) e
 
-  module _ {t : Tree} (o : over ws ≡ false) (e : treeOf ws ≡ some t) where
+  module _ {t : Tree} (o : beyondLimits ws ≡ false) (e : treeOf ws ≡ some t) where
     -- outside the fragment;
     pub beyond-words : beyond ws ≡ true → ofWords (made ws) ≡ refused 7
     beyond-words f = tree-words o e ∙ ap (λ (b : Bool). cond b (refused 7) (cond (leads t) (rule t) (refused 8))) f

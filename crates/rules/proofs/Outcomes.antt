@@ -12,7 +12,7 @@ use borrow.Author.Tests.{eq-eqb, ne-eqb}
 use Rattle.limits.specs.Limits.{wordLimit, arenaLimit}
 use Rattle.words.specs.Split.{Out, splitOf}
 use Rattle.words.specs.Split.Out.{made}
-use Rattle.words.specs.Answer as words
+use Rattle.words.specs.Contract.{splitAnswer, Splits}
 use Rattle.words.specs.declared.Split.{Split}
 use Rattle.words.specs.declared.Split.the-variants.{Words, Refused as No-words}
 use Rattle.formulas.specs.Tree.{Tree}
@@ -24,7 +24,7 @@ use Rattle.grammar.specs.Parse.Goal.{goF}
 use Rattle.grammar.proofs.Theorems.{tree-rule, rule-size}
 use Rattle.facts.specs.declared.Facts.{Facts}
 use Rattle.parser.proofs.Stored.{Took}
-use Rattle.rules.specs.Limits.{over}
+use Rattle.rules.specs.Limits.{beyondLimits}
 use Rattle.rules.specs.Reading.{ruleOf, ofWords}
 use Rattle.rules.specs.Reading.Outcome.{refused, rule}
 use Rattle.rules.specs.Contract.{Laid, recordsOf, splitRefusal}
@@ -48,7 +48,7 @@ module _ (ws : List ℕ) where
 -- A tree was read to the last word, and its records stand from 0 up to `top`.
 module _ {ws before : List ℕ} {next top : ℕ} {facts : Facts} {after : List ℕ}
     (h : Took (goF false) ws 0 before 0 next top facts after)
-    (few : length ws ≤ wordLimit) (in-limits : over ws ≡ false) (whole : next ≡ length ws) where
+    (few : length ws ≤ wordLimit) (in-limits : beyondLimits ws ≡ false) (whole : next ≡ length ws) where
   whole-tree : treeOf ws ≡ some (h .part .tree)
   whole-tree = tree-is ws (h .is) ∙ ap (λ (b : Bool). cond b (some (h .part .tree)) none) (eq-eqb _ _ whole)
 
@@ -94,14 +94,14 @@ pub record Made (text before : List ℕ) (n : ℕ) (after : List ℕ) : Type 0 w
   pub few : n ≤ wordLimit
   pub filled : after ≡ sets before 0 ws
 
-module _ {text before : List ℕ} {r : Split} {after : List ℕ} (h : words.Splits text before r after) where
+module _ {text before : List ℕ} {r : Split} {after : List ℕ} (h : Splits text before r after) where
   pub made-of : {n : ℕ} → r ≡ Words n → Made text before n after
   made-of {n} q = go (splitOf text) refl
     where
       go : (x : Out) → splitOf text ≡ x → Made text before n after
-      go (Out.refused k) p = absurd (no-words (sym (h .result ∙ ap words.answerOf p) ∙ q))
+      go (Out.refused k) p = absurd (no-words (sym (h .result ∙ ap splitAnswer p) ∙ q))
       go (made ws) p =
-          let b : Words (length ws) ≡ Words n = sym (h .result ∙ ap words.answerOf p) ∙ q in
+          let b : Words (length ws) ≡ Words n = sym (h .result ∙ ap splitAnswer p) ∙ q in
           let c : n ≡ length ws = cc in
           record { ws = ws; is = p; count = c; few = omega (arith, h .few ws p); filled = h .filled ws p }
 
@@ -110,8 +110,8 @@ module _ {text before : List ℕ} {r : Split} {after : List ℕ} (h : words.Spli
   refused-of {m = m} q e = go (splitOf text) refl
     where
       go : (x : Out) → splitOf text ≡ x → ofWords (splitOf text) ≡ refused m
-      go (Out.refused n) p = ap ofWords p ∙ ap refused (sym (e ∙ ap splitRefusal (h .result ∙ ap words.answerOf p)))
-      go (made ws) p = absurd (no-words (sym q ∙ h .result ∙ ap words.answerOf p))
+      go (Out.refused n) p = ap ofWords p ∙ ap refused (sym (e ∙ ap splitRefusal (h .result ∙ ap splitAnswer p)))
+      go (made ws) p = absurd (no-words (sym q ∙ h .result ∙ ap splitAnswer p))
 
 module _ {text before : List ℕ} {n : ℕ} {after : List ℕ} (h : Made text before n after)
     (room : wordLimit ≤ length before) where

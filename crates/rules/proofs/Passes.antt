@@ -12,8 +12,8 @@ use lib.ListN.{length, getD, drop, drop-of-length-le}
 use lib.Seq.{drop-cons}
 use borrow.Author.Tests.{lt-ltb, le-ltb}
 use Rattle.words.specs.Word.{CHOP, EXISTS}
-use Rattle.grammar.specs.Fragment.{names, beyond}
-use Rattle.rules.specs.Limits.{bracketLimit, operatorLimit, opened, deep, counted, tally, over}
+use Rattle.grammar.specs.Fragment.{hasWord, beyond}
+use Rattle.rules.specs.Limits.{bracketLimit, operatorLimit, opened, deep, counted, operatorCount, beyondLimits}
 
 or-eq-false-left : (a b : Bool) → (a || b) ≡ false → a ≡ false
 or-eq-false-left true b e = e
@@ -35,14 +35,14 @@ regroup false false false r s = refl
 module _ (ws : List ℕ) (i : ℕ) where
   beyond-at : (b : Bool) → i < length ws → let w = getD ws i 0 in
       ((b || (eqb w CHOP || eqb w EXISTS)) || beyond (drop (i + 1) ws)) ≡ (b || beyond (drop i ws))
-  unfolding names
+  unfolding hasWord
   beyond-at b h =
       let w = getD ws i 0 in
       let rest = drop (i + 1) ws in
-      rw (words-at ws i h) (regroup b (eqb w CHOP) (eqb w EXISTS) (names CHOP rest) (names EXISTS rest))
+      rw (words-at ws i h) (regroup b (eqb w CHOP) (eqb w EXISTS) (hasWord CHOP rest) (hasWord EXISTS rest))
 
   beyond-end : length ws ≤ i → beyond (drop i ws) ≡ false
-  unfolding names
+  unfolding hasWord
   beyond-end h = ap beyond (drop-of-length-le ws h)
 
 -- ---- round brackets open, d before position i
@@ -68,16 +68,16 @@ module _ (d : ℕ) (ws : List ℕ) (i : ℕ) where
 -- ---- how many words are counted
 
 module _ (ws : List ℕ) (i : ℕ) where
-  tally-at : i < length ws → (b : Bool) → counted (getD ws i 0) ≡ b
-      → tally (drop i ws) ≡ cond b (suc (tally (drop (i + 1) ws))) (tally (drop (i + 1) ws))
-  unfolding tally
-  tally-at h b e =
-      ap tally (words-at ws i h)
-      ∙ ap (λ (x : Bool). cond x (suc (tally (drop (i + 1) ws))) (tally (drop (i + 1) ws))) e
+  operators-at : i < length ws → (b : Bool) → counted (getD ws i 0) ≡ b
+      → operatorCount (drop i ws) ≡ cond b (suc (operatorCount (drop (i + 1) ws))) (operatorCount (drop (i + 1) ws))
+  unfolding operatorCount
+  operators-at h b e =
+      ap operatorCount (words-at ws i h)
+      ∙ ap (λ (x : Bool). cond x (suc (operatorCount (drop (i + 1) ws))) (operatorCount (drop (i + 1) ws))) e
 
-  tally-end : length ws ≤ i → tally (drop i ws) ≡ 0
-  unfolding tally
-  tally-end h = ap tally (drop-of-length-le ws h)
+  operators-end : length ws ≤ i → operatorCount (drop i ws) ≡ 0
+  unfolding operatorCount
+  operators-end h = ap operatorCount (drop-of-length-le ws h)
 
 -- ---- one pass over the words
 
@@ -87,7 +87,7 @@ pub record Passed (ws : List ℕ) (depth n : ℕ) (b : Bool) (i : ℕ) : Type 0 
   pub low : depth ≤ bracketLimit
   pub few : n ≤ i
   pub deep-left : deep depth (drop i ws) ≡ deep 0 ws
-  pub tally-left : n + tally (drop i ws) ≡ tally ws
+  pub operators-left : n + operatorCount (drop i ws) ≡ operatorCount ws
   pub beyond-left : (b || beyond (drop i ws)) ≡ beyond ws
 
 pub passed-none : (ws : List ℕ) → Passed ws 0 0 false 0
@@ -97,7 +97,7 @@ passed-none ws =
       low = omega arith;
       few = omega arith;
       deep-left = refl;
-      tally-left = zero-add _;
+      operators-left = zero-add _;
       beyond-left = refl;
     }
 
@@ -107,9 +107,9 @@ module _ {ws : List ℕ} {depth n : ℕ} {b : Bool} {i : ℕ} (h : Passed ws dep
   passed-deep l m = sym (h .deep-left) ∙ deep-here depth ws i l m
 
   counts : (x : Bool) (n′ : ℕ) → i < length ws → counted (getD ws i 0) ≡ x → n′ ≡ cond x (suc n) n
-      → (n′ ≤ i + 1) × (n′ + tally (drop (i + 1) ws) ≡ tally ws)
-  counts true n′ l e c = omega (arith, h .few, h .tally-left, tally-at ws i l true e)
-  counts false n′ l e c = omega (arith, h .few, h .tally-left, tally-at ws i l false e)
+      → (n′ ≤ i + 1) × (n′ + operatorCount (drop (i + 1) ws) ≡ operatorCount ws)
+  counts true n′ l e c = omega (arith, h .few, h .operators-left, operators-at ws i l true e)
+  counts false n′ l e c = omega (arith, h .few, h .operators-left, operators-at ws i l false e)
 
   -- The word at i.
   pub passed-one : (x : Bool) {depth′ n′ : ℕ} {b′ : Bool} → i < length ws → depth′ ≡ opened depth (getD ws i 0)
@@ -124,7 +124,7 @@ module _ {ws : List ℕ} {depth n : ℕ} {b : Bool} {i : ℕ} (h : Passed ws dep
         deep-left =
             ap (λ (k : ℕ). deep k (drop (i + 1) ws)) d
             ∙ sym (deep-later depth ws i l (omega arith)) ∙ h .deep-left;
-        tally-left = more .1;
+        operators-left = more .1;
         beyond-left = rw g (beyond-at ws i b l) ∙ h .beyond-left;
       }
 
@@ -133,16 +133,17 @@ module _ {ws : List ℕ} {depth n : ℕ} {b : Bool} {i : ℕ} (h : Passed ws dep
     not-deep : deep 0 ws ≡ false
     not-deep = sym (h .deep-left) ∙ deep-never depth ws i l
 
-    pub passed-over : ltb operatorLimit n ≡ over ws
-    passed-over =
-        let all : n ≡ tally ws = omega (arith, h .tally-left, tally-end ws i l) in
+    pub passed-limits : ltb operatorLimit n ≡ beyondLimits ws
+    passed-limits =
+        let all : n ≡ operatorCount ws = omega (arith, h .operators-left, operators-end ws i l) in
         rw (all, not-deep)
 
     pub passed-beyond : b ≡ (not (deep 0 ws) && beyond ws)
     passed-beyond = rw (not-deep, ← (h .beyond-left), beyond-end ws i l) (sym (or-false b))
 
 -- What the pass tells of `chop` and `exists` where no limit is passed.
-pub beyond-told : (ws : List ℕ) {r : Bool} → over ws ≡ false → r ≡ (not (deep 0 ws) && beyond ws) → beyond ws ≡ r
+pub beyond-told : (ws : List ℕ) {r : Bool} → beyondLimits ws ≡ false → r ≡ (not (deep 0 ws) && beyond ws)
+    → beyond ws ≡ r
 beyond-told ws o e =
-    let no-deep : deep 0 ws ≡ false = or-eq-false-left (deep 0 ws) (ltb operatorLimit (tally ws)) o in
+    let no-deep : deep 0 ws ≡ false = or-eq-false-left (deep 0 ws) (ltb operatorLimit (operatorCount ws)) o in
     sym (e ∙ rw no-deep)

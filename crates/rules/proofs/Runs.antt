@@ -12,9 +12,9 @@ use Rattle.formulas.proofs.Formulas.{raw-formula}
 use Rattle.formulas.proofs.Trials.{trials-counted, trials-meant, row}
 use Rattle.words.specs.Split.{classOf, run, keywordAmong, keywordOf, numberOf, runOf, wordOf, words, splitOf}
 use Rattle.words.specs.Word.{isOp, isSignal, isNum, isBit, isTest, isCount}
-use Rattle.grammar.specs.Fragment.{names}
+use Rattle.grammar.specs.Fragment.{hasWord}
 use Rattle.grammar.specs.Parse.{parse, read, treeOf}
-use Rattle.rules.specs.Limits.{deep, counted, tally}
+use Rattle.rules.specs.Limits.{deep, counted, operatorCount}
 use Rattle.rules.specs.Reading.{ruleOf}
 use Rattle.rules.specs.Reading.Outcome.{rule}
 use Rattle.rules.specs.Runs.{RowHolds}
@@ -22,7 +22,7 @@ use Rattle.rules.specs.Runs.{RowHolds}
 pub trials-read : map (λ (r : Trial). ruleOf (bytes (r .text))) trials
     ≡ map (λ (r : Trial). rule (raw (r .formula))) trials
 unfolding ruleOf splitOf words wordOf runOf run classOf keywordOf keywordAmong numberOf isDigit digitsAfter numeral
-    treeOf read parse isOp isSignal isNum isBit isTest isCount names deep counted tally
+    treeOf read parse isOp isSignal isNum isBit isTest isCount hasWord deep counted operatorCount
 trials-read = refl
 
 -- P1 to P13.

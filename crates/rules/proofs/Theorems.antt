@@ -15,41 +15,41 @@ use Rattle.grammar.specs.Grammar.{Rule}
 use Rattle.grammar.specs.Fragment.{beyond}
 use Rattle.grammar.specs.Parse.{treeOf}
 use Rattle.grammar.proofs.Theorems.{tree-rule, rule-tree, no-tree, rule-formula}
-use Rattle.rules.specs.Limits.{over}
+use Rattle.rules.specs.Limits.{beyondLimits}
 use Rattle.rules.specs.Reading.{Outcome, HasOutcome, ruleOf, ofWords, ofTree}
 use Rattle.rules.specs.Reading.Outcome.{refused, rule}
 use Rattle.rules.specs.Reading.HasOutcome.{no-words, over-limits, no-grammar, outside, no-lead, is-rule}
 use Rattle.rules.specs.Admitted.{Admitted}
 use Rattle.rules.specs.Contract.{Told, answerOf}
 use Rattle.rules.specs.declared.Read.{Read}
-use Rattle.rules.proofs.Decided.{refused-rule, over-words, tree-words, beyond-words, lead-words}
+use Rattle.rules.proofs.Decided.{refused-rule, limits-words, tree-words, beyond-words, lead-words}
 
 -- ---- every text has the outcome that is computed
 
 module _ {text : List ℕ} where
-  of-lead : {ws : List ℕ} {t : Tree} → splitOf text ≡ made ws → over ws ≡ false → Rule ws t → beyond ws ≡ false
+  of-lead : {ws : List ℕ} {t : Tree} → splitOf text ≡ made ws → beyondLimits ws ≡ false → Rule ws t → beyond ws ≡ false
       → (b : Bool) → leads t ≡ b → HasOutcome text (cond b (rule t) (refused 8))
   of-lead e o r f true l = is-rule e o r f l
   of-lead e o r f false l = no-lead e o r f l
 
-  of-fragment : {ws : List ℕ} {t : Tree} → splitOf text ≡ made ws → over ws ≡ false → Rule ws t
+  of-fragment : {ws : List ℕ} {t : Tree} → splitOf text ≡ made ws → beyondLimits ws ≡ false → Rule ws t
       → (b : Bool) → beyond ws ≡ b → HasOutcome text (cond b (refused 7) (cond (leads t) (rule t) (refused 8)))
   of-fragment e o r true f = outside e o r f
   of-fragment {t = t} e o r false f = of-lead e o r f (leads t) refl
 
-  of-tree : {ws : List ℕ} → splitOf text ≡ made ws → over ws ≡ false → (x : Option Tree) → treeOf ws ≡ x
+  of-tree : {ws : List ℕ} → splitOf text ≡ made ws → beyondLimits ws ≡ false → (x : Option Tree) → treeOf ws ≡ x
       → HasOutcome text (ofTree ws x)
   of-tree {ws} e o none g = no-grammar e o (no-tree ws g)
   of-tree {ws} e o (some t) g = of-fragment e o (tree-rule ws t g) (beyond ws) refl
 
-  of-limits : {ws : List ℕ} → splitOf text ≡ made ws → (b : Bool) → over ws ≡ b
+  of-limits : {ws : List ℕ} → splitOf text ≡ made ws → (b : Bool) → beyondLimits ws ≡ b
       → HasOutcome text (cond b (refused 5) (ofTree ws (treeOf ws)))
   of-limits e true o = over-limits e o
   of-limits {ws} e false o = of-tree e o (treeOf ws) refl
 
   of-words : (x : Out) → splitOf text ≡ x → HasOutcome text (ofWords x)
   of-words (Out.refused n) e = no-words e
-  of-words (made ws) e = of-limits e (over ws) refl
+  of-words (made ws) e = of-limits e (beyondLimits ws) refl
 
 pub has-outcome : (text : List ℕ) → HasOutcome text (ruleOf text)
 unfolding ruleOf
@@ -69,7 +69,7 @@ module _ (text : List ℕ) where
   pub computed : {x : Outcome} → HasOutcome text x → ruleOf text ≡ x
   unfolding ruleOf
   computed (no-words e) = ap ofWords e
-  computed (over-limits {ws} e o) = ap ofWords e ∙ over-words ws o
+  computed (over-limits {ws} e o) = ap ofWords e ∙ limits-words ws o
   computed (no-grammar {ws} e o h) = ap ofWords e ∙ tree-words ws o (none-of ws h)
   computed (outside {ws} {t} e o r f) = ap ofWords e ∙ beyond-words ws o (rule-tree ws t r) f
   computed (no-lead {ws} {t} e o r f l) = ap ofWords e ∙ lead-words ws o (rule-tree ws t r) f l

@@ -9,7 +9,7 @@ use Rattle.words.specs.Split.Out.{made}
 use Rattle.formulas.specs.Tree.{Tree, leads}
 use Rattle.grammar.specs.Grammar.{Rule}
 use Rattle.grammar.specs.Fragment.{beyond}
-use Rattle.rules.specs.Limits.{over}
+use Rattle.rules.specs.Limits.{beyondLimits}
 
 -- The text is a rule with that tree.
 pub record Admitted (text : List ℕ) (t : Tree) : Type 0 where
@@ -17,7 +17,7 @@ pub record Admitted (text : List ℕ) (t : Tree) : Type 0 where
   -- refusals 1 to 4: it is split into words
   pub words : splitOf text ≡ made ws
   -- refusal 5: within the limits
-  pub limits : over ws ≡ false
+  pub limits : beyondLimits ws ≡ false
   -- refusal 6: of the grammar
   pub grammar : Rule ws t
   -- refusals 7 and 8: of the fragment

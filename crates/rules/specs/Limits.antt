@@ -22,14 +22,14 @@ unfoldable pub counted : ℕ → Bool
 counted w = eqb w NOT || (eqb w THEN || (eqb w CHOP || eqb w EXISTS))
 
 -- How many of them there are "together".
-unfoldable pub tally : List ℕ → ℕ
-tally [] = 0
-tally (w ∷ ws) = cond (counted w) (suc (tally ws)) (tally ws)
+unfoldable pub operatorCount : List ℕ → ℕ
+operatorCount [] = 0
+operatorCount (w ∷ ws) = cond (counted w) (suc (operatorCount ws)) (operatorCount ws)
 
 -- "more than 32 of `!`, `then`, `chop`, `exists` together"
 abbrev pub operatorLimit : ℕ
 operatorLimit = 32
 
 -- "5: more than 16 round brackets open at some word .., or more than 32 of `!`, `then`, `chop`, `exists` together."
-abbrev pub over : List ℕ → Bool
-over ws = deep 0 ws || ltb operatorLimit (tally ws)
+abbrev pub beyondLimits : List ℕ → Bool
+beyondLimits ws = deep 0 ws || ltb operatorLimit (operatorCount ws)

@@ -10,7 +10,7 @@ ghost use Rattle.limits.specs.Limits.{wordLimit, arenaLimit};
 ghost use Rattle.grammar.specs.Fragment.{beyond};
 ghost use Rattle.words.specs.Word.{CHOP, EXISTS};
 ghost use Rattle.words.specs.Split.Out.{made};
-ghost use Rattle.rules.specs.Limits.{bracketLimit, opened, deep, counted, over};
+ghost use Rattle.rules.specs.Limits.{bracketLimit, opened, deep, counted, beyondLimits};
 ghost use Rattle.rules.specs.Reading.{ruleOf, ofWords};
 ghost use Rattle.rules.specs.Same.{SameAnswer};
 ghost use Rattle.rules.specs.Contract.{answerOf, Told, Laid, splitRefusal, recordsRefusal};
@@ -93,7 +93,7 @@ struct Limits {
 }
 
 fn limits_of(ws: &[u32]) -> Limits
-    ensures { λ r. ⌜ (r .over ≡ over (now (ws .entry)))
+    ensures { λ r. ⌜ (r .over ≡ beyondLimits (now (ws .entry)))
         × (r .beyond ≡ (not (deep 0 (now (ws .entry))) && beyond (now (ws .entry)))) ⌝ }
 {
     let mut depth: usize = 0;

@@ -4,6 +4,6 @@ pub mod Keywords
 pub mod Numbers
 pub mod Runs
 pub mod Widths
-pub mod Turns
+pub mod Splitting
 pub mod Bounds
 pub mod Examples

@@ -2,4 +2,4 @@
 pub mod Word
 pub mod Split
 pub mod Width
-pub mod Answer
+pub mod Contract

@@ -11,7 +11,7 @@ ghost use Rattle.words.specs.Word.{LITERAL, within, isOp, isSignal, isNu
 ghost use Rattle.words.specs.Split.{RUN, classOf, run, spelledOr, keywordOf, numberOf, runOf};
 ghost use Rattle.words.specs.Split.{longest, wordOf};
 ghost use Rattle.words.specs.Width.{operatorWidth, widthOf};
-ghost use Rattle.words.specs.Answer.{Splits};
+ghost use Rattle.words.specs.Contract.{Splits};
 use lists::Decimal;
 
 pub const ROUND: u32 = 1;

@@ -21,24 +21,24 @@ use Rattle.facts.specs.declared.Facts.{Facts}
 use Rattle.parser.specs.Contract.{ParsesLeaf, Pushed}
 use Rattle.parser.specs.declared.Parsed.{Parsed}
 use Rattle.parser.specs.declared.Parsed.the-variants.{At, No}
-use Rattle.parser.proofs.Stored.{Said, said, said-no, pushed, stored-as, past-first, fits-push}
+use Rattle.parser.proofs.Stored.{ParsesTo, to-tree, to-none, pushed, stored-as, past-first, fits-push}
 use Rattle.parser.proofs.leaf.Statement.{statement}
 use Rattle.parser.proofs.leaf.Tie as tie
 
 module _ {ws : List ℕ} {i : ℕ} {before : List ℕ} {top : ℕ} {after : List ℕ} where
   -- In the terms of the contract.
-  leaf : {r : Parsed} → Said (leafAt ws i) before top r after → ParsesLeaf ws i before top r after
+  leaf : {r : Parsed} → ParsesTo (leafAt ws i) before top r after → ParsesLeaf ws i before top r after
   leaf h = record { result = h .result; filled = h .filled }
 
   -- The record of a tree t without parts.
   one-record : (t : Tree) {k a e : ℕ} {f : Facts} → leafAt ws i ≡ ok t (i + 1) → factsOf t ≡ leafFacts →
       flat t ≡ row k a 0 0 → Pushed before top k a 0 0 e after → f ≡ leafFacts →
       ParsesLeaf ws i before top (At (i + 1) e f) after
-  one-record t is known records u facts = leaf (said t is (stored-as (sym records) (pushed u)) (facts ∙ sym known))
+  one-record t is known records u facts = leaf (to-tree t is (stored-as (sym records) (pushed u)) (facts ∙ sym known))
 
   -- Another word is none of them.
   no-leaf : isSignal (word ws i) ≡ false → isBit (word ws i) ≡ false → ParsesLeaf ws i before top No after
-  no-leaf s b = leaf (said-no (simp (s, b)))
+  no-leaf s b = leaf (to-none (simp (s, b)))
 
 -- The places: the start; the word, where it is a signal; and where it is a bit, and so no signal.
 abbrev start : tie.After-number-at → tie.Start

@@ -6,7 +6,7 @@ use Prim.Native.Nat.{_-_}
 use native.Mathlib.Omega.{arith}
 use borrow.Author.Needs.{needs}
 use lib.ListN.{length}
-use Rattle.rules.proofs.Passes.{Passed, passed-none, passed-deep, passed-one, passed-over, passed-beyond}
+use Rattle.rules.proofs.Passes.{Passed, passed-none, passed-deep, passed-one, passed-limits, passed-beyond}
 use Rattle.rules.proofs.limits_of.Statement.{statement}
 use Rattle.rules.proofs.limits_of.Tie as tie
 
@@ -62,7 +62,7 @@ loop-again c =
 all-passed : tie.Need-returns-2 Inv-loop μ-loop
 all-passed c =
     let known = c .before .loop .inv in
-    (passed-over known (c .loop-test .left), passed-beyond known (c .loop-test .left))
+    (passed-limits known (c .loop-test .left), passed-beyond known (c .loop-test .left))
 
 pub limits-of-spec : {M : Type 1} → statement M
 limits-of-spec =

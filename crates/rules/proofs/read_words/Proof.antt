@@ -11,8 +11,8 @@ use Rattle.grammar.specs.Fragment.{beyond}
 use Rattle.grammar.specs.Parse.Goal.{goF}
 use Rattle.grammar.proofs.Position.{span}
 use Rattle.parser.proofs.Stored.{Gave, took, lost}
-use Rattle.rules.specs.Limits.{over}
-use Rattle.rules.proofs.Decided.{over-words, tree-words}
+use Rattle.rules.specs.Limits.{beyondLimits}
+use Rattle.rules.proofs.Decided.{limits-words, tree-words}
 use Rattle.rules.proofs.Laid.{laid-refused}
 use Rattle.rules.proofs.Outcomes.{lost-tree, part-tree, beyond-words, no-lead-words, laid-rule}
 use Rattle.rules.proofs.Passes.{beyond-told}
@@ -37,10 +37,10 @@ text c = start (passed c) .args .ws .now
 over-limits : tie.Need-returns
 over-limits c =
     let pass = c .before in
-    laid-refused 5 (over-words (start pass .args .ws .now) (sym (pass .limits-of .ensures .0) ∙ c .if1 .taken))
+    laid-refused 5 (limits-words (start pass .args .ws .now) (sym (pass .limits-of .ensures .0) ∙ c .if1 .taken))
 
 -- Within them,
-within : (c : tie.After-parse-f) → over (text c) ≡ false
+within : (c : tie.After-parse-f) → beyondLimits (text c) ≡ false
 within c = sym (passed c .limits-of .ensures .0) ∙ c .before .before .if1 .left
 
 -- no tree;

@@ -8,9 +8,9 @@ use borrow.Author.Needs.{needs}
 use lib.ListN.{length}
 use Rattle.words.specs.Split.{SPACE, words, splitOf}
 use Rattle.words.proofs.Widths.{width-some}
-use Rattle.words.proofs.Turns.{split-empty, split-long, split-words, refuses}
-use Rattle.words.proofs.Turns.{Splitting, splitting-begun, splitting-length, splitting-done}
-use Rattle.words.proofs.Turns.{skips, too-many, breaks, adds}
+use Rattle.words.proofs.Splitting.{split-empty, split-long, split-words, refuses}
+use Rattle.words.proofs.Splitting.{Splitting, splitting-begun, splitting-length, splitting-done}
+use Rattle.words.proofs.Splitting.{skips, too-many, breaks, adds}
 use Rattle.words.proofs.split_text.Statement.{statement}
 use Rattle.words.proofs.split_text.Tie as tie
 

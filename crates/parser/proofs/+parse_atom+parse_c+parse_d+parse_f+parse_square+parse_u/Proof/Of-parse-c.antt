@@ -10,7 +10,7 @@ use Rattle.words.specs.Word
 use Rattle.grammar.specs.Parse.{word}
 use Rattle.grammar.specs.Parse.Goal.{goC, goCs, goU}
 use Rattle.grammar.proofs.Position.{span}
-use Rattle.parser.proofs.Stored.{Gave, Turn, Space, took, lost, few-nodes, same-size, room, fits-tree}
+use Rattle.parser.proofs.Stored.{Gave, PartsRead, Space, took, lost, few-nodes, same-size, room, fits-tree}
 use Rattle.parser.proofs.Chains
 use Rattle.parser.proofs.Chains.{chain-C}
 use Rattle.parser.proofs.parse_c.Kinds.{ps, r}
@@ -24,8 +24,8 @@ use Rattle.parser.proofs.+parse_atom+parse_c+parse_d+parse_f+parse_squa
 -- Whatever arena it was that the first part went into, the parts so far stand there.
 abbrev Inv-loop : lts.InvT-loop
 Inv-loop ws inside at arena₀ top first low j₀ t₀ facts₀ arena j t facts =
-    (o : List ℕ) → Turn (goC inside) (goCs inside) ws at o top j₀ t₀ facts₀ arena₀ →
-    Turn (goC inside) (goCs inside) ws at o top j t facts arena
+    (o : List ℕ) → PartsRead (goC inside) (goCs inside) ws at o top j₀ t₀ facts₀ arena₀ →
+    PartsRead (goC inside) (goCs inside) ws at o top j t facts arena
 
 -- The words left.
 abbrev μ-loop : lts.MeasureT-loop
@@ -72,7 +72,7 @@ module _ (t : ℕ) where
   first : (c : Here lts.After-known-told) →
       let args = start (first-call c) .args in
       let part = c .before .first .given .0 in
-      Turn (goC (args .inside)) (goCs (args .inside)) (args .ws .now) (args .at) (args .arena .now) (args .top)
+      PartsRead (goC (args .inside)) (goCs (args .inside)) (args .ws .now) (args .at) (args .arena .now) (args .top)
       (part .0) (part .1 .0) (part .1 .1 .0) (first-call c .parse-u .last .1 .1 .1 .0)
   first c =
       Chains.first (chain-C (start (first-call c) .args .inside))
@@ -85,7 +85,7 @@ module _ (t : ℕ) where
   parts : (c : Here lts.At-loop) →
       let args = begun c .args in
       let loop = c .loop in
-      Turn (goC (args .inside)) (goCs (args .inside)) (args .ws .now) (args .at) (args .arena .now) (args .top)
+      PartsRead (goC (args .inside)) (goCs (args .inside)) (args .ws .now) (args .at) (args .arena .now) (args .top)
       (loop .j) (loop .t) (loop .facts) (loop .arena)
   parts c = c .loop .inv (begun c .args .arena .now) (first (c .before))
 

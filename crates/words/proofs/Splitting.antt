@@ -16,7 +16,7 @@ use Rattle.lists.proofs.Buffers.{sets-append}
 use Rattle.words.specs.Split.{SPACE, classOf, begins, wordOf, add, words, splitOf}
 use Rattle.words.specs.Split.Out.{refused, made}
 use Rattle.words.specs.Width.{widthOf}
-use Rattle.words.specs.Answer.{answerOf, Splits}
+use Rattle.words.specs.Contract.{splitAnswer, Splits}
 use Rattle.words.proofs.Widths.{text-past}
 use Rattle.words.specs.declared.Word.the-variants.{Made, Bad}
 use Rattle.words.specs.declared.Split.the-variants.{Words, Refused}
@@ -42,7 +42,7 @@ refused-made {n = n} {ws} e = let z : _≡_ {A = ℕ} 0 1 = cc in absurd (omega 
 pub refuses : (text out₀ out : List ℕ) (n : ℕ) → splitOf text ≡ refused n → Splits text out₀ (Refused n) out
 refuses text out₀ out n e =
     record {
-      result = ap answerOf (sym e);
+      result = ap splitAnswer (sym e);
       filled = λ ws m. refused-made (sym e ∙ m);
       few = λ ws m. refused-made (sym e ∙ m);
     }
@@ -117,7 +117,7 @@ module _ {text out₀ out : List ℕ} {count i : ℕ} (h : Splitting text out₀
   pub splitting-done : Splits text out₀ (Words count) out
   splitting-done =
       record {
-        result = ap Words (h .counted) ∙ ap answerOf (sym all-words);
+        result = ap Words (h .counted) ∙ ap splitAnswer (sym all-words);
         filled = λ ws m. h .stored ∙ ap (λ (x : List ℕ). sets out₀ 0 x) (same-words ws m);
         few = λ ws m. omega (arith, ap length (same-words ws m), h .counted, h .few);
       }

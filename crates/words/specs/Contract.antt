@@ -11,13 +11,13 @@ use Rattle.words.specs.declared.Split.{Split}
 use Rattle.words.specs.declared.Split.the-variants.{Words, Refused}
 
 -- How many words there are, or the refusal's number.
-abbrev pub answerOf : Out → Split
-answerOf (refused n) = Refused n
-answerOf (made ws) = Words (length ws)
+abbrev pub splitAnswer : Out → Split
+splitAnswer (refused n) = Refused n
+splitAnswer (made ws) = Words (length ws)
 
 -- The answer r for a text, and the buffer as it was lent, out₀, and as it is left, out: at its front stand the words,
 -- all else is kept.
 pub record Splits (text out₀ : List ℕ) (r : Split) (out : List ℕ) : Type 0 where
-  pub result : r ≡ answerOf (splitOf text)
+  pub result : r ≡ splitAnswer (splitOf text)
   pub filled : (ws : List ℕ) → splitOf text ≡ made ws → out ≡ sets out₀ 0 ws
   pub few : (ws : List ℕ) → splitOf text ≡ made ws → length ws ≤ wordLimit
