@@ -1,11 +1,11 @@
 -- What tests on a byte say of its class. Assumes nothing.
-use mathlib.Core.Bool.{Bool, true, false, not, cond, _&&_, _||_, and-false, and-eq-true-iff}
+use mathlib.Core.Bool.{Bool, true, false, not, cond, _&&_, _||_, true≢false, and-false, and-eq-true-iff}
 use mathlib.Core.List.{List, [], _∷_, map}
 use mathlib.Core.Path.{_≡_, refl, sym, ap, _∙_}
 use Prim.Native.Nat.{ℕ, _+_, _≤_, _<_}
 use native.Mathlib.Omega.{arith}
 use lib.Dec.{eqb, leb}
-use borrow.Author.Tests.{eqb-false, ne-eqb, le-leb, lt-leb}
+use borrow.Author.Tests.{ne-eqb, le-leb, lt-leb}
 use Rattle.lists.specs.Text.{byte}
 use Rattle.lists.specs.Decimal.{isDigit}
 use Rattle.lists.proofs.Choice.{chosen}
@@ -67,8 +67,8 @@ no-operator (o ∷ os) b h =
 
 outside : (x y : Bool) (w : ℕ) → eqb (cond x RUN (cond y SPACE w)) RUN ≡ false → y ≡ false → w ≡ OTHER
     → cond x RUN (cond y SPACE w) ≡ OTHER
-outside true y w r s o = absurd (eqb-false RUN RUN r refl)
-outside false true w r s o = absurd (eqb-false SPACE SPACE s refl)
+outside true y w r s o = absurd (true≢false r)
+outside false true w r s o = absurd (true≢false s)
 outside false false w r s o = o
 
 pub other : (b : ℕ) → eqb (classOf b) RUN ≡ false

@@ -1,12 +1,12 @@
 -- Which keyword a run is, by its first byte. Assumes nothing.
-use mathlib.Core.Bool.{Bool, true, false, _&&_, and-eq-true-iff}
+use mathlib.Core.Bool.{Bool, true, false, _&&_, true≢false, and-eq-true-iff}
 use mathlib.Core.List.{List, [], _∷_}
 use mathlib.Core.Path.{_≡_, refl, sym, ap, _∙_}
 use Prim.Native.Nat.{ℕ, suc, _+_}
 use native.Mathlib.Omega.{arith}
 use lib.Dec.{T, eqb, ltb, ltb→lt}
 use lib.ListN.{getD}
-use borrow.Author.Tests.{eqb-true, eqb-false}
+use borrow.Author.Tests.{eqb-true}
 use Rattle.lists.specs.Same.{same}
 use Rattle.lists.specs.Text.{bytes}
 use Rattle.lists.specs.Number.{numberAt}
@@ -41,8 +41,7 @@ module _ (b : ℕ) (l bs : List ℕ) (no : among b bs ≡ false) where
     where
       at-first : (t : Bool) → eqb b x ≡ t → (t && same l k) ≡ false
       at-first true e =
-          let clash : true ≡ false = sym h ∙ ap (λ (y : ℕ). among y bs) (sym (eqb-true b x e)) ∙ no in
-          absurd (eqb-false 0 0 clash refl)
+          absurd (true≢false (sym h ∙ ap (λ (y : ℕ). among y bs) (sym (eqb-true b x e)) ∙ no))
       at-first false e = refl
 
   none-spelled : (ks : List (List ℕ)) (n : ℕ) → begin-in bs ks ≡ true → keywordAmong ks n (b ∷ l) ≡ 0

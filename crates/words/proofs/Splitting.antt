@@ -35,16 +35,17 @@ module _ (text : List ℕ) where
   unfolding splitOf
   split-words n h = simp (ne-eqb (length text) 0 n, le-ltb textLimit (length text) h)
 
--- A refusal promises nothing of the buffer.
-refused-made : {A : Type 0} {n : ℕ} {ws : List ℕ} → refused n ≡ made ws → A
-refused-made {n = n} {ws} e = let z : _≡_ {A = ℕ} 0 1 = cc in absurd (omega arith)
+-- A refusal is no list of words,
+pub refused-made : {n : ℕ} {ws : List ℕ} → refused n ≡ made ws → ⊥
+refused-made e = let z : _≡_ {A = ℕ} 0 1 = cc in omega arith
 
+-- so it promises nothing of the buffer.
 pub refuses : (text out₀ out : List ℕ) (n : ℕ) → splitOf text ≡ refused n → Splits text out₀ (Refused n) out
 refuses text out₀ out n e =
     record {
       result = ap splitAnswer (sym e);
-      filled = λ ws m. refused-made (sym e ∙ m);
-      few = λ ws m. refused-made (sym e ∙ m);
+      filled = λ ws m. absurd (refused-made (sym e ∙ m));
+      few = λ ws m. absurd (refused-made (sym e ∙ m));
     }
 
 -- At byte i, where no word goes on: the first `count` words are stored, and what is left of the text gives the rest.

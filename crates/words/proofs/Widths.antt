@@ -1,5 +1,5 @@
 -- After a word a text goes on as after a space, and a word takes a byte at least. Assumes nothing.
-use mathlib.Core.Bool.{Bool, true, false, cond, _&&_, _||_}
+use mathlib.Core.Bool.{Bool, true, false, cond, _&&_, _||_, false≢true}
 use mathlib.Core.List.{List, [], _∷_}
 use mathlib.Core.Path.{_≡_, refl, sym, _∙_}
 use Prim.Native.Nat.{ℕ, _+_, _<_}
@@ -46,7 +46,7 @@ module _ (c b : ℕ) (n : c ≡ RUN → ⊥) where
   operator-past l ws false y p q = afresh c l ws (simp (ne-eqb c RUN n, p))
   operator-past l ws true false p q =
       afresh c l ws (simp (ne-eqb c RUN n, p, no-equals (numberAt l 0) (eqb-false _ (byte "=") q)))
-  operator-past [] ws true true p q = absurd (eqb-false 0 1 refl (cc))
+  operator-past [] ws true true p q = absurd (false≢true q)
   operator-past (d ∷ l) ws true true p q = rw (eqb-true d (byte "=") q) (simp (ne-eqb c RUN n, p) (afresh EQ l ws refl))
 
 -- After the word of class c at the byte b.
