@@ -2,19 +2,19 @@
 use mathlib.Core.Path.{_≡_, refl, ap, _∙_}
 use mathlib.Core.Bool.{Bool, true, false, _&&_, cond}
 use mathlib.Core.List.{List}
-use Prim.Native.Nat.{ℕ, _+_, _≤_, _<_}
+use Prim.Native.Nat.{ℕ, _+_, _≤_}
 use native.Mathlib.Omega.{arith}
 use native.Mathlib.Nat.{le-refl}
-use lib.Dec.{leb}
 use lib.ListN.{length, List·getD-eq-default}
-use borrow.Author.Tests.{eq-eqb, ne-eqb, lt-leb}
+use borrow.Author.Tests.{eq-eqb, ne-eqb}
 use Rattle.traces.specs.Compare.{Op}
 use Rattle.formulas.specs.Formula.{Num}
 use Rattle.formulas.specs.Tree.{Tree}
 use Rattle.formulas.specs.Tree.Tree.{constant, signal, and, or, len, count}
 use Rattle.words.specs.Word.{ROUND, ROUND-END, SQUARE, SQUARE-END, NOT, AND, OR, LEN, BEGIN, KEPT, SUM, AGE}
 use Rattle.words.specs.Word.{THEN, CHOP, EXISTS, SIGNAL}
-use Rattle.words.specs.Word.{within, isOp, isSignal, isNum, isBit, isTest, isCount}
+use Rattle.words.specs.Word.{isOp, isSignal, isNum, isBit, isTest, isCount}
+use Rattle.words.proofs.Classes.{within-above}
 use Rattle.grammar.specs.Grammar.{Symbol, bitWord, signalWord, opWord, numWord, countWord}
 use Rattle.grammar.specs.Grammar.Symbol.{F, D, C, U, B}
 use Rattle.grammar.specs.Parse.{Result, Join, Unit as First, Atom, word, bind, joinOf, unitOf, atomOf}
@@ -33,14 +33,6 @@ use Rattle.grammar.proofs.Position.DerivesAt.{u-test, u-len, u-count, b
 use Rattle.grammar.proofs.Sound.{read-eq, read-holds}
 
 -- ---- classes of words
-
--- A number above the upper bound is not between the bounds.
-not-within : (lo hi w : ℕ) → hi < w → within lo hi w ≡ false
-not-within lo hi w h = ap (λ (x : Bool). leb lo w && x) (lt-leb w hi h) ∙ go (leb lo w)
-  where
-    go : (x : Bool) → x && false ≡ false
-    go true = refl
-    go false = refl
 
 -- Words that are not `!` nor a round bracket: a leaf's inside square brackets,
 signal-leaf : (w : ℕ) → isSignal w ≡ true → unitOf true w ≡ unit-leaf
@@ -80,12 +72,12 @@ pub count-atom : (w : ℕ) → isCount w ≡ true → atomOf w ≡ atom-count
 unfolding isTest
 count-atom w h =
     let p = count-pos w h in
-    simp (not-within BEGIN KEPT w (omega arith), ne-eqb w LEN (λ e. omega arith), h)
+    simp (within-above BEGIN KEPT w (omega arith), ne-eqb w LEN (λ e. omega arith), h)
 
 -- A bit is no signal.
 bit-signal : (w : ℕ) → isBit w ≡ true → isSignal w ≡ false
 unfolding isSignal
-bit-signal w h = not-within SIGNAL _ w (omega (arith, bit-pos w h))
+bit-signal w h = within-above SIGNAL _ w (omega (arith, bit-pos w h))
 
 -- A word that joins no further F to a D.
 pub stop-join : (l : Bool) (w : ℕ) → (w ≡ THEN → ⊥) → (w ≡ CHOP → ⊥) → joinOf l w ≡ join-none

@@ -56,11 +56,11 @@ module _ (ws : List ℕ) where
       U-at ws l i unit-exists (ap₂ unitOf out w) ∙ ap (λ (x : Bool). stepExists ws (read ws) x i) s
 
   -- an atom with square brackets,
-  test-is : (i : ℕ) → isTest (word ws i) ≡ true →
+  pub test-is : (i : ℕ) → isTest (word ws i) ≡ true →
       read ws goA i ≡ bind (read ws goB (i + 1)) (λ p j. ok (test (testWord (word ws i)) p) j)
   test-is i k = A-at ws i atom-test (test-atom (word ws i) k)
 
-  count-is : (i : ℕ) → isCount (word ws i) ≡ true →
+  pub count-is : (i : ℕ) → isCount (word ws i) ≡ true →
       read ws goA i ≡ bind (read ws goB (i + 1)) (λ p j. withComparison ws (count (countWord (word ws i)) p) j)
   count-is i k = A-at ws i atom-count (count-atom (word ws i) k)
 
@@ -189,9 +189,6 @@ module _ {l : Bool} {ws : List ℕ} {i : ℕ} {before : List ℕ} {top : ℕ} {a
 
 module _ {ws : List ℕ} {i : ℕ} {before : List ℕ} {top : ℕ} {after : List ℕ} where
   module _ (k : isTest (word ws i) ≡ true) where
-    pub test-no : read ws goB (i + 1) ≡ no-rule → Parses goA ws i before top No after
-    test-no e = fails _ (test-is ws i k) e
-
     pub A-test : {n e p x : ℕ} {f f′ : Facts} {mid : List ℕ} → Took goB ws (i + 1) before top n e f mid →
         x ≡ word ws i → Pushed mid e (Arena.TEST + (x - Word.BEGIN)) 0 0 0 p after →
         f′ ≡ atomFacts (leadTest (testWord x)) → Parses goA ws i before top (At n p f′) after
@@ -229,9 +226,6 @@ module _ {ws : List ℕ} {i : ℕ} {before : List ℕ} {top : ℕ} {after : List
       A-compared len (A-at ws i atom-len (len-atom (word ws i) w)) stored-none h (λ o n. refl) (λ o n. refl)
 
   module _ (k : isCount (word ws i) ≡ true) where
-    pub count-no : read ws goB (i + 1) ≡ no-rule → Parses goA ws i before top No after
-    count-no e = fails _ (count-is ws i k) e
-
     pub A-count : {n e x : ℕ} {f : Facts} {r : Parsed} {mid : List ℕ} {lead : Bool} →
         Took goB ws (i + 1) before top n e f mid → x ≡ word ws i → lead ≡ leadCount (countWord x) →
         ParsesComparison ws n mid e (Arena.COUNT + (x - Word.SUM)) lead r after → Parses goA ws i before top r after

@@ -13,7 +13,8 @@ use Rattle.grammar.proofs.Position.{span, test-pos, count-pos}
 use Rattle.grammar.proofs.Words.{test-high, count-high}
 use Rattle.facts.specs.Facts.{atomFacts}
 use Rattle.parser.proofs.Steps
-use Rattle.parser.proofs.Stored.{Gave, Space, took, lost, room, past-first, past-tree, fits-push, fits-tree}
+use Rattle.parser.proofs.Stored.{Gave, Space, took, lost, fails}
+use Rattle.parser.proofs.Stored.{room, past-first, past-tree, fits-push, fits-tree}
 use Rattle.parser.proofs.parse_atom.Kinds.{ps, r}
 use Rattle.parser.proofs.parse_atom.Reads as reads
 use Rattle.parser.proofs.+parse_atom+parse_c+parse_d+parse_f+parse_square+parse_u.Lts-parse_atom as lts
@@ -58,27 +59,26 @@ module _ (t : ℕ) where
   abbrev count-call : Here lts.After-known-told2 → Here lts.After-parse-square2
   count-call c = c .before .before .before .before .before
 
-  -- The word that was looked at is the first, and where it is one, it leaves room.
-  looked-space : (c : Here lts.After-number-at) → 1 ≤ c .number-at .result →
-      let args = start c .args in
-      Space 8 (args .ws .now) (args .at + 1) (args .arena .now) (args .top)
+  -- The first word, and the room after it.
+  abbrev first : Here lts.After-number-at → ℕ
+  first c = let args = start c .args in word (args .ws .now) (args .at)
+
+  abbrev First-space : Here lts.After-number-at → Type 0
+  First-space c = let args = start c .args in Space 8 (args .ws .now) (args .at + 1) (args .arena .now) (args .top)
+
+  -- It is the word that was looked at, and where it is one, it leaves room.
+  looked-space : (c : Here lts.After-number-at) → 1 ≤ c .number-at .result → First-space c
   looked-space c l = past-first (start c .pre .1) (sym (c .number-at .ensures)) l
 
   -- A test,
   is-test : (c : Here lts.Then1) → isTest (test-looked c .number-at .result) ≡ true
   is-test c = sym (c .before .is-test .ensures) ∙ c .if1 .taken
 
-  test-word : (c : Here lts.Then1) →
-      let args = start (test-looked c) .args in
-      isTest (word (args .ws .now) (args .at)) ≡ true
+  test-word : (c : Here lts.Then1) → isTest (first (test-looked c)) ≡ true
   test-word c = ap isTest (sym (test-looked c .number-at .ensures)) ∙ is-test c
 
-  test-space : (c : Here lts.Then1) →
-      let args = start (test-looked c) .args in
-      Space 8 (args .ws .now) (args .at + 1) (args .arena .now) (args .top)
-  test-space c =
-      let w = test-pos (test-looked c .number-at .result) (is-test c) in
-      looked-space (test-looked c) (omega arith)
+  test-space : (c : Here lts.Then1) → First-space (test-looked c)
+  test-space c = looked-space (test-looked c) (omega (arith, test-pos _ (is-test c)))
 
   add-test : Here lts.Need-add-parse-square
   add-test c = let s = test-space c in omega arith
@@ -95,7 +95,8 @@ module _ (t : ℕ) where
   test-no-p : Here lts.Need-returns
   test-no-p c =
       let call = c .before .before .before .before in
-      Steps.test-no (test-word (at-test call)) (lost (call .parse-square .ensures) (c .enum-told .given .1))
+      fails _ (Steps.test-is _ _ (test-word (at-test call)))
+      (lost (call .parse-square .ensures) (c .enum-told .given .1))
 
   -- and its P in square brackets.
   test-tree : (c : Here lts.After-known-told) →
@@ -105,14 +106,10 @@ module _ (t : ℕ) where
   test-tree c = took (test-call c .parse-square .ensures) (λ a m h. span h) (c .before .j .given .1)
 
   sub-test : Here lts.Need-sub-push
-  sub-test c =
-      let here = at-test (test-call (c .before)) in
-      test-pos (test-looked here .number-at .result) (is-test here)
+  sub-test c = test-pos _ (is-test (at-test (test-call (c .before))))
 
   add-test-kind : Here lts.Need-add-push
-  add-test-kind c =
-      let here = at-test (test-call (c .before)) in
-      omega (arith, test-high (test-looked here .number-at .result) (is-test here))
+  add-test-kind c = omega (arith, test-high _ (is-test (at-test (test-call (c .before)))))
 
   test-fits : Here lts.Need-push-requires
   test-fits c κs =
@@ -136,14 +133,10 @@ module _ (t : ℕ) where
       (c .atom-facts .ensures ∙ ap atomFacts (c .before .is-lead-test .ensures))
 
   -- `len`, and op n.
-  len-word : (c : Here lts.Then2) →
-      let args = start (len-looked c) .args in
-      word (args .ws .now) (args .at) ≡ Word.LEN
+  len-word : (c : Here lts.Then2) → first (len-looked c) ≡ Word.LEN
   len-word c = sym (len-looked c .number-at .ensures) ∙ c .if2 .taken
 
-  len-space : (c : Here lts.Then2) →
-      let args = start (len-looked c) .args in
-      Space 8 (args .ws .now) (args .at + 1) (args .arena .now) (args .top)
+  len-space : (c : Here lts.Then2) → First-space (len-looked c)
   len-space c = past-first (start (len-looked c) .pre .1) (len-word c) (omega arith)
 
   add-len : Here lts.Need-add-comparison
@@ -164,17 +157,11 @@ module _ (t : ℕ) where
   is-count : (c : Here lts.Then3) → isCount (count-looked c .number-at .result) ≡ true
   is-count c = sym (c .before .is-count .ensures) ∙ c .if3 .taken
 
-  count-word : (c : Here lts.Then3) →
-      let args = start (count-looked c) .args in
-      isCount (word (args .ws .now) (args .at)) ≡ true
+  count-word : (c : Here lts.Then3) → isCount (first (count-looked c)) ≡ true
   count-word c = ap isCount (sym (count-looked c .number-at .ensures)) ∙ is-count c
 
-  count-space : (c : Here lts.Then3) →
-      let args = start (count-looked c) .args in
-      Space 8 (args .ws .now) (args .at + 1) (args .arena .now) (args .top)
-  count-space c =
-      let w = count-pos (count-looked c .number-at .result) (is-count c) in
-      looked-space (count-looked c) (omega arith)
+  count-space : (c : Here lts.Then3) → First-space (count-looked c)
+  count-space c = looked-space (count-looked c) (omega (arith, count-pos _ (is-count c)))
 
   add-count : Here lts.Need-add-parse-square-2
   add-count c = let s = count-space c in omega arith
@@ -191,7 +178,8 @@ module _ (t : ℕ) where
   count-no-p : Here lts.Need-returns-4
   count-no-p c =
       let call = c .before .before .before .before in
-      Steps.count-no (count-word (at-count call)) (lost (call .parse-square2 .ensures) (c .enum-told2 .given .1))
+      fails _ (Steps.count-is _ _ (count-word (at-count call)))
+      (lost (call .parse-square2 .ensures) (c .enum-told2 .given .1))
 
   -- its P in square brackets, and op n.
   count-tree : (c : Here lts.After-known-told2) →
@@ -201,14 +189,10 @@ module _ (t : ℕ) where
   count-tree c = took (count-call c .parse-square2 .ensures) (λ a m h. span h) (c .before .j2 .given .1)
 
   sub-count : Here lts.Need-sub-comparison
-  sub-count c =
-      let here = at-count (count-call (c .before)) in
-      count-pos (count-looked here .number-at .result) (is-count here)
+  sub-count c = count-pos _ (is-count (at-count (count-call (c .before))))
 
   add-count-kind : Here lts.Need-add-comparison-2
-  add-count-kind c =
-      let here = at-count (count-call (c .before)) in
-      omega (arith, count-high (count-looked here .number-at .result) (is-count here))
+  add-count-kind c = omega (arith, count-high _ (is-count (at-count (count-call (c .before)))))
 
   is-lead-count-requires : Here lts.Need-is-lead-count-requires
   is-lead-count-requires c κs = is-count (at-count (count-call (c .before)))
