@@ -27,7 +27,7 @@ use Rattle.grammar.proofs.Complete.{test-atom, len-atom, count-atom}
 use Rattle.grammar.proofs.Words.{test-number, count-number}
 use Rattle.facts.specs.Facts.{factsOf, atomFacts, negFacts, thenFacts, chopFacts, existsFacts}
 use Rattle.facts.specs.declared.Facts.{Facts}
-use Rattle.parser.specs.Contract.{comparisonRow, Parses, Pushed, ParsesLeaf, ParsesComparison}
+use Rattle.parser.specs.Contract.{comparisonRecord, Parses, Pushed, ParsesLeaf, ParsesComparison}
 use Rattle.parser.specs.declared.Parsed.{Parsed}
 use Rattle.parser.specs.declared.Parsed.the-variants.{At, No}
 use Rattle.parser.proofs.Stored.{Stored, Took, stored-none, pushed, stored-as, stored-on}
@@ -203,17 +203,17 @@ module _ {ws : List ℕ} {i : ℕ} {before : List ℕ} {top : ℕ} {after : List
   A-compared : {xs : List ℕ} {j e k : ℕ} {r : Parsed} {mid : List ℕ} {lead : Bool} (tree : Op → Num → Tree) →
       read ws goA i ≡ withComparison ws tree j → Stored before top xs e mid →
       ParsesComparison ws j mid e k lead r after →
-      ((o : Op) (n : Num) → flat (tree o n) ≡ xs ++ comparisonRow k o n) →
+      ((o : Op) (n : Num) → flat (tree o n) ≡ xs ++ comparisonRecord k o n) →
       ((o : Op) (n : Num) → factsOf (tree o n) ≡ atomFacts (lead && upper o)) → Parses goA ws i before top r after
   A-compared {xs} {j} {e} {k} {r} {mid} {lead} tree is stored h flats facts =
       go (opWord (word ws j)) (numWord (word ws (j + 1))) (comparisonAt ws j) is (h .result) (h .filled)
     where
       go : (o : Op) (n : Num) (x : Bool) → read ws goA i ≡ cond x (ok (tree o n) (j + 2)) no-rule →
           r ≡ cond x (At (j + 2) (e + 4) (atomFacts (lead && upper o))) No →
-          (x ≡ true → after ≡ sets mid e (comparisonRow k o n)) →
+          (x ≡ true → after ≡ sets mid e (comparisonRecord k o n)) →
           Parses goA ws i before top r after
       go o n true is given filled =
-          let last : Stored mid e (comparisonRow k o n) (e + 4) after =
+          let last : Stored mid e (comparisonRecord k o n) (e + 4) after =
           record { end = refl; filled = filled refl } in
           subst (λ (y : Parsed). Parses goA ws i before top y after) (sym given)
           (says (tree o n) is (stored-as (sym (flats o n)) (stored-on stored last)) (sym (facts o n)))

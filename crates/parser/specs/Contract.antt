@@ -46,12 +46,12 @@ pub record ParsesLeaf (ws : List ℕ) (i : ℕ) (before : List ℕ) (top : ℕ) 
   pub filled : (t : Tree) (j : ℕ) → leafAt ws i ≡ ok t j → after ≡ sets before top (flat t)
 
 -- The record of kind k that ends with the comparison o and the number n.
-abbrev pub comparisonRow : ℕ → Op → Num → List ℕ
-comparisonRow k o n = row k (opNumber o) (numKind n) (numValue n)
+abbrev pub comparisonRecord : ℕ → Op → Num → List ℕ
+comparisonRecord k o n = row k (opNumber o) (numKind n) (numValue n)
 
 -- op n at position j as the end of an atom's record of kind k; lead says whether the atom is one with `<=` or `<`.
 pub record ParsesComparison (ws : List ℕ) (j : ℕ) (before : List ℕ) (top k : ℕ) (lead : Bool) (r : Parsed)
     (after : List ℕ) : Type 0 where
   pub result : r ≡ cond (comparisonAt ws j) (At (j + 2) (top + 4) (atomFacts (lead && upper (opWord (word ws j))))) No
   pub filled : comparisonAt ws j ≡ true →
-      after ≡ sets before top (comparisonRow k (opWord (word ws j)) (numWord (word ws (j + 1))))
+      after ≡ sets before top (comparisonRecord k (opWord (word ws j)) (numWord (word ws (j + 1))))
