@@ -1,4 +1,5 @@
--- F, brackets, U and atoms: one lemma for each turn of the code of the parse functions. Assumes nothing.
+-- F, brackets, U and atoms: one lemma for each turn of the code of the parse functions; where an atom's P is missing,
+-- `fails` of Stored does. Assumes nothing.
 use mathlib.Core.Bool.{Bool, true, false, _&&_, cond}
 use mathlib.Core.List.{List, _++_}
 use mathlib.Core.Path.{_≡_, refl, sym, ap, ap₂, _∙_, subst}

@@ -1,4 +1,4 @@
--- `facts::is_lead_count` meets its contract: of the counts it is the first. Assumes nothing.
+-- `facts::is_lead_count` meets its contract: the lead's count is the first (`count-lead`). Assumes nothing.
 use Rattle.grammar.proofs.Words.{count-lead}
 use Rattle.facts.proofs.is_lead_count.Statement.{statement}
 use Rattle.facts.proofs.is_lead_count.Tie as tie

@@ -1,4 +1,4 @@
--- `facts::is_lead_test` meets its contract: of the tests it is the first and the last. Assumes nothing.
+-- `facts::is_lead_test` meets its contract: the lead's tests are the first and the last (`test-lead`). Assumes nothing.
 use mathlib.Core.Bool.{Bool, _||_}
 use mathlib.Core.Path.{sym, ap, _∙_}
 use borrow.Author.Tests.{eq-eqb, ne-eqb}

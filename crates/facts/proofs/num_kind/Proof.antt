@@ -1,4 +1,4 @@
--- `facts::num_kind` meets its contract: the test decides. Assumes nothing.
+-- `facts::num_kind` meets its contract: a word below LITERAL is a parameter's, any other a literal's. Assumes nothing.
 use borrow.Author.Tests.{le-leb, lt-leb}
 use Rattle.words.specs.Word.{LITERAL}
 use Rattle.facts.proofs.num_kind.Statement.{statement}

@@ -1,4 +1,4 @@
--- `facts::num_value` meets its contract: the test decides, and no n is below the parameters. Assumes nothing.
+-- `facts::num_value` meets its contract: the test is `num_kind`'s, and no n is below the parameters. Assumes nothing.
 use borrow.Author.Tests.{le-leb, lt-leb}
 use native.Mathlib.Omega.{arith}
 use Rattle.words.specs.Word.{LITERAL}

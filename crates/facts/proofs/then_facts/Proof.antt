@@ -1,4 +1,4 @@
--- `facts::then_facts` meets its contract, by what `both` says. Assumes nothing.
+-- `facts::then_facts` meets its contract: each field is the definition's, with what `both` ensures. Assumes nothing.
 use borrow.Author.Needs.{needs}
 use Rattle.facts.proofs.then_facts.Statement.{statement}
 use Rattle.facts.proofs.then_facts.Tie as tie

@@ -1,4 +1,4 @@
--- `rules::beyond_after` meets its contract: the tests decide. Assumes nothing.
+-- `rules::beyond_after` meets its contract, by cases of the word: `chop`, `exists`, any other. Assumes nothing.
 use mathlib.Core.Bool.{or-true, or-false}
 use mathlib.Core.Path.{sym}
 use borrow.Author.Tests.{eq-eqb, ne-eqb}

@@ -1,4 +1,4 @@
--- `rules::is_counted` meets its contract: the tests decide. Assumes nothing.
+-- `rules::is_counted` meets its contract: the code compares in the order of the definition. Assumes nothing.
 use borrow.Author.Tests.{eq-eqb, ne-eqb}
 use Rattle.rules.specs.Limits.{counted}
 use Rattle.rules.proofs.is_counted.Statement.{statement}

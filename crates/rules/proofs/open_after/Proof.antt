@@ -1,4 +1,4 @@
--- `rules::open_after` meets its contract: the tests decide. Assumes nothing.
+-- `rules::open_after` meets its contract, by cases of the word, and at `)` of whether one is open. Assumes nothing.
 use mathlib.Core.Path.{sym, ap}
 use Prim.Native.Nat.{pred}
 use native.Mathlib.Numerals.{add-one, sub-one}

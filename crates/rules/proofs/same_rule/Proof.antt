@@ -1,4 +1,5 @@
--- `rules::same_rule` meets its contract: equal records come from one tree. Assumes nothing.
+-- `rules::same_rule` meets its contract, by cases: the first text refused, the second refused, or two trees. Equal
+-- records come from one tree and different ones from two (Sameness). Assumes nothing.
 use mathlib.Core.List.{List}
 use mathlib.Core.Path.{_≡_, sym, _∙_}
 use Prim.Native.Nat.{ℕ, _≤_}

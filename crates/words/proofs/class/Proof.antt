@@ -1,4 +1,6 @@
--- `words::class` meets its contract: at a single byte the definition computes; else the tests decide. Assumes nothing.
+-- `words::class` meets its contract. At a byte that an arm names the definition computes. A digit and a letter are in a
+-- run; a byte below, between or above them is in none, and so, as it is no space and no operator, is of the class OTHER
+-- (Classes). Assumes nothing.
 use mathlib.Core.Path.{_≡_, sym, ap}
 use Prim.Native.Nat.{ℕ}
 use Rattle.lists.specs.Decimal.{isDigit}

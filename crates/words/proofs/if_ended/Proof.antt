@@ -1,4 +1,4 @@
--- `words::if_ended` meets its contract: the test decides. Assumes nothing.
+-- `words::if_ended` meets its contract: the code's test is the definition's. Assumes nothing.
 use borrow.Author.Tests.{lt-ltb, le-ltb}
 use Rattle.words.proofs.if_ended.Statement.{statement}
 use Rattle.words.proofs.if_ended.Tie as tie

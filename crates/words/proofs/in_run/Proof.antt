@@ -1,4 +1,5 @@
--- `words::in_run` meets its contract: the tests decide. Assumes nothing.
+-- `words::in_run` meets its contract: a digit and a letter are in a run, a byte below the digits, between them and the
+-- letters or above the letters is not (Classes). Assumes nothing.
 use mathlib.Core.Path.{sym}
 use borrow.Author.Tests.{eq-eqb}
 use Rattle.words.specs.Split.{RUN}

@@ -1,4 +1,4 @@
--- `words::spelled_or` meets its contract: the comparison decides. Assumes nothing.
+-- `words::spelled_or` meets its contract: what `same_bytes` ensures is the definition's test. Assumes nothing.
 use mathlib.Core.Path.{sym, _∙_}
 use borrow.Author.Needs.{needs}
 use Rattle.words.proofs.spelled_or.Statement.{statement}

@@ -1,4 +1,5 @@
--- `words::word_at` meets its contract: the class decides. Assumes nothing.
+-- `words::word_at` meets its contract, by cases of the class: a run, no word, an operator. The end of a run, looked for
+-- from its second byte on, is that of the whole run (`run-ends`). Assumes nothing.
 use mathlib.Core.List.{List}
 use mathlib.Core.Path.{_≡_, sym, ap, _∙_}
 use Prim.Native.Nat.{ℕ, _+_}
