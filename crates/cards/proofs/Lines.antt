@@ -6,7 +6,7 @@ use mathlib.Core.List.{List, [], _∷_, _++_}
 use Prim.Native.Nat.{ℕ, zero, suc, _+_, _≤_, _<_}
 use native.Mathlib.Omega.{arith}
 use lib.Dec.{eqb}
-use lib.ListN.{length, take, drop, length-take}
+use lib.ListN.{length, take, drop}
 use lib.Seq.{take-length}
 use Rattle.lists.specs.Line.{lineEnd, line}
 use Rattle.lists.proofs.Lines.{take-line}
@@ -58,9 +58,6 @@ pub first-long : (s more : List ℕ) → LongFirst s more
 unfolding line
 first-long [] more = omega arith
 first-long (b ∷ s) more = first-split b s more (eqb b lineEnd) refl (first-long s more)
-
-pub line-within : (s : List ℕ) → length (line s) ≤ length s
-line-within s = omega (arith, ap length (take-line s), length-take (length (line s)) s)
 
 -- A line with no line end in it is all of its bytes.
 pub one-line : (s : List ℕ) → length (line s) ≡ length s → line s ≡ s

@@ -13,7 +13,8 @@ use Rattle.limits.specs.Limits.{lineLimit}
 use Rattle.lists.specs.Line.{line, lineFrom}
 use Rattle.cards.specs.declared.Phase.{Phase}
 use Rattle.cards.specs.declared.Phase.the-variants as P
-use Rattle.cards.proofs.Lines.{line-within, one-line}
+use Rattle.lists.proofs.Lines.{line-short}
+use Rattle.cards.proofs.Lines.{one-line}
 use Rattle.player.specs.Card.{World, worldOf, overWatch, overWorld, Effect, lined, outputBytes, brokenBytes, longestOutput}
 use Rattle.feeder.specs.Feed.{Goes, Short, Room, fedTo, Runs, Feeds, fedWorld, leftOver, placed}
 use Rattle.feeder.specs.Feed.{tailBytes, tailFed}
@@ -130,7 +131,7 @@ module _ {w₀ w : World} {b out₀ out : List ℕ} {u at : ℕ} (k : Between w�
   -- The line at u has n bytes.
   module _ (n : ℕ) (m : n ≡ length (lineFrom b u)) where
     pub line-inside : u + n ≤ length b
-    line-inside = omega (arith, k .within, m, line-within (drop u b), length-drop u b)
+    line-inside = omega (arith, k .within, m, line-short (drop u b), length-drop u b)
 
     -- It ends in the piece, and t is what it does.
     module _ (h : u + n < length b) {t : Effect} (q : t ≡ lined w (lineFrom b u)) where

@@ -3,12 +3,13 @@
 use mathlib.Core.Path.{_≡_, refl}
 use mathlib.Core.Bool.{true}
 use mathlib.Core.List.{List, [], _∷_, _++_, map}
-use Prim.Native.Nat.{ℕ}
+use Prim.Native.Nat.{ℕ, _-_}
 use lib.ListN.{replicate, drop}
+use Rattle.traces.specs.Trace.{tickOf}
 use Rattle.traces.specs.declared.Tick.{Tick}
 use Rattle.tables.specs.Table.{all, kindOf, shapeOf, sameSort, isFlow, operandFits, shapeFits, lengthFits}
 use Rattle.tables.specs.Table.{equationsFit, checked}
-use Rattle.limits.specs.Limits.{standardCap}
+use Rattle.limits.specs.Limits.{parameterCount, standardCap}
 use Rattle.tables.specs.Reply.{Reply, gives, refused, checkedReply}
 use Rattle.flows.specs.Flow.{increased, valueOf, flows, memoriesSet, initial, inRange}
 use Rattle.tables.specs.Table.{isMemory}
@@ -27,7 +28,7 @@ table =
 
 -- A tick with that start and these signals, k0 = x and the other parameters 0.
 abbrev tick : ℕ → ℕ → ℕ → Tick
-tick s g x = record { start = s; signals = g; parameters = x ∷ replicate 7 0 }
+tick s g x = tickOf s g (x ∷ replicate (parameterCount - 1) 0)
 
 -- Fourteen cells before the fresh state, each 9, and after it.
 abbrev old : List ℕ

@@ -36,10 +36,10 @@ fn compare(op: u32, x: u32, y: u32) -> bool
     ensures { λ r. ⌜ r ≡ compares (opOf op) x y ⌝ }
 {
     match op {
-        tables::AT_MOST => x <= y,
-        tables::BELOW => x < y,
-        tables::EQUAL => x == y,
-        tables::ABOVE => x > y,
+        traces::AT_MOST => x <= y,
+        traces::BELOW => x < y,
+        traces::EQUAL => x == y,
+        traces::ABOVE => x > y,
         _ => x >= y,
     }
 }

@@ -7,7 +7,7 @@ use Prim.Native.String.{String}
 use lib.ListN.{replicate}
 use Rattle.limits.specs.Limits.{parameterCount}
 use Rattle.traces.specs.declared.Tick.{Tick}
-use Rattle.traces.specs.Trace.{Trace, traceOf}
+use Rattle.traces.specs.Trace.{Trace, tickOf, traceOf}
 use Rattle.traces.specs.Compare.Op.{le, lt, eq, gt, ge}
 use Rattle.formulas.specs.Formula.{Prop, Formula}
 use Rattle.formulas.specs.Formula.Num.{literal, parameter}
@@ -75,7 +75,7 @@ abbrev pub noughts : List ℕ
 noughts = replicate parameterCount 0
 
 abbrev pub tick : ℕ → ℕ → Tick
-tick s g = record { start = s; signals = g; parameters = noughts }
+tick s g = tickOf s g noughts
 
 -- The ticks with these starts and these signals, in order.
 abbrev pub ticksOf : List ℕ → List ℕ → List Tick

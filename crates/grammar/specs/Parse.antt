@@ -6,7 +6,8 @@ use mathlib.Core.List.{List}
 use mathlib.Core.Option.{Option, none, some}
 use Prim.Native.Nat.{ℕ, zero, suc, _+_, _-_, _*_}
 use lib.Dec.{eqb}
-use lib.ListN.{length, getD}
+use lib.ListN.{length}
+use Rattle.lists.specs.Number.{numberAt}
 use Rattle.traces.specs.Compare.{Op}
 use Rattle.formulas.specs.Formula.{Num}
 use Rattle.formulas.specs.Tree.{Tree}
@@ -17,7 +18,7 @@ use Rattle.grammar.specs.Grammar.{bitWord, signalWord, opWord, numWord, 
 
 -- The word at a position.
 abbrev pub word : List ℕ → ℕ → ℕ
-word ws i = getD ws i 0
+word ws i = numberAt ws i
 
 -- What reading gives: nothing, or a tree and the position after its words.
 pub data Result : Type 0 where

@@ -25,8 +25,8 @@ abbrev pub truthCount : ℕ
 truthCount = 2
 
 -- "op is 0 `<=`, 1 `<`, 2 `=`, 3 `>`, 4 `>=`."
-abbrev pub opCount : ℕ
-opCount = 5
+abbrev pub comparisonCount : ℕ
+comparisonCount = 5
 
 -- "A literal is 0 to 999,999.", for every cap.
 abbrev pub literalCount : ℕ

@@ -17,7 +17,7 @@ use Rattle.lists.proofs.Choice.{false-true}
 use Rattle.tables.specs.Kind.{SIGNAL, START, CONSTANT, NOT, AND, OR, BOOLEAN-PRE, COUNT-PRE, CAPPED, IF}
 use Rattle.tables.specs.Kind.{COMPARE-LITERAL, COMPARE-PARAMETER, kindCount}
 use Rattle.tables.specs.Table.{all, Equation, kinds, kindOf, shapeOf, isFlow, operandFits, shapeFits}
-use Rattle.limits.specs.Limits.{equationLimit, literalCount, lastLiteral, truthCount, opCount}
+use Rattle.limits.specs.Limits.{equationLimit, literalCount, lastLiteral, truthCount, comparisonCount}
 use Rattle.tables.specs.declared.Operand.{Operand}
 use Rattle.tables.specs.declared.Operand.the-variants.{Unused, Earlier, Anywhere, Below}
 use Rattle.tables.proofs.Tests.{and-true, all-at}
@@ -259,11 +259,11 @@ comparing k b =
     && (eqb k (f .settled .kind)
     && (eqb b (f .settled .b) && (not (absent letterA (formText f)) && not (absent letterC (formText f)))))
 
-compared : (k : ℕ) → all (comparing k) opCount ≡ true
-    → (a b c : ℕ) → a < equationLimit → b < opCount → c < literalCount → Plain (equation k a b c)
+compared : (k : ℕ) → all (comparing k) comparisonCount ≡ true
+    → (a b c : ℕ) → a < equationLimit → b < comparisonCount → c < literalCount → Plain (equation k a b c)
 compared k t a b c p q r =
     let f = formAt (firstForm k + b) in
-    let known = and-true (ltb (firstForm k + b) formCount) _ (all-at (comparing k) opCount t b q) in
+    let known = and-true (ltb (firstForm k + b) formCount) _ (all-at (comparing k) comparisonCount t b q) in
     let kind = and-true (eqb k (f .settled .kind)) _ (known .1) in
     let op = and-true (eqb b (f .settled .b)) _ (kind .1) in
     let letters = and-true (not (absent letterA (formText f))) _ (op .1) in
@@ -274,11 +274,11 @@ compared k t a b c p q r =
     (free (absent letterC (formText f)) c (f .settled .c) (letters .1))
     (below, omega arith, omega arith, omega arith)
 
-literals : all (comparing COMPARE-LITERAL) opCount ≡ true
+literals : all (comparing COMPARE-LITERAL) comparisonCount ≡ true
 unfolding all formAt forms padded absent firstOf firstForm
 literals = refl
 
-parameters : all (comparing COMPARE-PARAMETER) opCount ≡ true
+parameters : all (comparing COMPARE-PARAMETER) comparisonCount ≡ true
 unfolding all formAt forms padded absent firstOf firstForm
 parameters = refl
 

@@ -208,7 +208,7 @@ const FORMS: [Form; FORM_COUNT] = [
         settled: Numbers {
             kind: tables::COMPARE_LITERAL,
             a: 0,
-            b: tables::AT_MOST,
+            b: traces::AT_MOST,
             c: 0,
         },
         len: 7,
@@ -218,7 +218,7 @@ const FORMS: [Form; FORM_COUNT] = [
         settled: Numbers {
             kind: tables::COMPARE_LITERAL,
             a: 0,
-            b: tables::BELOW,
+            b: traces::BELOW,
             c: 0,
         },
         len: 6,
@@ -228,7 +228,7 @@ const FORMS: [Form; FORM_COUNT] = [
         settled: Numbers {
             kind: tables::COMPARE_LITERAL,
             a: 0,
-            b: tables::EQUAL,
+            b: traces::EQUAL,
             c: 0,
         },
         len: 6,
@@ -238,7 +238,7 @@ const FORMS: [Form; FORM_COUNT] = [
         settled: Numbers {
             kind: tables::COMPARE_LITERAL,
             a: 0,
-            b: tables::ABOVE,
+            b: traces::ABOVE,
             c: 0,
         },
         len: 6,
@@ -248,7 +248,7 @@ const FORMS: [Form; FORM_COUNT] = [
         settled: Numbers {
             kind: tables::COMPARE_LITERAL,
             a: 0,
-            b: tables::AT_LEAST,
+            b: traces::AT_LEAST,
             c: 0,
         },
         len: 7,
@@ -259,7 +259,7 @@ const FORMS: [Form; FORM_COUNT] = [
         settled: Numbers {
             kind: tables::COMPARE_PARAMETER,
             a: 0,
-            b: tables::AT_MOST,
+            b: traces::AT_MOST,
             c: 0,
         },
         len: 8,
@@ -269,7 +269,7 @@ const FORMS: [Form; FORM_COUNT] = [
         settled: Numbers {
             kind: tables::COMPARE_PARAMETER,
             a: 0,
-            b: tables::BELOW,
+            b: traces::BELOW,
             c: 0,
         },
         len: 7,
@@ -279,7 +279,7 @@ const FORMS: [Form; FORM_COUNT] = [
         settled: Numbers {
             kind: tables::COMPARE_PARAMETER,
             a: 0,
-            b: tables::EQUAL,
+            b: traces::EQUAL,
             c: 0,
         },
         len: 7,
@@ -289,7 +289,7 @@ const FORMS: [Form; FORM_COUNT] = [
         settled: Numbers {
             kind: tables::COMPARE_PARAMETER,
             a: 0,
-            b: tables::ABOVE,
+            b: traces::ABOVE,
             c: 0,
         },
         len: 7,
@@ -299,7 +299,7 @@ const FORMS: [Form; FORM_COUNT] = [
         settled: Numbers {
             kind: tables::COMPARE_PARAMETER,
             a: 0,
-            b: tables::AT_LEAST,
+            b: traces::AT_LEAST,
             c: 0,
         },
         len: 8,

@@ -12,6 +12,7 @@ use lib.Seq.{sets}
 use borrow.Author.Tests.{le-leb, lt-ltb, lt-leb, ltb-false}
 use Rattle.traces.specs.declared.Tick.{Tick}
 use Rattle.words.specs.Split.{Out, splitOf}
+use Rattle.words.proofs.Splitting.{refused-made}
 use Rattle.words.specs.Split.Out.{made}
 use Rattle.formulas.specs.Formula.{Formula}
 use Rattle.formulas.specs.Meaning.{verdict}
@@ -206,9 +207,6 @@ silent-owed w w' l ls e = rw e
 -- ---- the rule
 
 -- A text that is a rule has at most 2,048 bytes.
-refused-made : {n : ℕ} {ws : List ℕ} → Out.refused n ≡ made ws → ⊥
-refused-made e = let z : _≡_ {A = ℕ} 0 1 = cc in omega arith
-
 not-long : (a b : Bool) (x : Out) (ws : List ℕ) → cond (a || b) (Out.refused 1) x ≡ made ws → b ≡ false
 not-long true b x ws e = absurd (refused-made e)
 not-long false true x ws e = absurd (refused-made e)

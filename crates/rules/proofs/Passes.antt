@@ -5,11 +5,10 @@ use mathlib.Core.Path.{_≡_, refl, sym, ap, _∙_}
 use mathlib.Core.List.{List, _∷_}
 use Prim.Native.Nat.{ℕ, suc, _+_, _≤_, _<_}
 use native.Mathlib.Nat.{zero-add}
-use native.Mathlib.Numerals.{add-one}
 use native.Mathlib.Omega.{arith}
 use lib.Dec.{eqb, ltb}
 use lib.ListN.{length, getD, drop, drop-of-length-le}
-use lib.Seq.{drop-cons}
+use Rattle.lists.proofs.Buffers.{drop-more}
 use borrow.Author.Tests.{lt-ltb, le-ltb}
 use Rattle.words.specs.Word.{CHOP, EXISTS}
 use Rattle.grammar.specs.Fragment.{hasWord, beyond}
@@ -18,10 +17,6 @@ use Rattle.rules.specs.Limits.{bracketLimit, operatorLimit, opened, deep
 or-eq-false-left : (a b : Bool) → (a || b) ≡ false → a ≡ false
 or-eq-false-left true b e = e
 or-eq-false-left false b e = refl
-
--- The words from position i on: the one at i and those after it.
-words-at : (ws : List ℕ) (i : ℕ) → i < length ws → drop i ws ≡ getD ws i 0 ∷ drop (i + 1) ws
-words-at ws i h = drop-cons ws i 0 h ∙ rw add-one
 
 -- ---- `chop` or `exists` among the words
 
@@ -39,7 +34,7 @@ module _ (ws : List ℕ) (i : ℕ) where
   beyond-at b h =
       let w = getD ws i 0 in
       let rest = drop (i + 1) ws in
-      rw (words-at ws i h) (regroup b (eqb w CHOP) (eqb w EXISTS) (hasWord CHOP rest) (hasWord EXISTS rest))
+      rw (drop-more ws i h) (regroup b (eqb w CHOP) (eqb w EXISTS) (hasWord CHOP rest) (hasWord EXISTS rest))
 
   beyond-end : length ws ≤ i → beyond (drop i ws) ≡ false
   unfolding hasWord
@@ -51,14 +46,14 @@ module _ (d : ℕ) (ws : List ℕ) (i : ℕ) where
   deep-here : i < length ws → bracketLimit < opened d (getD ws i 0) → deep d (drop i ws) ≡ true
   unfolding deep
   deep-here h l =
-      ap (deep d) (words-at ws i h)
+      ap (deep d) (drop-more ws i h)
       ∙ ap (λ (b : Bool). b || deep (opened d (getD ws i 0)) (drop (i + 1) ws)) (lt-ltb _ _ l)
 
   deep-later : i < length ws → opened d (getD ws i 0) ≤ bracketLimit
       → deep d (drop i ws) ≡ deep (opened d (getD ws i 0)) (drop (i + 1) ws)
   unfolding deep
   deep-later h l =
-      ap (deep d) (words-at ws i h)
+      ap (deep d) (drop-more ws i h)
       ∙ ap (λ (b : Bool). b || deep (opened d (getD ws i 0)) (drop (i + 1) ws)) (le-ltb _ _ l)
 
   deep-never : length ws ≤ i → deep d (drop i ws) ≡ false
@@ -72,7 +67,7 @@ module _ (ws : List ℕ) (i : ℕ) where
       → operatorCount (drop i ws) ≡ cond b (suc (operatorCount (drop (i + 1) ws))) (operatorCount (drop (i + 1) ws))
   unfolding operatorCount
   operators-at h b e =
-      ap operatorCount (words-at ws i h)
+      ap operatorCount (drop-more ws i h)
       ∙ ap (λ (x : Bool). cond x (suc (operatorCount (drop (i + 1) ws))) (operatorCount (drop (i + 1) ws))) e
 
   operators-end : length ws ≤ i → operatorCount (drop i ws) ≡ 0

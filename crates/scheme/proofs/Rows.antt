@@ -14,7 +14,7 @@ use Rattle.formulas.specs.Formula.Num.{literal, parameter}
 use Rattle.formulas.specs.Arena.{numKind}
 use Rattle.formulas.specs.Bounds.{numBound}
 use Rattle.tables.specs.Table.{all, Equation, kindOf, kindAt, shapeOf, sortOf, sameSort}
-use Rattle.limits.specs.Limits.{truthCount, opCount}
+use Rattle.limits.specs.Limits.{truthCount, comparisonCount}
 use Rattle.limits.specs.Limits.{literalCount, parameterCount}
 use Rattle.tables.specs.declared.Sort.the-variants.{Boolean}
 use Rattle.tables.specs.Kind.{CONSTANT, NOT, AND, OR}
@@ -37,7 +37,7 @@ truth-below : (c : Bool) → truth c < truthCount
 truth-below true = omega arith
 truth-below false = omega arith
 
-op-below : (o : Op) → opNumber o < opCount
+op-below : (o : Op) → opNumber o < comparisonCount
 op-below le = omega arith
 op-below lt = omega arith
 op-below eq = omega arith
@@ -104,16 +104,16 @@ module _ (t : List ℕ) (N o : ℕ) where
   module _ {rp : Role} {n p : ℕ} (bn : Before t o Boolean n) (gp : Given rp p) where
     compare-fit : (cap : ℕ) → cap ≤ literalCount → (op : Op) (x : Num) → numBound cap x ≡ true → (rows : List Row)
         → o ⊕ length rows ≤ N → Kinded (filled (comparing o n p op x) rows)
-        → ((c : ℕ) → rowsOk (comparing o n p op (literal c)) (rolesOf given free rp free opCount literalCount) rows
+        → ((c : ℕ) → rowsOk (comparing o n p op (literal c)) (rolesOf given free rp free comparisonCount literalCount) rows
         ≡ true)
-        → ((c : ℕ) → rowsOk (comparing o n p op (parameter c)) (rolesOf given free rp free opCount parameterCount) rows
+        → ((c : ℕ) → rowsOk (comparing o n p op (parameter c)) (rolesOf given free rp free comparisonCount parameterCount) rows
         ≡ true)
         → Each (Fits t N) o (filled (comparing o n p op x) rows)
     compare-fit cap low op (literal c) bound rows room kinds ok ok′ =
-        numbers-fit (comparing o n p op (literal c)) refl (used bn) unused gp unused opCount literalCount rows
+        numbers-fit (comparing o n p op (literal c)) refl (used bn) unused gp unused comparisonCount literalCount rows
         (op-below op) (omega (arith, ltb-true c cap bound)) room kinds (ok c)
     compare-fit cap low op (parameter c) bound rows room kinds ok ok′ =
-        numbers-fit (comparing o n p op (parameter c)) refl (used bn) unused gp unused opCount parameterCount rows
+        numbers-fit (comparing o n p op (parameter c)) refl (used bn) unused gp unused comparisonCount parameterCount rows
         (op-below op) (ltb-true c parameterCount bound) room kinds (ok′ c)
 
   -- A comparison is boolean.

@@ -6,7 +6,7 @@ use Prim.Native.Nat.{ℕ, zero, suc, _+_, _*_, _-_}
 use lib.Dec.{leb, ltb, eqb}
 use lib.ListN.{length, getD}
 use Rattle.lists.specs.Number.{numberAt}
-use Rattle.limits.specs.Limits.{signalCount, truthCount, opCount, literalCount, parameterCount, equationLimit}
+use Rattle.limits.specs.Limits.{signalCount, truthCount, comparisonCount, literalCount, parameterCount, equationLimit}
 use Rattle.tables.specs.declared.Sort.{Sort}
 use Rattle.tables.specs.declared.Sort.the-variants.{Boolean, Count}
 use Rattle.tables.specs.declared.Operand.{Operand}
@@ -76,8 +76,8 @@ shapeOf booleanPre = row (Anywhere Boolean) Unused (Below truthCount) Boolean
 shapeOf countPre = row (Anywhere Count) Unused Unused Count
 shapeOf capped = row (Earlier Count) (Earlier Boolean) Unused Count
 shapeOf ifElse = row (Earlier Boolean) (Earlier Count) Unused Count
-shapeOf compareLiteral = row (Earlier Count) (Below opCount) (Below literalCount) Boolean
-shapeOf compareParameter = row (Earlier Count) (Below opCount) (Below parameterCount) Boolean
+shapeOf compareLiteral = row (Earlier Count) (Below comparisonCount) (Below literalCount) Boolean
+shapeOf compareParameter = row (Earlier Count) (Below comparisonCount) (Below parameterCount) Boolean
 shapeOf unknown = row (Below 0) Unused Unused Boolean
 
 -- The sort of a kind's flow.

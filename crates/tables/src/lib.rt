@@ -65,17 +65,6 @@ pub const COMPARE_LITERAL: u32 = 10;
 
 pub const COMPARE_PARAMETER: u32 = 11;
 
-// The numbers of the comparisons `<=`, `<`, `=`, `>`, `>=`.
-pub const AT_MOST: u32 = 0;
-
-pub const BELOW: u32 = 1;
-
-pub const EQUAL: u32 = 2;
-
-pub const ABOVE: u32 = 3;
-
-pub const AT_LEAST: u32 = 4;
-
 // How many kinds there are.
 const KIND_COUNT: usize = 12;
 

@@ -1,6 +1,18 @@
-// Ticks. What a tick's numbers mean is in specs/Trace.antt.
+// Ticks, and the numbers of the comparisons. What a tick's numbers mean is in specs/Trace.antt, what a comparison says in
+// specs/Compare.antt.
 ghost use mathlib.Core.Path.{_≡_};
 ghost use Rattle.traces.specs.Trace.{tickOf};
+
+// The numbers of `<=`, `<`, `=`, `>`, `>=`.
+pub const AT_MOST: u32 = 0;
+
+pub const BELOW: u32 = 1;
+
+pub const EQUAL: u32 = 2;
+
+pub const ABOVE: u32 = 3;
+
+pub const AT_LEAST: u32 = 4;
 
 // One tick of a trace (document 01, "Each operation and its refusals": "A step takes start (any number but 0 is yes),
 // 64 signal bits, eight parameters").
