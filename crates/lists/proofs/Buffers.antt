@@ -29,61 +29,53 @@ sets-front o xs n p q =
     let long : length (take n xs) ≡ n = length-take-le n xs p in
     sets-eq (take n xs) o 0 (omega arith) ∙ rw (zero-add, long)
 
--- What is stored of the front of xs, from a place on: no more than is there, and than has room in o.
-module _ (o xs : List ℕ) (at k n : ℕ) where
+-- What is stored of the front of xs: no more than is there, and than has room in o.
+module _ (o xs : List ℕ) (k n : ℕ) where
   front-split : n ≤ length xs → n ≤ k
-      → sets (sets o at (take n xs)) (at + n) (take (k - n) (drop n xs)) ≡ sets o at (take k xs)
+      → sets (sets o 0 (take n xs)) n (take (k - n) (drop n xs)) ≡ sets o 0 (take k xs)
   front-split p q =
-      let long : at + length (take n xs) ≡ at + n = ap (λ (m : ℕ). at + m) (length-take-le n xs p) in
+      let long : 0 + length (take n xs) ≡ n = zero-add _ ∙ length-take-le n xs p in
       let whole : n + (k - n) ≡ k = omega arith in
-      ap (λ (m : ℕ). sets (sets o at (take n xs)) m (take (k - n) (drop n xs))) (sym long)
-      ∙ sets-append o at (take n xs) (take (k - n) (drop n xs))
-      ∙ ap (sets o at) (sym (take-add n (k - n) xs) ∙ ap (λ (m : ℕ). take m xs) whole)
+      ap (λ (m : ℕ). sets (sets o 0 (take n xs)) m (take (k - n) (drop n xs))) (sym long)
+      ∙ sets-append o 0 (take n xs) (take (k - n) (drop n xs))
+      ∙ ap (sets o 0) (sym (take-add n (k - n) xs) ∙ ap (λ (m : ℕ). take m xs) whole)
 
   -- Nothing more is there, or has room, or is asked for.
-  none-left : (n < length xs → at + n < length o → k ≤ n)
-      → sets (sets o at (take n xs)) (at + n) (take (k - n) (drop n xs)) ≡ sets o at (take n xs)
+  none-left : (n < length xs → n < length o → k ≤ n)
+      → sets (sets o 0 (take n xs)) n (take (k - n) (drop n xs)) ≡ sets o 0 (take n xs)
   none-left h =
-      elim (decLe (length o) (at + n)) [
-        | yes p ↦ sets-out _ (at + n) (take (k - n) (drop n xs)) (omega (arith, length-sets o at (take n xs)))
+      elim (decLe (length o) n) [
+        | yes p ↦ sets-out _ n (take (k - n) (drop n xs)) (omega (arith, length-sets o 0 (take n xs)))
         | no p ↦ elim (decLe (length xs) n) [
           | yes q ↦ rw (drop-of-length-le xs q, take-nil (k - n))
           | no q ↦ (let none : k - n ≡ 0 = omega (arith, h (omega arith) (omega arith)) in rw none)
         ]
       ]
 
-  front-stored : n ≡ min k (min (length xs) (length o - at)) → sets o at (take n xs) ≡ sets o at (take k xs)
+  pub front-stored : n ≡ min k (min (length xs) (length o)) → sets o 0 (take n xs) ≡ sets o 0 (take k xs)
   front-stored e = sym (none-left (λ p q. omega arith)) ∙ front-split (omega arith) (omega arith)
 
--- The loop of a copy: the first i numbers of xs are stored from a place on in o, which has become u.
-pub record Copying (xs o : List ℕ) (at : ℕ) (u : List ℕ) (i : ℕ) : Type 0 where
-  pub stored : u ≡ sets o at (take i xs)
+-- The loop of a copy: the first i numbers of xs are stored in o, which has become u.
+pub record Copying (xs o u : List ℕ) (i : ℕ) : Type 0 where
+  pub stored : u ≡ sets o 0 (take i xs)
   pub within : i ≤ length xs
 
-pub copy-none : (xs o : List ℕ) (at : ℕ) → Copying xs o at o 0
-copy-none xs o at = record { stored = refl; within = omega arith }
-
-module _ {xs o u : List ℕ} {at i : ℕ} (h : Copying xs o at u i) where
+module _ {xs o u : List ℕ} {i : ℕ} (h : Copying xs o u i) where
   pub copy-length : length u ≡ length o
-  copy-length = ap length (h .stored) ∙ length-sets o at (take i xs)
+  copy-length = ap length (h .stored) ∙ length-sets o 0 (take i xs)
 
-  -- One more, at the place p.
-  pub copy-more : (p : ℕ) → p ≡ at + i → i < length xs → Copying xs o at (set u p (getD xs i 0)) (i + 1)
-  copy-more p e l =
-      let long : at + length (take i xs) ≡ p = omega (arith, length-take-le i xs (h .within)) in
+  pub copy-more : i < length xs → Copying xs o (set u i (getD xs i 0)) (i + 1)
+  copy-more p =
+      let long : 0 + length (take i xs) ≡ i = zero-add _ ∙ length-take-le i xs (h .within) in
       let one = getD xs i 0 ∷ [] in
       record {
         stored =
-            ap (λ (l : List ℕ). set l p (getD xs i 0)) (h .stored)
-            ∙ ap (λ (m : ℕ). sets (sets o at (take i xs)) m one) (sym long)
-            ∙ sets-append o at (take i xs) one
-            ∙ rw (add-one i, take-suc xs i 0 l);
+            ap (λ (l : List ℕ). set l i (getD xs i 0)) (h .stored)
+            ∙ ap (λ (m : ℕ). sets (sets o 0 (take i xs)) m one) (sym long)
+            ∙ sets-append o 0 (take i xs) one
+            ∙ rw (add-one i, take-suc xs i 0 p);
         within = omega arith;
       }
-
-  -- All of the first k that are there and have room.
-  pub copy-all : (k : ℕ) → i ≡ min k (min (length xs) (length o - at)) → u ≡ sets o at (take k xs)
-  copy-all k e = h .stored ∙ front-stored o xs at k i e
 
 -- The numbers from place i on: the one at i and those after it.
 pub drop-more : (l : List ℕ) (i : ℕ) → i < length l → drop i l ≡ getD l i 0 ∷ drop (i + 1) l

@@ -76,18 +76,6 @@ pub fn copy(from: &[u32], k: usize, to: &mut [u32])
     }
 }
 
-// The bytes of `from`, stored at the places of `to` from `at` on; those that have no room are left out.
-pub fn copy_bytes(from: &[u8], to: &mut [u8], at: usize)
-    ensures { λ _. ⌜ now (to .exit) ≡ sets (now (to .entry)) at (now (from .entry)) ⌝ }
-{
-    let n = least(from.len(), to.len() - least(at, to.len()));
-    let mut i = 0;
-    while i < n {
-        to[at + i] = from[i];
-        i += 1;
-    }
-}
-
 // The byte that ends a line.
 pub const LINE_END: u8 = 10;
 

@@ -1,16 +1,16 @@
 -- `lists::copy` meets its contract: the numbers passed are stored (`Copying`), and no others have room. Assumes
 -- nothing.
-use mathlib.Core.Path.{_≡_}
+use mathlib.Core.Path.{_≡_, refl, _∙_}
 use Prim.Native.Nat.{_-_, _≤_, min}
 use native.Mathlib.Omega.{arith}
 use borrow.Author.Needs.{needs}
 use lib.ListN.{length}
-use Rattle.lists.proofs.Buffers.{Copying, copy-none, copy-length, copy-more, copy-all}
+use Rattle.lists.proofs.Buffers.{Copying, copy-length, copy-more, front-stored}
 use Rattle.lists.proofs.copy.Statement.{statement}
 use Rattle.lists.proofs.copy.Tie as tie
 
 abbrev Inv-loop : tie.InvT-loop
-Inv-loop from k to₀ n i₀ to i = Copying from to₀ 0 to i × (i ≤ n)
+Inv-loop from k to₀ n i₀ to i = Copying from to₀ to i × (i ≤ n)
 
 abbrev μ-loop : tie.MeasureT-loop
 μ-loop from k to₀ n i₀ to i = n - i
@@ -31,12 +31,13 @@ bound c = rw (c .before .least .ensures) at (c .least2 .ensures)
 loop-again : tie.Need-loop-again Inv-loop μ-loop
 loop-again c =
     let loop = c .before .before in
-    (copy-more (loop .loop .inv .0) _ (omega arith) (omega (arith, bound (bounded loop))), omega arith)
+    (copy-more (loop .loop .inv .0) (omega (arith, bound (bounded loop))), omega arith)
 
 returns : tie.Need-returns Inv-loop μ-loop
 returns c =
     let loop = c .before in
-    copy-all (loop .loop .inv .0) (start (bounded loop) .args .k) (omega (arith, bound (bounded loop)))
+    let all : loop .loop .i ≡ bounded loop .least2 .result = omega arith in
+    loop .loop .inv .0 .stored ∙ rw all (front-stored _ _ _ _ (bound (bounded loop)))
 
 pub copy-spec : {M : Type 1} → statement M
 copy-spec =
@@ -46,7 +47,7 @@ copy-spec =
     μ-loop
     (λ c κs. search needs)
     (λ c κs. search needs)
-    (λ c. (copy-none _ _ _, omega arith))
+    (λ c. (record { stored = refl; within = omega arith }, omega arith))
     (λ c. search needs)
     (λ c. omega (arith, bound (bounded (c .before .before))))
     (λ c. search needs)
