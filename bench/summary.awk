@@ -1,5 +1,5 @@
 # Lines `state place name number`, with tabs: a row for each name with the median (the least to the most) of the places,
-# a column for each state. At each place the least number of a name counts. Below a row of C stands the ratio to it.
+# a column for each state. At each place the least number of a name counts. Below C's times stands the ratio to them.
 BEGIN { FS = "\t" }
 
 {
@@ -17,7 +17,7 @@ END {
     for (j = 1; j <= count; j++) {
         row(order[j])
         ours = order[j]
-        if (sub(/, C(, | with no check, )/, ", ", ours) && ours in seen) ratios(ours, order[j])
+        if (ours !~ /, KB$/ && sub(/, C(, | with no check, )/, ", ", ours) && ours in seen) ratios(ours, order[j])
     }
 }
 
