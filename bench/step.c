@@ -1,5 +1,5 @@
 /* The time of a step beside a hand-written C interpreter, on random well-formed tables and on tables compiled from rules.
- * Usage: step time            a line for each size: nanoseconds a step of both, and their ratio
+ * Usage: step time            two lines for each size: nanoseconds a step, ours and C's
  *        step run N WHICH     1,000 steps of N equations, WHICH 0 ours, 1 the interpreter's: for counting instructions
  * Both are run on the same ticks and must answer and leave the same. */
 #include <stdio.h>
