@@ -7,7 +7,6 @@ use native.Mathlib.Omega.{arith}
 use native.Mathlib.Decide.{decLt}
 use lib.Dec.{eqb}
 use lib.ListN.{length, getD, List·getD-eq-default}
-use Rattle.tables.specs.Kind.{COMPARE-LITERAL}
 use Rattle.tables.specs.Table.{all}
 use Rattle.tables.proofs.Tests.{all-at}
 use Rattle.scheme.specs.Scheme.{widest, Name, RowKind, Row as SchemeRow, Node as SchemeNode, noRow, rowAt, nodeList}
@@ -16,8 +15,8 @@ use Rattle.scheme.specs.Scheme.Name.{Nought, Idle, Start, Last, Previous, Signa
 use Rattle.scheme.specs.Scheme.Name.{First, Second, Third, Fourth, Fifth}
 use Rattle.scheme.specs.Scheme.RowKind.{Plain, Comparison}
 use Rattle.scheme.proofs.ByKind.{rows-few}
-use Rattle.node_table.specs.Numbers.{numberOf, nameCount, valueList, kindNumber, kindBy, asRow, fiveOf, asNode}
-use Rattle.node_table.specs.Numbers.{nodeTable, Known, Sized, lookedUp}
+use Rattle.node_table.specs.Numbers.{numberOf, nameCount, valueList, COMPARISON, kindNumber, kindBy, asRow}
+use Rattle.node_table.specs.Numbers.{fiveOf, asNode, nodeTable, Known, Sized, lookedUp}
 use Rattle.node_table.specs.declared.Node.{Node}
 
 -- ---- the table
@@ -106,13 +105,13 @@ named v Third = refl
 named v Fourth = refl
 named v Fifth = refl
 
--- A row does not always compare with a literal.
+-- A row that always has its kind does not have the comparison's number.
 abbrev proper : RowKind → Bool
-proper (Plain k) = not (eqb k COMPARE-LITERAL)
+proper (Plain k) = not (eqb k COMPARISON)
 proper Comparison = true
 
 kind-found : (v : Values) (k : RowKind) → proper k ≡ true → kindBy (v .comparison) (kindNumber k) ≡ kindFor v k
-kind-found v (Plain k) h = go (eqb k COMPARE-LITERAL) h
+kind-found v (Plain k) h = go (eqb k COMPARISON) h
   where
     go : (b : Bool) → not b ≡ true → cond b (v .comparison) k ≡ k
     go true h = absurd (false≢true h)

@@ -6,7 +6,7 @@ use mathlib.Core.Path.{_≡_}
 use Prim.Native.Nat.{ℕ, _≤_, _<_}
 use lib.Dec.{eqb}
 use lib.ListN.{length, getD}
-use Rattle.tables.specs.Kind.{COMPARE-LITERAL}
+use Rattle.tables.specs.Kind.{kindCount}
 use Rattle.tables.specs.Table.{Equation}
 use Rattle.scheme.specs.Scheme.{_⊕_, Name, RowKind, Row as SchemeRow, Node as SchemeNode, noRow, rowAt, Values}
 use Rattle.scheme.specs.Scheme.{widest, nodeList, noNode}
@@ -41,13 +41,16 @@ valueList v =
     0 ∷ v .idle ∷ v .start ∷ v .last ∷ v .previous ∷ v .signal ∷ v .a ∷ v .c
     ∷ v .place ∷ (v .place ⊕ 1) ∷ (v .place ⊕ 2) ∷ (v .place ⊕ 3) ∷ (v .place ⊕ 4) ∷ v .comparison ∷ []
 
--- The comparison that a record asks for stands as the comparison with a literal: no row always has that kind.
+-- The number of the comparison that a record asks for: the first that is of no kind of equation.
+abbrev pub COMPARISON : ℕ
+COMPARISON = kindCount
+
 abbrev pub kindNumber : RowKind → ℕ
 kindNumber (Plain k) = k
-kindNumber Comparison = COMPARE-LITERAL
+kindNumber Comparison = COMPARISON
 
 abbrev pub kindBy : ℕ → ℕ → ℕ
-kindBy comparison k = cond (eqb k COMPARE-LITERAL) comparison k
+kindBy comparison k = cond (eqb k COMPARISON) comparison k
 
 abbrev pub asRow : SchemeRow → Row
 asRow r = record { 0 = kindNumber (r .kind); 1 = numberOf (r .a); 2 = numberOf (r .b); 3 = numberOf (r .c) }

@@ -42,8 +42,8 @@ const FIFTH: u32 = 12;
 // How many names there are; the kind of the record's comparison stands after their values.
 pub const NAMES: usize = 13;
 
-// The kind of a row that compares as the record asks: no row always compares with a literal.
-const COMPARISON: u32 = tables::COMPARE_LITERAL;
+// The kind of a row that compares as the record asks: the first number that is of no kind of equation.
+const COMPARISON: u32 = tables::COMPARE_PARAMETER + 1;
 
 // ---- the tables
 
