@@ -89,7 +89,7 @@ added {vs} {t} {stack} {m} {d} {t′} k v e-d e-vs h =
     let result : d .result ≡ numberOf (nodeOf k .result) = ap (λ (x : CodeNode). x .result) e-d in
     let idle : d .idle ≡ numberOf (nodeOf k .idle) = ap (λ (x : CodeNode). x .idle) e-d in
     let rows : take (d .count) (map (lookedUp vs) (d .rows)) ≡ filled v (nodeOf k .rows) =
-    ap₂ (λ (x : CodeNode) (l : List ℕ). take (x .count) (map (lookedUp l) (x .rows))) e-d e-vs ∙ own-rows k v in
+    ap₂ (λ (x : CodeNode) (l : List ℕ). take (x .count) (map (lookedUp l) (x .rows))) e-d e-vs ∙ own-rows v k in
     let table : t′ ≡ withEquations t (m .next) (filled v (nodeOf k .rows)) = e-t ∙ ap (withEquations t (m .next))
     rows in
     let pushed-out : getD vs (d .result) 0 ≡ valueNamed v (nodeOf k .result) =

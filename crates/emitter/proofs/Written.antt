@@ -1,6 +1,6 @@
 -- Equations one after the other in a table: where they end, and what writing them leaves. Assumes nothing.
 use mathlib.Core.List.{List, [], _∷_, _++_, map}
-use mathlib.Core.Path.{_≡_, refl, sym, ap, _∙_}
+use mathlib.Core.Path.{_≡_, refl, sym, ap, ap₂, _∙_}
 use Prim.Native.Nat.{ℕ, zero, suc, _+_, _*_, _≤_, _<_}
 use native.Mathlib.Numerals.{add-one, add-two, add-three}
 use native.Mathlib.Omega.{arith}
@@ -13,7 +13,7 @@ use Rattle.scheme.specs.Scheme.{widest, Row as SchemeRow, rowAt, nodeOf, Values
 use Rattle.scheme.specs.Emit.{placeAfter, numbersOf}
 use Rattle.scheme.proofs.Places.{after-length, length-numbers}
 use Rattle.scheme.proofs.ByKind.{rows-few}
-use Rattle.node_table.specs.Numbers.{nameCount, valueList, kindBy, asRow, fiveOf, lookedUp}
+use Rattle.node_table.specs.Numbers.{nameCount, valueList, kindBy, asRow, padded, lookedUp}
 use Rattle.node_table.specs.declared.Row.{Row}
 use Rattle.node_table.proofs.Found.{row-looked-up}
 use Rattle.emitter.specs.Machine.{withEquations}
@@ -94,29 +94,17 @@ row-written t vs o i rs r₀ {t₁} h e₁ e₂ =
     ∙ ap (λ (n : ℕ). withEquations t o (take n (map (lookedUp vs) rs))) (sym (add-one i))
 
 -- The node's own rows, with the values v.
-module _ (k : ℕ) (v : Values) where
-  row-is : (i : ℕ) → i < widest → lookedUp (valueList v) (asRow (rowAt (nodeOf k .rows) i))
-      ≡ resolved v (rowAt (nodeOf k .rows) i)
-  row-is i h = row-looked-up v k i h
+module _ (v : Values) where
+  rows-own : (n : ℕ) (rs : List SchemeRow) → length rs ≤ n
+      → ((i : ℕ) → i < length rs → lookedUp (valueList v) (asRow (rowAt rs i)) ≡ resolved v (rowAt rs i))
+      → take (length rs) (map (lookedUp (valueList v)) (padded n rs)) ≡ filled v rs
+  rows-own n [] h each = refl
+  rows-own zero (r ∷ rs) h each = absurd (omega arith)
+  rows-own (suc n) (r ∷ rs) h each =
+      ap₂ _∷_ (each 0 (omega arith)) (rows-own n rs (omega arith) (λ i g. each (suc i) (omega arith)))
 
-  pub own-rows : take (length (nodeOf k .rows)) (map (lookedUp (valueList v)) (fiveOf (nodeOf k .rows)))
+  pub own-rows : (k : ℕ)
+      → take (length (nodeOf k .rows)) (map (lookedUp (valueList v)) (padded widest (nodeOf k .rows)))
       ≡ filled v (nodeOf k .rows)
-  own-rows =
-      rw (
-        row-is 0 (omega arith),
-        row-is 1 (omega arith),
-        row-is 2 (omega arith),
-        row-is 3 (omega arith),
-        row-is 4 (omega arith),
-      ) (first (nodeOf k .rows) (rows-few k))
-    where
-      first : (rs : List SchemeRow) → length rs ≤ widest
-          → take (length rs) (resolved v (rowAt rs 0) ∷ resolved v (rowAt rs 1) ∷ resolved v (rowAt rs 2)
-          ∷ resolved v (rowAt rs 3) ∷ resolved v (rowAt rs 4) ∷ []) ≡ filled v rs
-      first [] h = refl
-      first (a ∷ []) h = refl
-      first (a ∷ b ∷ []) h = refl
-      first (a ∷ b ∷ c ∷ []) h = refl
-      first (a ∷ b ∷ c ∷ d ∷ []) h = refl
-      first (a ∷ b ∷ c ∷ d ∷ e ∷ []) h = refl
-      first (a ∷ b ∷ c ∷ d ∷ e ∷ f ∷ rs) h = absurd (omega arith)
+  own-rows k =
+      rows-own widest (nodeOf k .rows) (rows-few k) (λ i h. row-looked-up v k i (omega (arith, rows-few k)))

@@ -16,7 +16,7 @@ use Rattle.scheme.specs.Scheme.Name.{First, Second, Third, Fourth, Fifth}
 use Rattle.scheme.specs.Scheme.RowKind.{Plain, Comparison}
 use Rattle.scheme.proofs.ByKind.{rows-few}
 use Rattle.node_table.specs.Numbers.{numberOf, nameCount, valueList, COMPARISON, kindNumber, kindBy, asRow}
-use Rattle.node_table.specs.Numbers.{fiveOf, asNode, nodeTable, Known, Sized, lookedUp}
+use Rattle.node_table.specs.Numbers.{padded, asNode, nodeTable, Known, Sized, lookedUp}
 use Rattle.node_table.specs.declared.Node.{Node}
 
 -- ---- the table
@@ -70,20 +70,25 @@ named-low Fifth = omega arith
 row-known : (r : SchemeRow) → Known (asRow r)
 row-known r = record { a = named-low (r .a); b = named-low (r .b); c = named-low (r .c) }
 
-five-known : (rs : List SchemeRow) (i : ℕ) → Known (getD (fiveOf rs) i (asRow noRow))
-five-known rs zero = row-known (rowAt rs 0)
-five-known rs (suc zero) = row-known (rowAt rs 1)
-five-known rs (suc (suc zero)) = row-known (rowAt rs 2)
-five-known rs (suc (suc (suc zero))) = row-known (rowAt rs 3)
-five-known rs (suc (suc (suc (suc zero)))) = row-known (rowAt rs 4)
-five-known rs (suc (suc (suc (suc (suc i))))) = row-known noRow
+-- Padded rows are known, and n.
+padded-known : (n : ℕ) (rs : List SchemeRow) (i : ℕ) → Known (getD (padded n rs) i (asRow noRow))
+padded-known zero rs i = row-known noRow
+padded-known (suc n) [] zero = row-known noRow
+padded-known (suc n) [] (suc i) = padded-known n [] i
+padded-known (suc n) (r ∷ rs) zero = row-known r
+padded-known (suc n) (r ∷ rs) (suc i) = padded-known n rs i
+
+padded-length : (n : ℕ) (rs : List SchemeRow) → length (padded n rs) ≡ n
+padded-length zero rs = refl
+padded-length (suc n) [] = ap suc (padded-length n [])
+padded-length (suc n) (r ∷ rs) = ap suc (padded-length n rs)
 
 pub node-sized : (k : ℕ) → Sized (asNode (nodeOf k))
 node-sized k =
     record {
       few = rows-few k;
-      room = refl;
-      known = five-known (nodeOf k .rows);
+      room = padded-length widest (nodeOf k .rows);
+      known = padded-known widest (nodeOf k .rows);
       result = named-low (nodeOf k .result);
       idle = named-low (nodeOf k .idle);
     }

@@ -3,12 +3,12 @@
 use mathlib.Core.Bool.{cond}
 use mathlib.Core.List.{List, [], _∷_, _++_, map}
 use mathlib.Core.Path.{_≡_}
-use Prim.Native.Nat.{ℕ, _≤_, _<_}
+use Prim.Native.Nat.{ℕ, zero, suc, _+_, _≤_, _<_}
 use lib.Dec.{eqb}
 use lib.ListN.{length, getD}
 use Rattle.tables.specs.Kind.{kindCount}
 use Rattle.tables.specs.Table.{Equation}
-use Rattle.scheme.specs.Scheme.{_⊕_, Name, RowKind, Row as SchemeRow, Node as SchemeNode, noRow, rowAt, Values}
+use Rattle.scheme.specs.Scheme.{Name, RowKind, Row as SchemeRow, Node as SchemeNode, noRow, Values}
 use Rattle.scheme.specs.Scheme.{widest, nodeList, noNode}
 use Rattle.tables.specs.Table.{equation}
 use Rattle.scheme.specs.Scheme.Name.{Nought, Idle, Start, Last, Previous, Signal, A, C}
@@ -34,12 +34,17 @@ numberOf Fifth = 12
 
 -- The values in the order of their names' numbers, and after them the kind of the record's comparison.
 abbrev pub nameCount : ℕ
-nameCount = 13
+nameCount = numberOf First + widest
+
+-- The n flows from place o on.
+abbrev pub flowsFrom : ℕ → ℕ → List ℕ
+flowsFrom o zero = []
+flowsFrom o (suc n) = o ∷ flowsFrom (suc o) n
 
 abbrev pub valueList : Values → List ℕ
 valueList v =
     0 ∷ v .idle ∷ v .start ∷ v .last ∷ v .previous ∷ v .signal ∷ v .a ∷ v .c
-    ∷ v .place ∷ (v .place ⊕ 1) ∷ (v .place ⊕ 2) ∷ (v .place ⊕ 3) ∷ (v .place ⊕ 4) ∷ v .comparison ∷ []
+    ∷ (flowsFrom (v .place) widest ++ (v .comparison ∷ []))
 
 -- The number of the comparison that a record asks for: the first that is of no kind of equation.
 abbrev pub COMPARISON : ℕ
@@ -55,16 +60,17 @@ kindBy comparison k = cond (eqb k COMPARISON) comparison k
 abbrev pub asRow : SchemeRow → Row
 asRow r = record { 0 = kindNumber (r .kind); 1 = numberOf (r .a); 2 = numberOf (r .b); 3 = numberOf (r .c) }
 
--- Five rows, a node's own first.
-abbrev pub fiveOf : List SchemeRow → List Row
-fiveOf rs =
-    asRow (rowAt rs 0) ∷ asRow (rowAt rs 1) ∷ asRow (rowAt rs 2) ∷ asRow (rowAt rs 3) ∷ asRow (rowAt rs 4) ∷ []
+-- The first n rows, with rows that nothing asks for past the last.
+abbrev pub padded : ℕ → List SchemeRow → List Row
+padded zero rs = []
+padded (suc n) [] = asRow noRow ∷ padded n []
+padded (suc n) (r ∷ rs) = asRow r ∷ padded n rs
 
 abbrev pub asNode : SchemeNode → Node
 asNode d =
     record {
       count = length (d .rows);
-      rows = fiveOf (d .rows);
+      rows = padded widest (d .rows);
       takes = d .takes;
       result = numberOf (d .result);
       idle = numberOf (d .idle);

@@ -40,7 +40,7 @@ const FOURTH: u32 = 11;
 const FIFTH: u32 = 12;
 
 // How many names there are; the kind of the record's comparison stands after their values.
-pub const NAMES: usize = 13;
+pub const NAMES: usize = FIRST as usize + WIDEST;
 
 // The kind of a row that compares as the record asks: the first number that is of no kind of equation.
 const COMPARISON: u32 = tables::COMPARE_PARAMETER + 1;
@@ -53,8 +53,8 @@ const WIDEST: usize = 5;
 // A row: the kind of an equation, and the names of its three numbers.
 pub struct Row(pub u32, pub u32, pub u32, pub u32);
 
-// A node: how many rows it has, and these first among five; how many operands it takes off the stack, which value it
-// puts there, and which value is the negated start flow from here on.
+// A node: how many rows it has, and these first among as many as the widest has; how many operands it takes off the
+// stack, which value it puts there, and which value is the negated start flow from here on.
 pub struct Node {
     pub count: u32,
     pub rows: [Row; WIDEST],
@@ -93,7 +93,7 @@ const CONSTANT_NODE: Node = Node {
 // A signal.
 const SIGNAL_NODE: Node = Node {
     count: 0,
-    rows: [NO_ROW, NO_ROW, NO_ROW, NO_ROW, NO_ROW],
+    rows: [NO_ROW; WIDEST],
     takes: 0,
     result: SIGNAL,
     idle: IDLE,
@@ -162,7 +162,7 @@ const BEGIN_NODE: Node = Node {
 // `end`.
 const END_NODE: Node = Node {
     count: 0,
-    rows: [NO_ROW, NO_ROW, NO_ROW, NO_ROW, NO_ROW],
+    rows: [NO_ROW; WIDEST],
     takes: 1,
     result: LAST,
     idle: IDLE,
@@ -300,7 +300,7 @@ const WHOLE_NODE: Node = Node {
 // Past the last kind.
 const NO_NODE: Node = Node {
     count: 0,
-    rows: [NO_ROW, NO_ROW, NO_ROW, NO_ROW, NO_ROW],
+    rows: [NO_ROW; WIDEST],
     takes: 0,
     result: NOUGHT,
     idle: NOUGHT,

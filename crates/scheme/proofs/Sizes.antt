@@ -1,5 +1,5 @@
--- How many equations an observer has: at most five for each record of the formula's tree, 66 before and 4 after them.
--- A formula that was read has at most 1,920 numbers in its records, so its observer has at most 4,096 equations.
+-- How many equations an observer has: at most as many as the widest node for each record of the formula's tree, 66
+-- before and 4 after them. A formula that was read has at most 480 records, so its observer has at most 4,096 equations.
 -- Assumes nothing.
 use mathlib.Core.Bool.{Bool}
 use mathlib.Core.List.{List, _∷_, _++_}
@@ -16,7 +16,7 @@ use Rattle.formulas.specs.Arena.{flat}
 use Rattle.formulas.specs.Raw.{rawP, raw}
 use Rattle.tables.specs.Kind.{START, NOT}
 use Rattle.tables.specs.Table.{Equation}
-use Rattle.limits.specs.Limits.{arenaLimit, equationLimit, signalCount}
+use Rattle.limits.specs.Limits.{recordLimit, arenaLimit, equationLimit, signalCount}
 use Rattle.scheme.specs.Scheme.{_⊕_, widest}
 use Rattle.tables.specs.Table.{equation}
 use Rattle.scheme.specs.Emit.{placeAfter, emitP, emit, names, flowIn, signals, header, whole-es, body, observer}
@@ -60,7 +60,11 @@ three-size : (xs ys zs : List Equation) (a b c : ℕ) → length xs ≤ a → le
     → length (xs ++ (ys ++ zs)) ≤ a + b + c
 three-size xs ys zs a b c p q r = simp length-append (omega arith)
 
-body-size : (k m : ℕ) → 4 * k ≤ widest * m → m ≤ arenaLimit → k ≤ 2400
+-- The most equations of a formula's own.
+abbrev bodyMost : ℕ
+bodyMost = widest * recordLimit
+
+body-size : (k m : ℕ) → 4 * k ≤ widest * m → m ≤ arenaLimit → k ≤ bodyMost
 body-size k m g h = omega arith
 
 pub observer-size : (f : Formula) → length (flat (raw f)) ≤ arenaLimit → length (observer f) ≤ equationLimit
@@ -68,6 +72,6 @@ observer-size f h =
     let o : ℕ = placeAfter 0 (header (names f)) in
     let few = body-size (length (body f .es)) (length (flat (raw f))) (size (flowIn (names f)) f 0 1 o) h in
     let all = three-size (header (names f)) (body f .es) (whole-es 0 (placeAfter o (body f .es)) (body f .out))
-    (signalCount + 2) 2400 4
+    (signalCount + 2) bodyMost 4
     (header-size (names f) signalCount) few (omega arith) in
     le-trans all (omega arith)
