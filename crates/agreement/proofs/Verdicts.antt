@@ -15,7 +15,7 @@ use Rattle.tables.specs.Table.{kindOf}
 use Rattle.limits.specs.Limits.{parameterCount}
 use Rattle.flows.specs.Lustre.{Lustre}
 use Rattle.scheme.specs.Scheme.{_⊕_}
-use Rattle.scheme.specs.Emit.{names, numbersOf}
+use Rattle.scheme.specs.Emit.{names, startFlow, idleFlow, headerCount, numbersOf}
 use Rattle.scheme.proofs.Offsets.{zero-⊕}
 use Rattle.scheme.proofs.Places.{each-left, each-right}
 use Rattle.scheme.proofs.Parts.{headRows, flowAmong, bodyPlace, bodyBlock, wholePlace, wholeRows}
@@ -45,19 +45,19 @@ module _ (cap : ℕ) (trace : Trace) (flow : ℕ → ℕ → ℕ) where
     unfolding kindOf
     signals j e k =
         let e′ : names f (0 ⊕ j) ≡ true = rw zero-⊕ e in
-        rw zero-⊕ at (signal-at (names f) (LocalAt cap trace flow) m 0 2 j (head .1 .1) (below j e) e′ k)
+        rw zero-⊕ at (signal-at (names f) (LocalAt cap trace flow) m 0 headerCount j (head .1 .1) (below j e) e′ k)
 
-    begins : (k : ℕ) → on flow 0 k ≡ starts (trace k)
+    begins : (k : ℕ) → on flow startFlow k ≡ starts (trace k)
     unfolding kindOf
     begins k = head .0 k
 
-    negated : (k : ℕ) → on flow 1 k ≡ not (on flow 0 k)
+    negated : (k : ℕ) → on flow idleFlow k ≡ not (on flow startFlow k)
     unfolding kindOf
     negated k = head .1 .0 k
 
-    body-agrees : Agrees cap trace flow 0 (bodyBlock m f .out) f
+    body-agrees : Agrees cap trace flow startFlow (bodyBlock m f .out) f
     body-agrees =
-        agrees cap trace flow same small (flowAmong (names f) m) f 0 1 (bodyPlace m f) (record {
+        agrees cap trace flow same small (flowAmong (names f) m) f startFlow idleFlow (bodyPlace m f) (record {
           led = led;
           bound = bound;
           signals = signals;
@@ -67,6 +67,6 @@ module _ (cap : ℕ) (trace : Trace) (flow : ℕ → ℕ → ℕ) where
 
     pub verdict-over : (e : ℕ) → truth (on flow (wholePlace m f ⊕ 3) e) ≡ verdict trace f e
     verdict-over e =
-        whole-is cap trace flow 0 (wholePlace m f) (bodyBlock m f .out)
+        whole-is cap trace flow startFlow (wholePlace m f) (bodyBlock m f .out)
         (each-right (LocalAt cap trace flow) (bodyBlock m f .es) (wholeRows m f) (bodyPlace m f) rest)
         f begins body-agrees e

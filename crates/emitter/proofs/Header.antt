@@ -10,21 +10,18 @@ use lib.ListN.{getD, set, length, length-append}
 use lib.Seq.{getD-at, set-at}
 use Rattle.traces.specs.Trace.{nonzero}
 use Rattle.tables.specs.Kind.{SIGNAL, START, NOT}
-use Rattle.tables.specs.Table.{Equation}
 use Rattle.limits.specs.Limits.{signalCount}
 use Rattle.tables.specs.Table.{equation}
-use Rattle.scheme.specs.Emit.{placeAfter, signals, places}
+use Rattle.scheme.specs.Emit.{placeAfter, signals, places, startFlow, idleFlow, headerCount, start-es}
 use Rattle.emitter.specs.Machine.{withEquations, Header, headerOf, withSignal, settle}
 use Rattle.emitter.specs.Contract.{Headed}
 use Rattle.emitter.proofs.Written.{written-append}
 
--- The start flow and its negation.
-abbrev pub first-two : List Equation
-first-two = equation START 0 0 0 ∷ equation NOT 0 0 0 ∷ []
-
-pub first-two-is : (t : List ℕ) {t₁ t₂ : List ℕ} → t₁ ≡ withEquations t 0 (equation START 0 0 0 ∷ [])
-    → t₂ ≡ withEquations t₁ 1 (equation NOT 0 0 0 ∷ []) → t₂ ≡ withEquations t 0 first-two
-first-two-is t e₁ e₂ = rw (e₂, e₁, written-append (equation START 0 0 0 ∷ []) (equation NOT 0 0 0 ∷ []) t 0)
+-- The start flow and its negation, one after the other.
+pub starts-are : (t : List ℕ) {t₁ t₂ : List ℕ} → t₁ ≡ withEquations t startFlow (equation START 0 0 0 ∷ [])
+    → t₂ ≡ withEquations t₁ idleFlow (equation NOT startFlow 0 0 ∷ []) → t₂ ≡ withEquations t 0 start-es
+starts-are t e₁ e₂ =
+    rw (e₂, e₁, written-append (equation START 0 0 0 ∷ []) (equation NOT startFlow 0 0 ∷ []) t startFlow)
 
 -- ---- one signal
 
@@ -80,13 +77,13 @@ settling-one {m} {t₀} {named₀} {o₀} {t} {named} {o} {j} {t′} {named′} 
       left = ap (settle (m - (j + 1)) (j + 1)) d ∙ rw (add-one j) (rw (one, add-one j) at (e .left));
     }
 
-pub settling-all : {t named t₀ t′ named′ : List ℕ} {o j : ℕ} → t₀ ≡ withEquations t 0 first-two
-    → Settling signalCount t₀ named 2 t′ named′ o j → signalCount ≤ j → Headed t named t′ named′ o
+pub settling-all : {t named t₀ t′ named′ : List ℕ} {o j : ℕ} → t₀ ≡ withEquations t 0 start-es
+    → Settling signalCount t₀ named headerCount t′ named′ o j → signalCount ≤ j → Headed t named t′ named′ o
 unfolding settle
 settling-all {named = named} {j = j} e-t e h =
     let none : signalCount - j ≡ 0 = omega arith in
     record {
-      stands = rw none at (e .left) ∙ ap (λ (l : List ℕ). settle signalCount 0 (headerOf l named 2)) e-t;
+      stands = rw none at (e .left) ∙ ap (λ (l : List ℕ). settle signalCount 0 (headerOf l named headerCount)) e-t;
       few = omega arith;
     }
 

@@ -13,47 +13,48 @@ use Rattle.tables.specs.Table.{Equation}
 use Rattle.limits.specs.Limits.{arenaLimit, signalCount}
 use Rattle.scheme.specs.Scheme.{_⊕_, nodeOf}
 use Rattle.scheme.specs.Emit.{Block, placeAfter, emit, names, signals, places, whole-es}
+use Rattle.scheme.specs.Emit.{startFlow, idleFlow, headerCount, start-es}
 use Rattle.emitter.specs.Machine.{withEquations, State, state, recordOf, valuesAt}
 use Rattle.emitter.specs.Machine.{applied, step, run, ran, marks, Header, headerOf, settle, headed}
 use Rattle.emitter.specs.Contract.{Emitted, Ran, Headed}
 use Rattle.scheme.proofs.Places.{after-length, after-append}
 use Rattle.emitter.proofs.Written.{written-append}
-use Rattle.emitter.proofs.Header.{first-two, settle-is}
+use Rattle.emitter.proofs.Header.{settle-is}
 use Rattle.emitter.proofs.Named.{named-long, named-at}
 use Rattle.emitter.proofs.Pass.{done, run-formula}
 
 -- ---- the header, of m signals
 
 header-is : (f : Formula) (m : ℕ) (t : List ℕ) →
-    settle m 0 (headerOf (withEquations t 0 first-two) (marks (flat (raw f)) (replicate m 0)) 2)
-    ≡ headerOf (withEquations t 0 (first-two ++ signals (names f) 0 m)) (places (names f) 0 2 m)
-    (placeAfter 2 (signals (names f) 0 m))
+    settle m 0 (headerOf (withEquations t 0 start-es) (marks (flat (raw f)) (replicate m 0)) headerCount)
+    ≡ headerOf (withEquations t 0 (start-es ++ signals (names f) 0 m)) (places (names f) 0 headerCount m)
+    (placeAfter headerCount (signals (names f) 0 m))
 header-is f m t =
     let named : List ℕ = marks (flat (raw f)) (replicate m 0) in
     let long : length named ≡ m = named-long f m in
     let agree : (i : ℕ) → i < length named → names f (0 + i) ≡ nonzero (getD named i 0) =
     λ i h. ap (names f) (zero-add i) ∙ named-at f m i (rw long at h) in
-    let all : settle (length named) 0 (headerOf (withEquations t 0 first-two) named 2)
-    ≡ headerOf (withEquations (withEquations t 0 first-two) 2 (signals (names f) 0 (length named)))
-    (places (names f) 0 2 (length named)) (placeAfter 2 (signals (names f) 0 (length named))) =
-    settle-is (names f) named [] (withEquations t 0 first-two) 2 0 refl agree in
-    rw (written-append first-two (signals (names f) 0 m) t 0) (rw long at all)
+    let all : settle (length named) 0 (headerOf (withEquations t 0 start-es) named headerCount)
+    ≡ headerOf (withEquations (withEquations t 0 start-es) headerCount (signals (names f) 0 (length named)))
+    (places (names f) 0 headerCount (length named)) (placeAfter headerCount (signals (names f) 0 (length named))) =
+    settle-is (names f) named [] (withEquations t 0 start-es) headerCount 0 refl agree in
+    rw (written-append start-es (signals (names f) 0 m) t 0) (rw long at all)
 
 -- ---- the records, and the whole rule's node
 
 ran-is : (f : Formula) (ps t : List ℕ) (o : ℕ) →
     ran (flat (raw f)) ps t o
-    ≡ step ps (recordOf WHOLE 0 0 0) (done (emit (λ j. getD ps j 0) f 0 1 o) (state t o 1 []))
+    ≡ step ps (recordOf WHOLE 0 0 0) (done (emit (λ j. getD ps j 0) f startFlow idleFlow o) (state t o idleFlow []))
 unfolding run
 ran-is f ps t o =
     ap (λ (l : List ℕ). ran l ps t o) (sym (append-nil (flat (raw f))))
-    ∙ ap (step ps (recordOf WHOLE 0 0 0)) (run-formula ps f [] (state t o 1 []))
+    ∙ ap (step ps (recordOf WHOLE 0 0 0)) (run-formula ps f [] (state t o idleFlow []))
 
 whole-is : (x : Block) (ps t : List ℕ) (o : ℕ) →
     (let o′ : ℕ = placeAfter o (x .es) in
-    step ps (recordOf WHOLE 0 0 0) (done x (state t o 1 []))
-    ≡ state (withEquations (withEquations t o (x .es)) o′ (whole-es 0 o′ (x .out)))
-    (placeAfter o′ (whole-es 0 o′ (x .out))) 1
+    step ps (recordOf WHOLE 0 0 0) (done x (state t o idleFlow []))
+    ≡ state (withEquations (withEquations t o (x .es)) o′ (whole-es startFlow o′ (x .out)))
+    (placeAfter o′ (whole-es startFlow o′ (x .out))) idleFlow
     ((o′ ⊕ 3) ∷ []))
 unfolding nodeOf valuesAt applied step
 whole-is x ps t o = refl
@@ -63,16 +64,16 @@ whole-is x ps t o = refl
 -- The table and the number of equations, of any number m of signals.
 module _ (f : Formula) (m : ℕ) (t : List ℕ) where
   abbrev pub head : List Equation
-  head = first-two ++ signals (names f) 0 m
+  head = start-es ++ signals (names f) 0 m
 
   abbrev pub flows : List ℕ
-  flows = places (names f) 0 2 m
+  flows = places (names f) 0 headerCount m
 
   abbrev pub middle : Block
-  middle = emit (λ j. getD flows j 0) f 0 1 (placeAfter 0 head)
+  middle = emit (λ j. getD flows j 0) f startFlow idleFlow (placeAfter 0 head)
 
   abbrev pub last : List Equation
-  last = whole-es 0 (placeAfter (placeAfter 0 head) (middle .es)) (middle .out)
+  last = whole-es startFlow (placeAfter (placeAfter 0 head) (middle .es)) (middle .out)
 
   abbrev pub whole : List Equation
   whole = head ++ (middle .es ++ last)

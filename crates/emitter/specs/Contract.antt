@@ -8,7 +8,7 @@ use Rattle.formulas.specs.Formula.{Formula}
 use Rattle.formulas.specs.Arena.{flat}
 use Rattle.formulas.specs.Raw.{raw}
 use Rattle.limits.specs.Limits.{equationLimit, signalCount}
-use Rattle.scheme.specs.Emit.{observer, numbersOf}
+use Rattle.scheme.specs.Emit.{headerCount, observer, numbersOf}
 use Rattle.scheme.specs.Scheme.{Node, Values, widest}
 use Rattle.node_table.specs.Numbers.{lookedUp}
 use Rattle.node_table.specs.declared.Node.{Node as CodeNode}
@@ -69,4 +69,4 @@ pub record Ran (arena places t : List ℕ) (o : ℕ) (t′ : List ℕ) (r : ℕ)
 -- The header was written, and the marks gave way to the signals' places.
 pub record Headed (t named t′ named′ : List ℕ) (r : ℕ) : Type 0 where
   pub stands : headerOf t′ named′ r ≡ headed t named
-  pub few : r ≤ 2 + signalCount
+  pub few : r ≤ headerCount + signalCount

@@ -10,12 +10,12 @@ use lib.ListN.{getD, set, drop, length}
 use lib.Seq.{sets}
 use Rattle.traces.specs.Trace.{nonzero}
 use Rattle.formulas.specs.Arena as arena
-use Rattle.tables.specs.Kind.{SIGNAL, START, NOT}
+use Rattle.tables.specs.Kind.{SIGNAL}
 use Rattle.tables.specs.Table.{Equation}
 use Rattle.limits.specs.Limits.{recordLimit, signalCount}
 use Rattle.scheme.specs.Scheme.{_⊕_, Node, nodeOf, Values, valueNamed, comparisonOf, filled}
 use Rattle.tables.specs.Table.{equation}
-use Rattle.scheme.specs.Emit.{numbersOf}
+use Rattle.scheme.specs.Emit.{idleFlow, headerCount, start-es, numbersOf}
 use Rattle.emitter.specs.declared.Record.{Record}
 
 -- Operands that wait on the stack: at most one for each record, and room for one more.
@@ -98,10 +98,9 @@ unfoldable pub stacked : List ℕ → ℕ → List ℕ
 stacked l zero = []
 stacked l (suc h) = getD l h 0 ∷ stacked l h
 
--- The records of an arena and then the whole rule's node, where the table's header ends at o. The start flow is
--- equation 0, its negation 1.
+-- The records of an arena and then the whole rule's node, where the table's header ends at o.
 abbrev pub ran : List ℕ → List ℕ → List ℕ → ℕ → State
-ran l places t o = step places whole (run places l (state t o 1 []))
+ran l places t o = step places whole (run places l (state t o idleFlow []))
 
 -- ---- the named signals
 
@@ -139,5 +138,4 @@ settle (suc m) j h = settle m (suc j) (withSignal j h)
 
 -- The start flow, its negation, and the signals.
 abbrev pub headed : List ℕ → List ℕ → Header
-headed t named =
-    settle signalCount 0 (headerOf (withEquations t 0 (equation START 0 0 0 ∷ equation NOT 0 0 0 ∷ [])) named 2)
+headed t named = settle signalCount 0 (headerOf (withEquations t 0 start-es) named headerCount)

@@ -11,11 +11,19 @@ ghost use lib.ListN.{getD, set, length, take};
 ghost use Rattle.limits.specs.Limits.{arenaLimit, equationLimit, signalCount};
 ghost use Rattle.tables.specs.Table.{equation};
 ghost use Rattle.scheme.specs.Scheme.{nodeOf};
+ghost use Rattle.scheme.specs.Emit.{headerCount};
 ghost use Rattle.node_table.specs.Numbers.{valueList, asNode, Known, Sized, lookedUp};
 ghost use Rattle.emitter.specs.Machine.{withEquations, before, recordAt, recordFrom, valuesAt, stacked, marked};
 ghost use Rattle.emitter.specs.Machine.{marks, headerOf};
 ghost use Rattle.emitter.specs.Machine.{withSignal};
 ghost use Rattle.emitter.specs.Contract.{Emitted, Room, Pushed, AddedBy, Entered, Ran, Headed};
+
+// The start flow and its negation, and how many these are: the header's equations before the named signals'.
+const START_FLOW: u32 = 0;
+
+const IDLE_FLOW: u32 = 1;
+
+const HEADER: u32 = 2;
 
 // How many signals there are.
 const SIGNALS: usize = limits::SIGNALS as usize;
@@ -234,14 +242,14 @@ fn record_from(arena: &[u32], i: usize) -> Record
 // All records one after the other, and then the whole rule's: how many equations there are. `enter` has this one
 // caller, so that it is inlined here.
 fn enter_all(arena: &[u32], places: &[u32], table: &mut [u32], next: u32) -> u32
-    requires { ⌜ (length (now arena) ≤ arenaLimit) × (next ≤ 2 + signalCount) ⌝ }
+    requires { ⌜ (length (now arena) ≤ arenaLimit) × (next ≤ headerCount + signalCount) ⌝ }
     ensures { λ r. ⌜ Ran (now (arena .entry)) (now (places .entry)) (now (table .entry)) next (now (table .exit)) r ⌝ }
 {
     let nodes = node_table::all_nodes();
     let mut stack = [0u32; STACK];
     let mut m = Place {
         next,
-        idle: 1,
+        idle: IDLE_FLOW,
         height: 0,
     };
     let mut i = 0;
@@ -297,9 +305,9 @@ fn settle(table: &mut [u32], named: &mut [u32], j: usize, next: u32) -> u32
 fn settle_all(table: &mut [u32], named: &mut [u32]) -> u32
     ensures { λ r. ⌜ Headed (now (table .entry)) (now (named .entry)) (now (table .exit)) (now (named .exit)) r ⌝ }
 {
-    put(table, 0, tables::START, 0, 0, 0);
-    put(table, 1, tables::NOT, 0, 0, 0);
-    let mut next: u32 = 2;
+    put(table, START_FLOW, tables::START, 0, 0, 0);
+    put(table, IDLE_FLOW, tables::NOT, START_FLOW, 0, 0);
+    let mut next = HEADER;
     let mut j = 0;
     while j < SIGNALS {
         next = settle(table, named, j, next);

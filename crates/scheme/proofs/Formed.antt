@@ -17,7 +17,7 @@ use Rattle.tables.specs.declared.Checked.the-variants.{Passed}
 use Rattle.tables.proofs.Tests.{all-of}
 use Rattle.tables.proofs.Checks.{long-enough}
 use Rattle.scheme.specs.Scheme.{_⊕_}
-use Rattle.scheme.specs.Emit.{names, signals, numbersOf}
+use Rattle.scheme.specs.Emit.{names, signals, startFlow, idleFlow, headerCount, numbersOf}
 use Rattle.scheme.proofs.Offsets.{zero-⊕}
 use Rattle.scheme.proofs.Places.{after-later, Each, each-left, each-right, each-at, each-from}
 use Rattle.scheme.proofs.Places.{equation-at, length-numbers}
@@ -53,28 +53,28 @@ module _ (cap : ℕ) (low : cap ≤ literalCount) (m : ℕ) (few : m ≤ signalC
   whole-kinds = each-right (KindAt t) (bodyBlock m f .es) (wholeRows m f) (bodyPlace m f) rest-kinds
 
   -- The start flow and its negation stand first,
-  start : Before t 1 Boolean 0
+  start : Before t 1 Boolean startFlow
   unfolding kindOf shapeOf sameSort
-  start = here t n 0 0 START (head-kinds .0) refl
+  start = here t n 0 startFlow START (head-kinds .0) refl
 
-  negation : Before t 2 Boolean 1
+  negation : Before t headerCount Boolean idleFlow
   unfolding kindOf shapeOf sameSort
-  negation = here t n 0 1 NOT (head-kinds .1 .0) refl
+  negation = here t n 0 idleFlow NOT (head-kinds .1 .0) refl
 
   -- and every named signal before the formula's equations.
   named : (j : ℕ) → names f j ≡ true → Before t (bodyPlace m f) Boolean (flowAmong (names f) m j)
   unfolding kindOf shapeOf sameSort
   named j e =
       let e′ : names f (0 ⊕ j) ≡ true = rw zero-⊕ e in
-      let kind = signal-at (names f) (KindAt t) m 0 2 j (head-kinds .1 .1) (below j e) e′ in
-      record { earlier = signal-before (names f) m 0 2 j (below j e) e′; sorted = rw kind }
+      let kind = signal-at (names f) (KindAt t) m 0 headerCount j (head-kinds .1 .1) (below j e) e′ in
+      record { earlier = signal-before (names f) m 0 headerCount j (below j e) e′; sorted = rw kind }
 
-  far : 2 ≤ bodyPlace m f
-  far = after-later (signals (names f) 0 m) 2
+  far : headerCount ≤ bodyPlace m f
+  far = after-later (signals (names f) 0 m) headerCount
 
   body-fine : AllFine t n (bodyPlace m f) (bodyBlock m f .es) (bodyBlock m f .out)
   body-fine =
-      fine t n (flowAmong (names f) m) cap low f 0 1 (bodyPlace m f) (record {
+      fine t n (flowAmong (names f) m) cap low f startFlow idleFlow (bodyPlace m f) (record {
         bound = bound;
         named = named;
         start = later start (omega (arith, far));
@@ -86,13 +86,13 @@ module _ (cap : ℕ) (low : cap ≤ literalCount) (m : ℕ) (few : m ≤ signalC
   head-fits : Each (Fits t n) 0 (headRows (names f) m)
   unfolding kindOf shapeOf shapeFits operandFits
   head-fits =
-      let negation-fits = not-fine t n 1 start (omega arith) (head-kinds .1 .0, tt) .0 in
-      (record { fits = refl }, (negation-fits .0, signals-fit (names f) t n m 0 2 (omega arith)))
+      let negation-fits = not-fine t n idleFlow start (omega arith) (head-kinds .1 .0, tt) .0 in
+      (record { fits = refl }, (negation-fits .0, signals-fit (names f) t n m 0 headerCount (omega arith)))
 
   all-fine : AllFine t n 0 (observerOver m f) (wholePlace m f ⊕ 3)
   all-fine =
       let further : bodyPlace m f ≤ wholePlace m f = after-later (bodyBlock m f .es) (bodyPlace m f) in
-      let start′ : Before t (wholePlace m f) Boolean 0 = later start (omega (arith, far)) in
+      let start′ : Before t (wholePlace m f) Boolean startFlow = later start (omega (arith, far)) in
       let room : wholePlace m f ⊕ 4 ≤ n = omega (arith, whole-last m f) in
       let closing-fine = whole-fine t n (wholePlace m f) start′ (body-fine .1) room whole-kinds in
       follow t n (headRows (names f) m) (bodyBlock m f .es ++ wholeRows m f) 0 (wholePlace m f ⊕ 3) head-fits

@@ -16,12 +16,12 @@ use Rattle.formulas.specs.Arena.{numKind}
 use Rattle.formulas.specs.Tree.{nodes}
 use Rattle.formulas.specs.Raw.{raw}
 use Rattle.limits.specs.Limits.{signalCount}
-use Rattle.tables.specs.Kind.{SIGNAL, START, NOT}
+use Rattle.tables.specs.Kind.{SIGNAL}
 use Rattle.tables.specs.Table.{Equation, kindOf, kindAt, isMemory}
 use Rattle.scheme.specs.Scheme.{_⊕_, comparisonOf}
 use Rattle.tables.specs.Table.{equation}
 use Rattle.scheme.specs.Emit.{placeAfter, emitP, emit, names, flowIn, signals, header, whole-es, body, observer}
-use Rattle.scheme.specs.Emit.{numbersOf}
+use Rattle.scheme.specs.Emit.{startFlow, idleFlow, start-es, numbersOf}
 use Rattle.tables.specs.Table.{memories}
 use Rattle.scheme.proofs.Places.{four-more}
 
@@ -108,7 +108,7 @@ module _ (flowOf : ℕ → ℕ) where
 -- ---- counted over an observer
 
 counted-header : (named : ℕ → Bool) (m : ℕ) → counted
-    (equation START 0 0 0 ∷ equation NOT 0 0 0 ∷ signals named 0 m) ≡ 0
+    (start-es ++ signals named 0 m) ≡ 0
 unfolding kindOf isMemory
 counted-header named m = omega (arith, counted-signals named m 0)
 
@@ -120,8 +120,8 @@ counted-observer : (f : Formula) → counted (observer f) ≡ memoriesOf f + 1
 unfolding kindOf isMemory
 counted-observer f =
     let o : ℕ = placeAfter 0 (header (names f)) in
-    counted-three (header (names f)) (body f .es) (whole-es 0 (placeAfter o (body f .es)) (body f .out)) (memoriesOf f)
-    (counted-header (names f) signalCount) (counted-formula (flowIn (names f)) f 0 1 o) refl
+    counted-three (header (names f)) (body f .es) (whole-es startFlow (placeAfter o (body f .es)) (body f .out)) (memoriesOf f)
+    (counted-header (names f) signalCount) (counted-formula (flowIn (names f)) f startFlow idleFlow o) refl
 
 -- ---- counted over the table
 

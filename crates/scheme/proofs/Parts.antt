@@ -1,27 +1,26 @@
 -- The three parts of an observer and the places where they begin, over a number m of signals that is left open: at 64
 -- they are the observer. (With 64 written, proofs would compute the list of signals.) Assumes nothing.
 use mathlib.Core.Bool.{Bool}
-use mathlib.Core.List.{List, _∷_, _++_}
+use mathlib.Core.List.{List, _++_}
 use mathlib.Core.Path.{_≡_, refl, sym, _∙_}
 use Prim.Native.Nat.{ℕ}
 use native.Mathlib.Omega.{arith}
 use lib.ListN.{getD, length}
 use Rattle.formulas.specs.Formula.{Formula}
 use Rattle.limits.specs.Limits.{signalCount}
-use Rattle.tables.specs.Kind.{START, NOT}
 use Rattle.tables.specs.Table.{Equation}
 use Rattle.scheme.specs.Scheme.{_⊕_}
-use Rattle.tables.specs.Table.{equation}
 use Rattle.scheme.specs.Emit.{Block, placeAfter, emit, names, signals, places, whole-es, observer}
+use Rattle.scheme.specs.Emit.{startFlow, idleFlow, headerCount, start-es}
 use Rattle.scheme.proofs.Places.{after-append, after-length}
 
 -- The start flow, its negation, and the named signals among the first m.
 abbrev pub headRows : (ℕ → Bool) → ℕ → List Equation
-headRows named m = equation START 0 0 0 ∷ equation NOT 0 0 0 ∷ signals named 0 m
+headRows named m = start-es ++ signals named 0 m
 
 -- The flow of signal j.
 abbrev pub flowAmong : (ℕ → Bool) → ℕ → ℕ → ℕ
-flowAmong named m j = getD (places named 0 2 m) j 0
+flowAmong named m j = getD (places named 0 headerCount m) j 0
 
 module _ (m : ℕ) (f : Formula) where
   -- Where the formula's equations begin, and they,
@@ -29,14 +28,14 @@ module _ (m : ℕ) (f : Formula) where
   bodyPlace = placeAfter 0 (headRows (names f) m)
 
   abbrev pub bodyBlock : Block
-  bodyBlock = emit (flowAmong (names f) m) f 0 1 bodyPlace
+  bodyBlock = emit (flowAmong (names f) m) f startFlow idleFlow bodyPlace
 
   -- where the closing equations begin, and they.
   abbrev pub wholePlace : ℕ
   wholePlace = placeAfter bodyPlace (bodyBlock .es)
 
   abbrev pub wholeRows : List Equation
-  wholeRows = whole-es 0 wholePlace (bodyBlock .out)
+  wholeRows = whole-es startFlow wholePlace (bodyBlock .out)
 
   abbrev pub observerOver : List Equation
   observerOver = headRows (names f) m ++ (bodyBlock .es ++ wholeRows)

@@ -2,7 +2,7 @@
 -- before and 4 after them. A formula that was read has at most 480 records, so its observer has at most 4,096 equations.
 -- Assumes nothing.
 use mathlib.Core.Bool.{Bool}
-use mathlib.Core.List.{List, _∷_, _++_}
+use mathlib.Core.List.{List, _++_}
 use Prim.Native.Nat.{ℕ, _+_, _*_, _≤_}
 use native.Mathlib.Nat.{le-trans}
 use native.Mathlib.Omega.{arith}
@@ -14,12 +14,11 @@ use Rattle.formulas.specs.Formula.Count.{sum, age}
 use Rattle.formulas.specs.Formula.Formula.{test, len, count, neg, and, or, then}
 use Rattle.formulas.specs.Arena.{flat}
 use Rattle.formulas.specs.Raw.{rawP, raw}
-use Rattle.tables.specs.Kind.{START, NOT}
 use Rattle.tables.specs.Table.{Equation}
 use Rattle.limits.specs.Limits.{recordLimit, arenaLimit, equationLimit, signalCount}
 use Rattle.scheme.specs.Scheme.{_⊕_, widest}
-use Rattle.tables.specs.Table.{equation}
 use Rattle.scheme.specs.Emit.{placeAfter, emitP, emit, names, flowIn, signals, header, whole-es, body, observer}
+use Rattle.scheme.specs.Emit.{startFlow, idleFlow, headerCount, start-es}
 use Rattle.scheme.proofs.Header.{signals-length}
 
 module _ (flowOf : ℕ → ℕ) where
@@ -52,8 +51,7 @@ module _ (flowOf : ℕ → ℕ) where
       simp length-append (omega (arith, size l s n o, size f (o′ ⊕ 3) (o′ ⊕ 4) (o′ ⊕ 5)))
 
 -- The header of an observer, and its three parts together.
-header-size : (named : ℕ → Bool) (m : ℕ) → length (equation START 0 0 0 ∷ equation NOT 0 0 0 ∷ signals named 0 m) ≤
-    m + 2
+header-size : (named : ℕ → Bool) (m : ℕ) → length (start-es ++ signals named 0 m) ≤ m + headerCount
 header-size named m = omega (arith, signals-length named m 0)
 
 three-size : (xs ys zs : List Equation) (a b c : ℕ) → length xs ≤ a → length ys ≤ b → length zs ≤ c
@@ -70,8 +68,8 @@ body-size k m g h = omega arith
 pub observer-size : (f : Formula) → length (flat (raw f)) ≤ arenaLimit → length (observer f) ≤ equationLimit
 observer-size f h =
     let o : ℕ = placeAfter 0 (header (names f)) in
-    let few = body-size (length (body f .es)) (length (flat (raw f))) (size (flowIn (names f)) f 0 1 o) h in
-    let all = three-size (header (names f)) (body f .es) (whole-es 0 (placeAfter o (body f .es)) (body f .out))
-    (signalCount + 2) bodyMost 4
+    let few = body-size (length (body f .es)) (length (flat (raw f))) (size (flowIn (names f)) f startFlow idleFlow o) h in
+    let all = three-size (header (names f)) (body f .es) (whole-es startFlow (placeAfter o (body f .es)) (body f .out))
+    (signalCount + headerCount) bodyMost 4
     (header-size (names f) signalCount) few (omega arith) in
     le-trans all (omega arith)

@@ -210,22 +210,38 @@ abbrev pub places : (ℕ → Bool) → ℕ → ℕ → ℕ → List ℕ
 places named j o zero = []
 places named j o (suc m) = o ∷ places named (suc j) (cond (named j) (suc o) o) m
 
-abbrev pub flowIn : (ℕ → Bool) → ℕ → ℕ
-flowIn named j = getD (places named 0 2 signalCount) j 0
+-- ---- the header
 
--- Start flow, its negation, named signals.
+-- The start flow and its negation stand first: their flows, how many they are, and their equations.
+abbrev pub startFlow : ℕ
+startFlow = 0
+
+abbrev pub idleFlow : ℕ
+idleFlow = 1
+
+abbrev pub headerCount : ℕ
+headerCount = 2
+
+abbrev pub start-es : List Equation
+start-es = equation START 0 0 0 ∷ equation NOT startFlow 0 0 ∷ []
+
+-- After them the named signals.
 abbrev pub header : (ℕ → Bool) → List Equation
-header named = equation START 0 0 0 ∷ equation NOT 0 0 0 ∷ signals named 0 signalCount
+header named = start-es ++ signals named 0 signalCount
+
+abbrev pub flowIn : (ℕ → Bool) → ℕ → ℕ
+flowIn named j = getD (places named 0 headerCount signalCount) j 0
 
 -- ---- the observer
 
 abbrev pub body : Formula → Block
-body f = emit (flowIn (names f)) f 0 1 (placeAfter 0 (header (names f)))
+body f = emit (flowIn (names f)) f startFlow idleFlow (placeAfter 0 (header (names f)))
 
 abbrev pub observer : Formula → List Equation
 observer f =
-    header (names f) ++ (body f .es ++ whole-es 0 (placeAfter (placeAfter 0 (header (names f))) (body f .es))
-    (body f .out))
+    header (names f)
+    ++ (body f .es
+    ++ whole-es startFlow (placeAfter (placeAfter 0 (header (names f))) (body f .es)) (body f .out))
 
 -- The numbers of equations, four each.
 abbrev pub numbersOf : List Equation → List ℕ

@@ -5,7 +5,7 @@ use native.Mathlib.Omega.{arith}
 use borrow.Author.Needs.{needs}
 use mathlib.Core.Path.{_∙_}
 use Rattle.limits.specs.Limits.{signalCount}
-use Rattle.emitter.proofs.Header.{first-two-is, Settling, settling-none, settling-one, settling-all}
+use Rattle.emitter.proofs.Header.{starts-are, Settling, settling-none, settling-one, settling-all}
 use Rattle.emitter.proofs.settle_all.Statement.{statement}
 use Rattle.emitter.proofs.settle_all.Tie as tie
 
@@ -48,7 +48,7 @@ returns : tie.Need-returns Inv-loop μ-loop
 returns c =
     let two = second (c .before) in
     let one = first two in
-    settling-all (first-two-is (start one .args .table .now) (one .put .ensures) (two .put2 .ensures))
+    settling-all (starts-are (start one .args .table .now) (one .put .ensures) (two .put2 .ensures))
     (c .before .loop .inv) (c .loop-test .left)
 
 pub settle-all-spec : {M : Type 1} → statement M
