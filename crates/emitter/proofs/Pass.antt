@@ -15,7 +15,8 @@ use Rattle.formulas.specs.Arena.{numValue}
 use Rattle.formulas.specs.Arena.{row, flat}
 use Rattle.formulas.proofs.Formulas.{rawP, raw}
 use Rattle.tables.specs.Table.{Equation}
-use Rattle.scheme.specs.Scheme.{_⊕_, Node, nodeOf, beginNode, pointNode, heldNode, keptNode, sumNode, ageNode}
+use Rattle.scheme.specs.Scheme.{_⊕_, Node, nodeOf, andNode, orNode, beginNode, pointNode, heldNode, keptNode}
+use Rattle.scheme.specs.Scheme.{sumNode, ageNode}
 use Rattle.scheme.specs.Emit.{Block, placeAfter, ownFlow, emitP, emit, not-block, join-block, atom-block, not-es}
 use Rattle.scheme.specs.Emit.{and-es, or-es}
 use Rattle.scheme.specs.Emit.{begin-es, point-es, held-es, kept-es, sum-es, age-es, lead-end-es, then-es}
@@ -72,16 +73,17 @@ module _ (places : List ℕ) where
       ap (run places r)
       (joined s (x .es) (not-es o (x .out)) (s .idle) (s .idle) (x .out ∷ s .stack) (o ∷ s .stack))
 
-  join-done : (join : ℕ → ℕ → ℕ → List Equation) (x y : Block) (r : List ℕ) (s : State) →
+  join-done : (join : ℕ → ℕ → ℕ → List Equation) (d : Node) (x y : Block) (r : List ℕ) (s : State) →
       (let o : ℕ = placeAfter (placeAfter (s .next) (x .es)) (y .es) in
-      run places r (all (done y (done x s)) (join o (x .out) (y .out)) (s .idle) (o ∷ s .stack))
-      ≡ run places r (done (join-block join (s .next) x y) s))
-  join-done join x y r s =
+      run places r (all (done y (done x s)) (join o (x .out) (y .out)) (s .idle) (ownFlow o (d .result) ∷ s .stack))
+      ≡ run places r (done (join-block join d (s .next) x y) s))
+  join-done join d x y r s =
       let o : ℕ = placeAfter (placeAfter (s .next) (x .es)) (y .es) in
       let st : List ℕ = x .out ∷ s .stack in
+      let st′ : List ℕ = ownFlow o (d .result) ∷ s .stack in
       ap (run places r)
-      (joined (done x s) (y .es) (join o (x .out) (y .out)) (s .idle) (s .idle) (y .out ∷ st) (o ∷ s .stack)
-      ∙ joined s (x .es) (y .es ++ join o (x .out) (y .out)) (s .idle) (s .idle) st (o ∷ s .stack))
+      (joined (done x s) (y .es) (join o (x .out) (y .out)) (s .idle) (s .idle) (y .out ∷ st) st′
+      ∙ joined s (x .es) (y .es ++ join o (x .out) (y .out)) (s .idle) (s .idle) st st′)
 
   atom-done : (rest : ℕ → ℕ → List Equation) (d : Node) (x : Block) (r : List ℕ) (s : State) →
       (let o : ℕ = placeAfter (s .next) (x .es) in
@@ -105,11 +107,11 @@ module _ (places : List ℕ) where
   run-prop (andP p q) r s =
       let x : Block = blockP p s in
       two (flat (rawP p)) (flat (rawP q)) (blockP p) (blockP q) (run-prop p) (run-prop q) AND 0 0 0 r s
-      ∙ join-done and-es x (blockP q (done x s)) r s
+      ∙ join-done and-es andNode x (blockP q (done x s)) r s
   run-prop (orP p q) r s =
       let x : Block = blockP p s in
       two (flat (rawP p)) (flat (rawP q)) (blockP p) (blockP q) (run-prop p) (run-prop q) OR 0 0 0 r s
-      ∙ join-done or-es x (blockP q (done x s)) r s
+      ∙ join-done or-es orNode x (blockP q (done x s)) r s
 
   -- A test's record after its proposition's, and a count's.
   abbrev of-test : (k : Test) (p : Prop) (r : List ℕ) (s : State) →
@@ -148,11 +150,11 @@ module _ (places : List ℕ) where
   run-formula (and f g) r s =
       let x : Block = block f s in
       two (flat (raw f)) (flat (raw g)) (block f) (block g) (run-formula f) (run-formula g) AND 0 0 0 r s
-      ∙ join-done and-es x (block g (done x s)) r s
+      ∙ join-done and-es andNode x (block g (done x s)) r s
   run-formula (or f g) r s =
       let x : Block = block f s in
       two (flat (raw f)) (flat (raw g)) (block f) (block g) (run-formula f) (run-formula g) OR 0 0 0 r s
-      ∙ join-done or-es x (block g (done x s)) r s
+      ∙ join-done or-es orNode x (block g (done x s)) r s
   -- s₁ is the state after the end of the lead: the second part's start, with the present one on the stack.
   run-formula (then f g) r s =
       let x : Block = block f s in

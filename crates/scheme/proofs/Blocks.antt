@@ -15,8 +15,9 @@ use Rattle.formulas.specs.Raw.{rawP, raw}
 use Rattle.tables.specs.Table.{Equation}
 use Rattle.limits.specs.Limits.{literalCount}
 use Rattle.tables.specs.declared.Sort.the-variants.{Boolean}
-use Rattle.scheme.specs.Scheme.{_⊕_}
-use Rattle.scheme.specs.Emit.{Block, placeAfter, emitP, emit, namesP, names, join-block, not-es, and-es, or-es}
+use Rattle.scheme.specs.Scheme.{_⊕_, Node, andNode, orNode}
+use Rattle.scheme.specs.Emit.{Block, placeAfter, ownFlow, emitP, emit, namesP, names, join-block}
+use Rattle.scheme.specs.Emit.{not-es, and-es, or-es}
 use Rattle.scheme.specs.Emit.{begin-es, point-es, kept-es, held-es, sum-es, age-es, lead-end-es, then-es}
 use Rattle.scheme.proofs.Places.{after-append, after-later, Each, each-left, each-right, each-join}
 use Rattle.scheme.proofs.Roles.{Before, later, Fits, KindAt}
@@ -64,31 +65,32 @@ module _ (t : List ℕ) (N : ℕ) where
       (not-fine t N o′ (fine .1) (room-right (x .es) row o room) (right (x .es) row o kinds))
 
   -- and two blocks that fit, joined by a row that fits.
-  abbrev Joins : (ℕ → ℕ → ℕ → List Equation) → Type 0
-  Joins join =
-      (o : ℕ) (x y : Block) → placeAfter o (join-block join o x y .es) ≤ N → Kinded o (join-block join o x y .es)
+  abbrev Joins : (ℕ → ℕ → ℕ → List Equation) → Node → Type 0
+  Joins join d =
+      (o : ℕ) (x y : Block) → placeAfter o (join-block join d o x y .es) ≤ N → Kinded o (join-block join d o x y .es)
       → AllFine o (x .es) (x .out) → AllFine (placeAfter o (x .es)) (y .es) (y .out)
-      → AllFine o (join-block join o x y .es) (join-block join o x y .out)
+      → AllFine o (join-block join d o x y .es) (join-block join d o x y .out)
 
-  module _ (join : ℕ → ℕ → ℕ → List Equation)
+  module _ (join : ℕ → ℕ → ℕ → List Equation) (d : Node)
       (row-fine : (o a b : ℕ) → Before t o Boolean a → Before t o Boolean b → placeAfter o (join o a b) ≤ N
-      → Kinded o (join o a b) → AllFine o (join o a b) o) where
-    joined-fine : Joins join
+      → Kinded o (join o a b) → AllFine o (join o a b) (ownFlow o (d .result))) where
+    joined-fine : Joins join d
     joined-fine o x y room kinds h g =
         let o′ : ℕ = placeAfter o (x .es) in
         let o″ : ℕ = placeAfter o′ (y .es) in
         let row : List Equation = join o″ (x .out) (y .out) in
+        let v : ℕ = ownFlow o″ (d .result) in
         let row-room = room-right (y .es) row o′ (room-right (x .es) (y .es ++ row) o room) in
         let row-kinds = right (y .es) row o′ (right (x .es) (y .es ++ row) o kinds) in
         let first = later (h .1) (after-later (y .es) o′) in
-        follow (x .es) (y .es ++ row) o o″ (h .0)
-        (follow (y .es) row o′ o″ (g .0) (row-fine o″ (x .out) (y .out) first (g .1) row-room row-kinds))
+        follow (x .es) (y .es ++ row) o v (h .0)
+        (follow (y .es) row o′ v (g .0) (row-fine o″ (x .out) (y .out) first (g .1) row-room row-kinds))
 
-  join-and : Joins and-es
-  join-and = joined-fine and-es (λ o a b ba bb. and-fine t N o ba bb)
+  join-and : Joins and-es andNode
+  join-and = joined-fine and-es andNode (λ o a b ba bb. and-fine t N o ba bb)
 
-  join-or : Joins or-es
-  join-or = joined-fine or-es (λ o a b ba bb. or-fine t N o ba bb)
+  join-or : Joins or-es orNode
+  join-or = joined-fine or-es orNode (λ o a b ba bb. or-fine t N o ba bb)
 
   module _ (flowOf : ℕ → ℕ) where
     -- ---- propositions

@@ -17,16 +17,11 @@ use Rattle.formulas.specs.Arena.{numKind, numValue}
 use Rattle.tables.specs.Table.{Equation}
 use Rattle.tables.specs.Kind.{SIGNAL, START, NOT}
 use Rattle.limits.specs.Limits.{signalCount}
-use Rattle.scheme.specs.Scheme.{_⊕_, constantRows, notRows, andRows, orRows, beginRows, pointRows}
 use Rattle.tables.specs.Table.{equation}
-use Rattle.scheme.specs.Scheme.{keptRows, heldRows, lenRows, sumRows, ageRows, leadEndRows, thenRows, wholeRows}
-use Rattle.scheme.specs.Scheme.{Node, constantNode, notNode, andNode, beginNode, pointNode, heldNode}
-use Rattle.scheme.specs.Scheme.{keptNode, lenNode, sumNode, ageNode, leadEndNode, thenNode, valueNamed}
-use Rattle.scheme.specs.Scheme.{comparisonOf}
-use Rattle.scheme.specs.Scheme.{filled}
-use Rattle.scheme.specs.Scheme.{Name}
+use Rattle.scheme.specs.Scheme.{_⊕_, Name, Node, constantNode, signalNode, notNode, andNode, orNode, beginNode}
+use Rattle.scheme.specs.Scheme.{endNode, pointNode, heldNode, keptNode, lenNode, sumNode, ageNode, leadEndNode}
+use Rattle.scheme.specs.Scheme.{thenNode, wholeNode, Values, valueNamed, comparisonOf, filled}
 use Rattle.scheme.specs.Scheme.Name.{Fourth}
-use Rattle.scheme.specs.Scheme.{Values}
 
 -- A block of equations, and the flow that is its result.
 pub record Block : Type 0 where
@@ -65,52 +60,57 @@ abbrev pub constantAt : ℕ → Bool → Values
 constantAt o c =
     record { place = o; idle = 0; start = 0; last = 0; previous = 0; signal = 0; a = truth c; comparison = 0; c = 0 }
 
+-- The value at a signal, whose flow is x.
+abbrev pub signalling : ℕ → Values
+signalling x =
+    record { place = 0; idle = 0; start = 0; last = 0; previous = 0; signal = x; a = 0; comparison = 0; c = 0 }
+
 -- s and n are the start flow and its negation, p the flow of the node's proposition or operand, q that of the operand
 -- before it.
 abbrev pub constant-es : Bool → ℕ → List Equation
-constant-es c o = filled (constantAt o c) constantRows
+constant-es c o = filled (constantAt o c) (constantNode .rows)
 
 abbrev pub not-es : ℕ → ℕ → List Equation
-not-es o p = filled (flowsAt o 0 0 p 0) notRows
+not-es o p = filled (flowsAt o 0 0 p 0) (notNode .rows)
 
 abbrev pub and-es : ℕ → ℕ → ℕ → List Equation
-and-es o q p = filled (flowsAt o 0 0 p q) andRows
+and-es o q p = filled (flowsAt o 0 0 p q) (andNode .rows)
 
 abbrev pub or-es : ℕ → ℕ → ℕ → List Equation
-or-es o q p = filled (flowsAt o 0 0 p q) orRows
+or-es o q p = filled (flowsAt o 0 0 p q) (orNode .rows)
 
 abbrev pub begin-es : ℕ → ℕ → ℕ → ℕ → List Equation
-begin-es s n o p = filled (flowsAt o n s p 0) beginRows
+begin-es s n o p = filled (flowsAt o n s p 0) (beginNode .rows)
 
 abbrev pub point-es : ℕ → ℕ → ℕ → List Equation
-point-es s o p = filled (flowsAt o 0 s p 0) pointRows
+point-es s o p = filled (flowsAt o 0 s p 0) (pointNode .rows)
 
 abbrev pub kept-es : ℕ → ℕ → ℕ → List Equation
-kept-es s o p = filled (flowsAt o 0 s p 0) keptRows
+kept-es s o p = filled (flowsAt o 0 s p 0) (keptNode .rows)
 
 abbrev pub held-es : ℕ → ℕ → ℕ → ℕ → List Equation
-held-es s n o p = filled (flowsAt o n s p 0) heldRows
+held-es s n o p = filled (flowsAt o n s p 0) (heldNode .rows)
 
 abbrev pub len-es : ℕ → ℕ → Op → Num → List Equation
-len-es n o op x = filled (comparing o n 0 op x) lenRows
+len-es n o op x = filled (comparing o n 0 op x) (lenNode .rows)
 
 abbrev pub sum-es : ℕ → Op → Num → ℕ → ℕ → List Equation
-sum-es n op x o p = filled (comparing o n p op x) sumRows
+sum-es n op x o p = filled (comparing o n p op x) (sumNode .rows)
 
 abbrev pub age-es : ℕ → Op → Num → ℕ → ℕ → List Equation
-age-es n op x o p = filled (comparing o n p op x) ageRows
+age-es n op x o p = filled (comparing o n p op x) (ageNode .rows)
 
 -- The end of the lead l: the fourth of these flows is the second part's start, the fifth its negation.
 abbrev pub lead-end-es : ℕ → ℕ → ℕ → List Equation
-lead-end-es n o l = filled (flowsAt o n 0 l 0) leadEndRows
+lead-end-es n o l = filled (flowsAt o n 0 l 0) (leadEndNode .rows)
 
 -- The second part has run since its start s′; its result is f.
 abbrev pub then-es : ℕ → ℕ → ℕ → ℕ → List Equation
-then-es n o s′ f = filled (flowsAt o 0 s′ f n) thenRows
+then-es n o s′ f = filled (flowsAt o 0 s′ f n) (thenNode .rows)
 
 -- Started, with its memory, and the verdict.
 abbrev pub whole-es : ℕ → ℕ → ℕ → List Equation
-whole-es s o v = filled (flowsAt o 0 s v 0) wholeRows
+whole-es s o v = filled (flowsAt o 0 s v 0) (wholeNode .rows)
 
 -- ---- blocks
 
@@ -123,11 +123,20 @@ not-block o x =
     let o′ : ℕ = placeAfter o (x .es) in
     record { es = x .es ++ not-es o′ (x .out); out = ownFlow o′ (notNode .result) }
 
--- Two blocks, the second after the first, and the row that joins them: of `&`, and of `|` with the same result.
-abbrev pub join-block : (ℕ → ℕ → ℕ → List Equation) → ℕ → Block → Block → Block
-join-block join o x y =
+-- Two blocks, the second after the first, and the row that joins them: of `&` and of `|`.
+abbrev pub join-block : (ℕ → ℕ → ℕ → List Equation) → Node → ℕ → Block → Block → Block
+join-block join d o x y =
     let o′ : ℕ = placeAfter (placeAfter o (x .es)) (y .es) in
-    record { es = x .es ++ (y .es ++ join o′ (x .out) (y .out)); out = ownFlow o′ (andNode .result) }
+    record { es = x .es ++ (y .es ++ join o′ (x .out) (y .out)); out = ownFlow o′ (d .result) }
+
+-- A signal's flow stands in the header: no row, and that flow.
+abbrev pub signal-block : ℕ → Block
+signal-block x =
+    record { es = filled (signalling x) (signalNode .rows); out = valueNamed (signalling x) (signalNode .result) }
+
+-- An `end` adds no row to its proposition's.
+abbrev pub end-block : Block → Block
+end-block x = record { es = x .es; out = valueNamed (flowsAt 0 0 0 (x .out) 0) (endNode .result) }
 
 -- An atom over a proposition's block.
 abbrev pub atom-block : (ℕ → ℕ → List Equation) → Node → ℕ → Block → Block
@@ -144,7 +153,7 @@ abbrev pub secondIdle : ℕ → ℕ
 secondIdle o = ownFlow o (leadEndNode .idle)
 
 abbrev pub secondPlace : ℕ → ℕ
-secondPlace o = o ⊕ length leadEndRows
+secondPlace o = o ⊕ length (leadEndNode .rows)
 
 -- A `then`: o′ is the place after the lead x.
 abbrev pub then-block : ℕ → ℕ → Block → Block → Block
@@ -160,14 +169,14 @@ then-block n o′ x y =
 module _ (flowOf : ℕ → ℕ) where
   abbrev pub emitP : Prop → ℕ → Block
   emitP (constant c) o = record { es = constant-es c o; out = ownFlow o (constantNode .result) }
-  emitP (signal j) o = record { es = []; out = flowOf j }
+  emitP (signal j) o = signal-block (flowOf j)
   emitP (negP p) o = not-block o (emitP p o)
-  emitP (andP p q) o = join-block and-es o (emitP p o) (emitP q (placeAfter o (emitP p o .es)))
-  emitP (orP p q) o = join-block or-es o (emitP p o) (emitP q (placeAfter o (emitP p o .es)))
+  emitP (andP p q) o = join-block and-es andNode o (emitP p o) (emitP q (placeAfter o (emitP p o .es)))
+  emitP (orP p q) o = join-block or-es orNode o (emitP p o) (emitP q (placeAfter o (emitP p o .es)))
 
   abbrev pub emit : Formula → ℕ → ℕ → ℕ → Block
   emit (test begin p) s n o = atom-block (begin-es s n) beginNode o (emitP p o)
-  emit (test end p) s n o = emitP p o
+  emit (test end p) s n o = end-block (emitP p o)
   emit (test point p) s n o = atom-block (point-es s) pointNode o (emitP p o)
   emit (test held p) s n o = atom-block (held-es s n) heldNode o (emitP p o)
   emit (test kept p) s n o = atom-block (kept-es s) keptNode o (emitP p o)
@@ -175,8 +184,8 @@ module _ (flowOf : ℕ → ℕ) where
   emit (count sum p op x) s n o = atom-block (sum-es n op x) sumNode o (emitP p o)
   emit (count age p op x) s n o = atom-block (age-es n op x) ageNode o (emitP p o)
   emit (neg f) s n o = not-block o (emit f s n o)
-  emit (and f g) s n o = join-block and-es o (emit f s n o) (emit g s n (placeAfter o (emit f s n o .es)))
-  emit (or f g) s n o = join-block or-es o (emit f s n o) (emit g s n (placeAfter o (emit f s n o .es)))
+  emit (and f g) s n o = join-block and-es andNode o (emit f s n o) (emit g s n (placeAfter o (emit f s n o .es)))
+  emit (or f g) s n o = join-block or-es orNode o (emit f s n o) (emit g s n (placeAfter o (emit f s n o .es)))
   emit (then l f) s n o =
       let o′ : ℕ = placeAfter o (emit l s n o .es) in
       then-block n o′ (emit l s n o) (emit f (secondStart o′) (secondIdle o′) (secondPlace o′))
@@ -229,6 +238,7 @@ start-es = equation START 0 0 0 ∷ equation NOT startFlow 0 0 ∷ []
 abbrev pub header : (ℕ → Bool) → List Equation
 header named = start-es ++ signals named 0 signalCount
 
+-- The flow of signal j.
 abbrev pub flowIn : (ℕ → Bool) → ℕ → ℕ
 flowIn named j = getD (places named 0 headerCount signalCount) j 0
 
