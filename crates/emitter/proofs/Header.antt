@@ -6,8 +6,9 @@ use Prim.Native.Nat.{ℕ, zero, suc, _+_, _-_, _≤_, _<_}
 use native.Mathlib.Nat.{add-zero, add-suc, suc-add}
 use native.Mathlib.Numerals.{add-one}
 use native.Mathlib.Omega.{arith}
-use lib.ListN.{getD, set, length, length-append}
+use lib.ListN.{set, length, length-append}
 use lib.Seq.{getD-at, set-at}
+use Rattle.lists.specs.Number.{numberAt}
 use Rattle.traces.specs.Trace.{nonzero}
 use Rattle.tables.specs.Kind.{SIGNAL, START, NOT}
 use Rattle.limits.specs.Limits.{signalCount}
@@ -25,14 +26,14 @@ starts-are t e₁ e₂ =
 
 -- ---- one signal
 
-pub signal-named : (t named : List ℕ) (j o flag : ℕ) {t′ named′ : List ℕ} → flag ≡ getD named j 0 → (flag ≡ 0 → ⊥)
+pub signal-named : (t named : List ℕ) (j o flag : ℕ) {t′ named′ : List ℕ} → flag ≡ numberAt named j → (flag ≡ 0 → ⊥)
     → named′ ≡ set named j o → t′ ≡ withEquations t o (equation SIGNAL j 0 0 ∷ [])
     → headerOf t′ named′ (o + 1) ≡ withSignal j (headerOf t named o)
 unfolding withSignal
 signal-named t named j o zero e h e-named e-t = absurd (h refl)
 signal-named t named j o (suc flag) e h e-named e-t = rw (sym e, e-named, e-t, add-one o)
 
-pub signal-other : (t named : List ℕ) (j o : ℕ) {flag : ℕ} {named′ : List ℕ} → flag ≡ getD named j 0 → flag ≡ 0
+pub signal-other : (t named : List ℕ) (j o : ℕ) {flag : ℕ} {named′ : List ℕ} → flag ≡ numberAt named j → flag ≡ 0
     → named′ ≡ set named j o → headerOf t named′ o ≡ withSignal j (headerOf t named o)
 unfolding withSignal
 signal-other t named j o e h e-named = rw (sym e, h, e-named)
@@ -40,7 +41,7 @@ signal-other t named j o e h e-named = rw (sym e, h, e-named)
 -- It adds one equation at most.
 signal-near : (j : ℕ) (h : Header) → withSignal j h .next ≤ h .next + 1
 unfolding withSignal
-signal-near j h = at-most (nonzero (getD (h .places) j 0))
+signal-near j h = at-most (nonzero (numberAt (h .places) j))
   where
     at-most : (b : Bool) → cond b (suc (h .next)) (h .next) ≤ h .next + 1
     at-most true = omega arith
@@ -114,7 +115,7 @@ signals-one ν done t o j m true e =
 signals-one ν done t o j m false e = rw (e, append-assoc done (o ∷ []) (places ν (suc j) o m))
 
 pub settle-is : (ν : ℕ → Bool) (rest done t : List ℕ) (o j : ℕ) → length done ≡ j
-    → ((i : ℕ) → i < length rest → ν (j + i) ≡ nonzero (getD rest i 0)) →
+    → ((i : ℕ) → i < length rest → ν (j + i) ≡ nonzero (numberAt rest i)) →
     settle (length rest) j (headerOf t (done ++ rest) o)
     ≡ headerOf (withEquations t o (signals ν j (length rest))) (done ++ places ν j o (length rest))
     (placeAfter o (signals ν j (length rest)))
@@ -123,7 +124,7 @@ settle-is ν [] done t o j e h = refl
 settle-is ν (x ∷ rest) done t o j e h =
     let m : ℕ = length rest in
     let this : ν j ≡ nonzero x = ap ν (sym (add-zero j)) ∙ h 0 (omega arith) in
-    let those : (i : ℕ) → i < m → ν (suc j + i) ≡ nonzero (getD rest i 0) =
+    let those : (i : ℕ) → i < m → ν (suc j + i) ≡ nonzero (numberAt rest i) =
     λ i k. ap ν (suc-add j i ∙ sym (add-suc j i)) ∙ h (suc i) (omega arith) in
     let long : length (done ++ (o ∷ [])) ≡ suc j = length-append done (o ∷ []) ∙ rw e (omega arith) in
     let t′ : List ℕ = cond (nonzero x) (withEquations t o (equation SIGNAL j 0 0 ∷ [])) t in

@@ -6,8 +6,9 @@ use Prim.Native.Nat.{ℕ, _+_, _<_}
 use native.Mathlib.Decide.{ℕ-discrete}
 use borrow.Author.Tests.{eq-eqb, ne-eqb}
 use lib.Dec.{eqb}
-use lib.ListN.{getD, set, length, length-set, replicate, getD-replicate, length-replicate}
+use lib.ListN.{set, length, length-set, replicate, getD-replicate, length-replicate}
 use lib.Seq.{getD-set-same, getD-set-other}
+use Rattle.lists.specs.Number.{numberAt}
 use Rattle.traces.specs.Trace.{truth, nonzero}
 use Rattle.traces.specs.Compare.{opNumber}
 use Rattle.formulas.specs.Formula.{Prop, Test, Count, Formula}
@@ -27,7 +28,7 @@ record Marks (l : List ℕ) (ν : ℕ → Bool) : Type 0 where
   left : (r named : List ℕ) → marks (l ++ r) named ≡ marks r (on named)
   long : (named : List ℕ) → length (on named) ≡ length named
   adds : (named : List ℕ) (j : ℕ) → j < length named →
-      nonzero (getD (on named) j 0) ≡ (ν j || nonzero (getD named j 0))
+      nonzero (numberAt (on named) j) ≡ (ν j || nonzero (numberAt named j))
 
 -- A record of no signal marks none,
 passed : (k a b c : ℕ) → eqb k SIGNAL ≡ false → (r named : List ℕ) → marks (row k a b c ++ r) named ≡ marks r named
@@ -40,7 +41,7 @@ other k a b c e =
 
 -- a signal's marks the signal,
 one-mark : (i : ℕ) (named : List ℕ) (j : ℕ) → j < length named → Dec (i ≡ j) →
-    nonzero (getD (set named i 1) j 0) ≡ (eqb i j || nonzero (getD named j 0))
+    nonzero (numberAt (set named i 1) j) ≡ (eqb i j || nonzero (numberAt named j))
 one-mark i named j h (yes e) = rw (eq-eqb i j e, e, getD-set-same named j 1 0 h)
 one-mark i named j h (no n) = rw (ne-eqb i j n, getD-set-other named i j 1 0 (λ e. n (sym e)))
 
@@ -70,7 +71,7 @@ both l m μ ν g h =
       adds = λ named j k.
           h .adds (g .on named) j (subst (λ (n : ℕ). j < n) (sym (g .long named)) k)
           ∙ ap (λ (x : Bool). ν j || x) (g .adds named j k)
-          ∙ or-swap (μ j) (ν j) (nonzero (getD named j 0));
+          ∙ or-swap (μ j) (ν j) (nonzero (numberAt named j));
     }
 
 -- A record of no signal after others, and before them.
@@ -156,11 +157,11 @@ named-long f m =
     ap length (marks-on f (replicate m 0)) ∙ marks-formula f .long (replicate m 0) ∙ length-replicate m 0
 
 pub named-at : (f : Formula) (m j : ℕ) → j < m →
-    names f j ≡ nonzero (getD (marks (flat (raw f)) (replicate m 0)) j 0)
+    names f j ≡ nonzero (numberAt (marks (flat (raw f)) (replicate m 0)) j)
 named-at f m j h =
     let inside : j < length {A = ℕ} (replicate m 0) = rw (length-replicate {A = ℕ} m 0) h in
     sym
-    (ap (λ (l : List ℕ). nonzero (getD l j 0)) (marks-on f (replicate m 0))
+    (ap (λ (l : List ℕ). nonzero (numberAt l j)) (marks-on f (replicate m 0))
     ∙ marks-formula f .adds (replicate m 0) j inside
     ∙ ap (λ (x : ℕ). names f j || nonzero x) (getD-replicate m j 0 0 h)
     ∙ no-mark (names f j))

@@ -3,7 +3,7 @@
 use mathlib.Core.List.{List, _∷_, _++_, append-assoc}
 use mathlib.Core.Path.{_≡_, refl, ap, _∙_}
 use Prim.Native.Nat.{ℕ, _+_}
-use lib.ListN.{getD}
+use Rattle.lists.specs.Number.{numberAt}
 use Rattle.traces.specs.Compare.{Op, opNumber}
 use Rattle.formulas.specs.Formula.{Num, Prop, Test, Count, Formula}
 use Rattle.formulas.specs.Formula.Prop.{constant, signal, negP, andP, orP}
@@ -42,7 +42,7 @@ joined s xs ys m n u st = rw (written-append xs ys (s .table) (s .next), after-a
 
 module _ (places : List ℕ) where
   abbrev flowOf : ℕ → ℕ
-  flowOf j = getD places j 0
+  flowOf = numberAt places
 
   -- The records l have the effect of the block x, whatever records follow.
   abbrev Runs : List ℕ → (State → Block) → Type 0

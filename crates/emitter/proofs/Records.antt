@@ -6,8 +6,9 @@ use Prim.Native.Nat.{ℕ, suc, _+_, _*_, _≤_, _<_}
 use native.Mathlib.Numerals.{add-one, add-two, add-three, add-four}
 use native.Mathlib.Omega.{arith}
 use borrow.Author.Tests.{ne-eqb, le-leb, lt-leb}
-use lib.ListN.{getD, set, drop, length, length-drop}
+use lib.ListN.{set, drop, length, length-drop}
 use lib.Seq.{drop-cons}
+use Rattle.lists.specs.Number.{numberAt}
 use Rattle.formulas.specs.Arena.{SIGNAL}
 use Rattle.scheme.specs.Scheme.{widest}
 use Rattle.scheme.specs.Emit.{idleFlow}
@@ -19,7 +20,7 @@ use Rattle.emitter.specs.declared.Record.{Record}
 
 -- What is left at i begins with a record.
 four : (l : List ℕ) (i : ℕ) → i + 4 ≤ length l →
-    drop i l ≡ getD l i 0 ∷ getD l (i + 1) 0 ∷ getD l (i + 2) 0 ∷ getD l (i + 3) 0 ∷ drop (i + 4) l
+    drop i l ≡ numberAt l i ∷ numberAt l (i + 1) ∷ numberAt l (i + 2) ∷ numberAt l (i + 3) ∷ drop (i + 4) l
 four l i h =
     let at-0 : i < length l = omega arith in
     let at-1 : suc i < length l = omega arith in

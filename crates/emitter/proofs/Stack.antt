@@ -5,8 +5,9 @@ use Prim.Native.Nat.{ℕ, zero, suc, _+_, _-_, _≤_, _<_}
 use native.Mathlib.Nat.{zero-sub, sub-zero, suc-sub-suc}
 use native.Mathlib.Numerals.{add-one}
 use native.Mathlib.Omega.{arith}
-use lib.ListN.{getD, set, drop, length, take}
+use lib.ListN.{set, drop, length, take}
 use lib.Seq.{getD-set-same, getD-set-other}
+use Rattle.lists.specs.Number.{numberAt}
 use Rattle.scheme.specs.Scheme.{nodeOf, Values, valueNamed, filled}
 use Rattle.scheme.proofs.Offsets.{⊕-add}
 use Rattle.scheme.proofs.ByKind.{rows-few}
@@ -26,7 +27,7 @@ before-is (suc n) h = omega arith
 -- ---- reading
 
 -- The operand that lies i below the last of h, where there is one,
-pub operand-in : (l : List ℕ) (h i : ℕ) → i < h → getD l (h - i - 1) 0 ≡ getD (stacked l h) i 0
+pub operand-in : (l : List ℕ) (h i : ℕ) → i < h → numberAt l (h - i - 1) ≡ numberAt (stacked l h) i
 unfolding stacked
 operand-in l zero i e = absurd (omega arith)
 operand-in l (suc h) zero e = let z : suc h - 0 - 1 ≡ h = omega arith in rw z
@@ -35,7 +36,7 @@ operand-in l (suc h) (suc i) e =
     rw z (operand-in l h i (omega arith))
 
 -- and where there is none.
-pub operand-out : (l : List ℕ) (h i : ℕ) → h ≤ i → 0 ≡ getD (stacked l h) i 0
+pub operand-out : (l : List ℕ) (h i : ℕ) → h ≤ i → 0 ≡ numberAt (stacked l h) i
 unfolding stacked
 operand-out l zero i e = refl
 operand-out l (suc h) zero e = absurd (omega arith)
@@ -92,10 +93,10 @@ added {vs} {t} {stack} {m} {d} {t′} k v e-d e-vs h =
     ap₂ (λ (x : CodeNode) (l : List ℕ). take (x .count) (map (lookedUp l) (x .rows))) e-d e-vs ∙ own-rows v k in
     let table : t′ ≡ withEquations t (m .next) (filled v (nodeOf k .rows)) = e-t ∙ ap (withEquations t (m .next))
     rows in
-    let pushed-out : getD vs (d .result) 0 ≡ valueNamed v (nodeOf k .result) =
-    ap₂ (λ (l : List ℕ) (x : ℕ). getD l x 0) e-vs result ∙ named v (nodeOf k .result) in
-    let idle-out : getD vs (d .idle) 0 ≡ valueNamed v (nodeOf k .idle) =
-    ap₂ (λ (l : List ℕ) (x : ℕ). getD l x 0) e-vs idle ∙ named v (nodeOf k .idle) in
+    let pushed-out : numberAt vs (d .result) ≡ valueNamed v (nodeOf k .result) =
+    ap₂ numberAt e-vs result ∙ named v (nodeOf k .result) in
+    let idle-out : numberAt vs (d .idle) ≡ valueNamed v (nodeOf k .idle) =
+    ap₂ numberAt e-vs idle ∙ named v (nodeOf k .idle) in
     record {
       stands = cc (⊕-add (m .next) (length (nodeOf k .rows)), e-h .holds);
       near = omega arith;

@@ -4,7 +4,8 @@ use mathlib.Core.Path.{_≡_, refl, sym, ap, _∙_}
 use Prim.Native.Nat.{ℕ, _+_, _≤_, _<_}
 use native.Mathlib.Nat.{zero-add}
 use native.Mathlib.Omega.{arith}
-use lib.ListN.{getD, length, replicate}
+use lib.ListN.{length, replicate}
+use Rattle.lists.specs.Number.{numberAt}
 use Rattle.traces.specs.Trace.{nonzero}
 use Rattle.formulas.specs.Formula.{Formula}
 use Rattle.formulas.specs.Arena.{WHOLE, flat}
@@ -32,7 +33,7 @@ header-is : (f : Formula) (m : ℕ) (t : List ℕ) →
 header-is f m t =
     let named : List ℕ = marks (flat (raw f)) (replicate m 0) in
     let long : length named ≡ m = named-long f m in
-    let agree : (i : ℕ) → i < length named → names f (0 + i) ≡ nonzero (getD named i 0) =
+    let agree : (i : ℕ) → i < length named → names f (0 + i) ≡ nonzero (numberAt named i) =
     λ i h. ap (names f) (zero-add i) ∙ named-at f m i (rw long at h) in
     let all : settle (length named) 0 (headerOf (withEquations t 0 start-es) named headerCount)
     ≡ headerOf (withEquations (withEquations t 0 start-es) headerCount (signals (names f) 0 (length named)))
@@ -44,7 +45,7 @@ header-is f m t =
 
 ran-is : (f : Formula) (ps t : List ℕ) (o : ℕ) →
     ran (flat (raw f)) ps t o
-    ≡ step ps (recordOf WHOLE 0 0 0) (done (emit (λ j. getD ps j 0) f startFlow idleFlow o) (state t o idleFlow []))
+    ≡ step ps (recordOf WHOLE 0 0 0) (done (emit (numberAt ps) f startFlow idleFlow o) (state t o idleFlow []))
 unfolding run
 ran-is f ps t o =
     ap (λ (l : List ℕ). ran l ps t o) (sym (append-nil (flat (raw f))))
@@ -70,7 +71,7 @@ module _ (f : Formula) (m : ℕ) (t : List ℕ) where
   flows = places (names f) 0 headerCount m
 
   abbrev pub middle : Block
-  middle = emit (λ j. getD flows j 0) f startFlow idleFlow (placeAfter 0 head)
+  middle = emit (numberAt flows) f startFlow idleFlow (placeAfter 0 head)
 
   abbrev pub last : List Equation
   last = whole-es startFlow (placeAfter (placeAfter 0 head) (middle .es)) (middle .out)

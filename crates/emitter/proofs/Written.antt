@@ -6,6 +6,7 @@ use native.Mathlib.Numerals.{add-one, add-two, add-three}
 use native.Mathlib.Omega.{arith}
 use lib.ListN.{length, getD, set, take}
 use lib.Seq.{sets}
+use Rattle.lists.specs.Number.{numberAt}
 use Rattle.lists.proofs.Buffers.{sets-append}
 use Rattle.tables.specs.Table.{Equation}
 use Rattle.tables.specs.Table.{equation}
@@ -50,8 +51,8 @@ written-one t o kind a b c = rw (add-one (4 * o), add-two (4 * o), add-three (4 
 
 -- A row of numbers with its names looked up, written at o.
 pub written-row : (t vs : List ℕ) (o : ℕ) (r : Row) {comparison kind a b c : ℕ} {t′ : List ℕ}
-    → comparison ≡ getD vs nameCount 0 → kind ≡ kindBy comparison (r .0) → a ≡ getD vs (r .1) 0 → b ≡ getD vs (r .2) 0
-    → c ≡ getD vs (r .3) 0 → t′ ≡ withEquations t o (equation kind a b c ∷ [])
+    → comparison ≡ numberAt vs nameCount → kind ≡ kindBy comparison (r .0) → a ≡ numberAt vs (r .1) → b ≡ numberAt vs (r .2)
+    → c ≡ numberAt vs (r .3) → t′ ≡ withEquations t o (equation kind a b c ∷ [])
     → t′ ≡ withEquations t o (lookedUp vs r ∷ [])
 written-row t vs o r e e-kind e-a e-b e-c e-t = rw (e-kind, e, e-a, e-b, e-c) at e-t
 

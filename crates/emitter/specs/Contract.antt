@@ -2,8 +2,9 @@
 use mathlib.Core.List.{List, _∷_, map}
 use mathlib.Core.Path.{_≡_}
 use Prim.Native.Nat.{ℕ, _+_, _*_, _≤_, _<_}
-use lib.ListN.{length, drop, take, getD}
+use lib.ListN.{length, drop, take}
 use lib.Seq.{sets}
+use Rattle.lists.specs.Number.{numberAt}
 use Rattle.formulas.specs.Formula.{Formula}
 use Rattle.formulas.specs.Arena.{flat}
 use Rattle.formulas.specs.Raw.{raw}
@@ -50,8 +51,8 @@ pub record Added (d : Node) (v : Values) (t stack : List ℕ) (m : Place) (t′ 
 pub record AddedBy (d : CodeNode) (vs t stack : List ℕ) (m : Place) (t′ stack′ : List ℕ) (m′ : Place) : Type 0 where
   pub rows : t′ ≡ withEquations t (m .next) (take (d .count) (map (lookedUp vs) (d .rows)))
   pub next : m′ .next ≡ m .next + d .count
-  pub idle : m′ .idle ≡ getD vs (d .idle) 0
-  pub result : Pushed stack (m .height) (d .takes) (getD vs (d .result) 0) stack′ (m′ .height)
+  pub idle : m′ .idle ≡ numberAt vs (d .idle)
+  pub result : Pushed stack (m .height) (d .takes) (numberAt vs (d .result)) stack′ (m′ .height)
 
 -- One record was entered.
 pub record Entered (places : List ℕ) (x : Record) (t stack : List ℕ) (m : Place) (t′ stack′ : List ℕ) (m′ : Place)

@@ -6,8 +6,9 @@ use mathlib.Core.Bool.{cond}
 use mathlib.Core.List.{List, [], _∷_}
 use Prim.Native.Nat.{ℕ, zero, suc, _+_, _*_}
 use lib.Dec.{eqb, leb}
-use lib.ListN.{getD, set, drop, length}
+use lib.ListN.{set, drop, length}
 use lib.Seq.{sets}
+use Rattle.lists.specs.Number.{numberAt}
 use Rattle.traces.specs.Trace.{nonzero}
 use Rattle.formulas.specs.Arena as arena
 use Rattle.tables.specs.Kind.{SIGNAL}
@@ -50,7 +51,7 @@ recordOf k a b c = record { kind = k; a = a; b = b; c = c }
 
 -- The record at i of an arena.
 abbrev pub recordAt : List ℕ → ℕ → Record
-recordAt l i = recordOf (getD l i 0) (getD l (i + 1) 0) (getD l (i + 2) 0) (getD l (i + 3) 0)
+recordAt l i = recordOf (numberAt l i) (numberAt l (i + 1)) (numberAt l (i + 2)) (numberAt l (i + 3))
 
 -- The record at i, and the whole rule's past the last.
 abbrev pub whole : Record
@@ -66,9 +67,9 @@ valuesAt places o n st r =
       place = o;
       idle = n;
       start = before n;
-      last = getD st 0 0;
-      previous = getD st 1 0;
-      signal = getD places (r .a) 0;
+      last = numberAt st 0;
+      previous = numberAt st 1;
+      signal = numberAt places (r .a);
       a = r .a;
       comparison = comparisonOf (r .b);
       c = r .c;
@@ -96,7 +97,7 @@ run places (k ∷ a ∷ b ∷ c ∷ l) s = run places l (step places (recordOf k
 -- The operands as the code holds them: the first h numbers of an array.
 unfoldable pub stacked : List ℕ → ℕ → List ℕ
 stacked l zero = []
-stacked l (suc h) = getD l h 0 ∷ stacked l h
+stacked l (suc h) = numberAt l h ∷ stacked l h
 
 -- The records of an arena and then the whole rule's node, where the table's header ends at o.
 abbrev pub ran : List ℕ → List ℕ → List ℕ → ℕ → State
@@ -127,9 +128,9 @@ headerOf t l o = record { table = t; places = l; next = o }
 -- Signal j: a marked one gets its equation, and in any case its mark gives way to its place.
 unfoldable pub withSignal : ℕ → Header → Header
 withSignal j h =
-    headerOf (cond (nonzero (getD (h .places) j 0)) (withEquations (h .table) (h .next) (equation SIGNAL j 0 0 ∷ []))
+    headerOf (cond (nonzero (numberAt (h .places) j)) (withEquations (h .table) (h .next) (equation SIGNAL j 0 0 ∷ []))
     (h .table))
-    (set (h .places) j (h .next)) (cond (nonzero (getD (h .places) j 0)) (suc (h .next)) (h .next))
+    (set (h .places) j (h .next)) (cond (nonzero (numberAt (h .places) j)) (suc (h .next)) (h .next))
 
 -- The m signals from j on.
 unfoldable pub settle : ℕ → ℕ → Header → Header

@@ -7,7 +7,8 @@ use node_table::Row;
 ghost use mathlib.Core.Path.{_≡_};
 ghost use mathlib.Core.List.{[], _∷_, map};
 ghost use Prim.Native.Nat.{_≤_, _<_, _+_, _-_};
-ghost use lib.ListN.{getD, set, length, take};
+ghost use lib.ListN.{set, length, take};
+ghost use Rattle.lists.specs.Number.{numberAt};
 ghost use Rattle.limits.specs.Limits.{arenaLimit, equationLimit, signalCount};
 ghost use Rattle.tables.specs.Table.{equation};
 ghost use Rattle.scheme.specs.Scheme.{nodeOf};
@@ -102,7 +103,7 @@ fn fill(t: &mut [u32], o: u32, vs: &[u32; VALUES], d: Node)
 
 // The operand that lies `back` below the last one, and 0 where there is none.
 fn operand(stack: &[u32], height: usize, back: usize) -> u32
-    ensures { λ r. ⌜ r ≡ getD (stacked (now (stack .entry)) height) back 0 ⌝ }
+    ensures { λ r. ⌜ r ≡ numberAt (stacked (now (stack .entry)) height) back ⌝ }
 {
     if back < height {
         return lists::number_at(stack, height - back - 1);

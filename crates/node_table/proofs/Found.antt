@@ -7,6 +7,7 @@ use native.Mathlib.Omega.{arith}
 use native.Mathlib.Decide.{decLt}
 use lib.Dec.{eqb}
 use lib.ListN.{length, getD, List·getD-eq-default}
+use Rattle.lists.specs.Number.{numberAt}
 use Rattle.tables.specs.Table.{all}
 use Rattle.tables.proofs.Tests.{all-at}
 use Rattle.scheme.specs.Scheme.{widest, Name, RowKind, Row as SchemeRow, Node as SchemeNode, noRow, rowAt, nodeList}
@@ -95,7 +96,7 @@ node-sized k =
 
 -- ---- looking up
 
-pub named : (v : Values) (x : Name) → getD (valueList v) (numberOf x) 0 ≡ valueNamed v x
+pub named : (v : Values) (x : Name) → numberAt (valueList v) (numberOf x) ≡ valueNamed v x
 named v Nought = refl
 named v Idle = refl
 named v Start = refl

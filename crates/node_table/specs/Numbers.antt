@@ -6,6 +6,7 @@ use mathlib.Core.Path.{_≡_}
 use Prim.Native.Nat.{ℕ, zero, suc, _+_, _≤_, _<_}
 use lib.Dec.{eqb}
 use lib.ListN.{length, getD}
+use Rattle.lists.specs.Number.{numberAt}
 use Rattle.tables.specs.Kind.{kindCount}
 use Rattle.tables.specs.Table.{Equation}
 use Rattle.scheme.specs.Scheme.{Name, RowKind, Row as SchemeRow, Node as SchemeNode, noRow, Values}
@@ -96,4 +97,4 @@ pub record Sized (d : Node) : Type 0 where
 -- A row of numbers with its names looked up in a list of values.
 abbrev pub lookedUp : List ℕ → Row → Equation
 lookedUp vs r =
-    equation (kindBy (getD vs nameCount 0) (r .0)) (getD vs (r .1) 0) (getD vs (r .2) 0) (getD vs (r .3) 0)
+    equation (kindBy (numberAt vs nameCount) (r .0)) (numberAt vs (r .1)) (numberAt vs (r .2)) (numberAt vs (r .3))

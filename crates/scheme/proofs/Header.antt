@@ -5,8 +5,9 @@ use mathlib.Core.List.{List, _∷_}
 use mathlib.Core.Path.{_≡_, refl, sym, subst}
 use Prim.Native.Nat.{ℕ, zero, suc, _+_, _≤_, _<_}
 use native.Mathlib.Omega.{arith}
-use lib.ListN.{getD, length}
+use lib.ListN.{length}
 use borrow.Author.Tests.{eqb-true, ltb-true, lt-ltb}
+use Rattle.lists.specs.Number.{numberAt}
 use Rattle.formulas.specs.Formula.{Prop, Formula}
 use Rattle.formulas.specs.Formula.Prop.{constant, signal, negP, andP, orP}
 use Rattle.formulas.specs.Formula.Formula.{test, len, count, neg, and, or, then}
@@ -27,7 +28,7 @@ use Rattle.scheme.proofs.Roles.{Fits}
 module _ (named : ℕ → Bool) where
   -- What holds of each equation at its place holds of signal j ⊕ i's at the flow that is looked up for it.
   pub signal-at : (R : ℕ → Equation → Type 0) (m j o i : ℕ) → Each R o (signals named j m) → i < m
-      → named (j ⊕ i) ≡ true → R (getD (places named j o m) i 0) (equation SIGNAL (j ⊕ i) 0 0)
+      → named (j ⊕ i) ≡ true → R (numberAt (places named j o m) i) (equation SIGNAL (j ⊕ i) 0 0)
   signal-at R zero j o i h l e = absurd (omega arith)
   signal-at R (suc m) j o zero h l e =
       subst (λ (x : Bool). Each R o
@@ -45,7 +46,7 @@ module _ (named : ℕ → Bool) where
 
   -- That flow stands before the place after the signals.
   pub signal-before : (m j o i : ℕ) → i < m → named (j ⊕ i) ≡ true
-      → getD (places named j o m) i 0 < placeAfter o (signals named j m)
+      → numberAt (places named j o m) i < placeAfter o (signals named j m)
   signal-before zero j o i l e = absurd (omega arith)
   signal-before (suc m) j o zero l e =
       subst (λ (x : Bool). o < placeAfter o
@@ -54,8 +55,8 @@ module _ (named : ℕ → Bool) where
   signal-before (suc m) j o (suc i) l e =
       others (named j) (λ o. signal-before m (suc j) o i (omega arith) (rw suc-⊕ e))
     where
-      others : (x : Bool) → ((o : ℕ) → getD (places named (suc j) o m) i 0 < placeAfter o (signals named (suc j) m))
-          → getD (places named (suc j) (cond x (suc o) o) m) i 0
+      others : (x : Bool) → ((o : ℕ) → numberAt (places named (suc j) o m) i < placeAfter o (signals named (suc j) m))
+          → numberAt (places named (suc j) (cond x (suc o) o) m) i
           < placeAfter o (cond x (equation SIGNAL j 0 0 ∷ signals named (suc j) m) (signals named (suc j) m))
       others true h = h (suc o)
       others false h = h o

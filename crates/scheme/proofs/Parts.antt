@@ -5,7 +5,8 @@ use mathlib.Core.List.{List, _++_}
 use mathlib.Core.Path.{_≡_, refl, sym, _∙_}
 use Prim.Native.Nat.{ℕ}
 use native.Mathlib.Omega.{arith}
-use lib.ListN.{getD, length}
+use lib.ListN.{length}
+use Rattle.lists.specs.Number.{numberAt}
 use Rattle.formulas.specs.Formula.{Formula}
 use Rattle.limits.specs.Limits.{signalCount}
 use Rattle.tables.specs.Table.{Equation}
@@ -20,7 +21,7 @@ headRows named m = start-es ++ signals named 0 m
 
 -- The flow of signal j.
 abbrev pub flowAmong : (ℕ → Bool) → ℕ → ℕ → ℕ
-flowAmong named m j = getD (places named 0 headerCount m) j 0
+flowAmong named m j = numberAt (places named 0 headerCount m) j
 
 module _ (m : ℕ) (f : Formula) where
   -- Where the formula's equations begin, and they,

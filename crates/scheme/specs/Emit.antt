@@ -5,7 +5,8 @@ use mathlib.Core.Bool.{Bool, false, _||_, cond}
 use mathlib.Core.List.{List, [], _∷_, _++_}
 use Prim.Native.Nat.{ℕ, zero, suc}
 use lib.Dec.{eqb}
-use lib.ListN.{getD, length}
+use lib.ListN.{length}
+use Rattle.lists.specs.Number.{numberAt}
 use Rattle.traces.specs.Trace.{truth}
 use Rattle.traces.specs.Compare.{Op, opNumber}
 use Rattle.formulas.specs.Formula.{Num, Prop, Formula}
@@ -240,7 +241,7 @@ header named = start-es ++ signals named 0 signalCount
 
 -- The flow of signal j.
 abbrev pub flowIn : (ℕ → Bool) → ℕ → ℕ
-flowIn named j = getD (places named 0 headerCount signalCount) j 0
+flowIn named j = numberAt (places named 0 headerCount signalCount) j
 
 -- ---- the observer
 
