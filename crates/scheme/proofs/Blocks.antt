@@ -106,33 +106,41 @@ module _ (t : List ℕ) (N : ℕ) where
     named-right : {o o′ : ℕ} (x y : ℕ → Bool) → Named (λ j. x j || y j) o → o ≤ o′ → Named y o′
     named-right x y h r j e = later (h j (rw e (or-true (x j)))) r
 
-    prop-fine : (p : Prop) (o : ℕ) → Named (namesP p) o → placeAfter o (emitP flowOf p o .es) ≤ N
-        → Kinded o (emitP flowOf p o .es) → AllFine o (emitP flowOf p o .es) (emitP flowOf p o .out)
+    -- The equations of a proposition from place o on fit.
+    abbrev PropFine : Prop → ℕ → Type 0
+    PropFine p o =
+        Named (namesP p) o → placeAfter o (emitP flowOf p o .es) ≤ N → Kinded o (emitP flowOf p o .es)
+        → AllFine o (emitP flowOf p o .es) (emitP flowOf p o .out)
+
+    -- Two propositions that are joined by `&` or `|`.
+    both-fine : (join : ℕ → ℕ → ℕ → List Equation) (d : Node) → Joins join d → (p q : Prop) (o : ℕ) →
+        let x : Block = emitP flowOf p o in
+        let o′ : ℕ = placeAfter o (x .es) in
+        let y : Block = emitP flowOf q o′ in
+        PropFine p o → PropFine q o′ → Named (λ j. namesP p j || namesP q j) o
+        → placeAfter o (join-block join d o x y .es) ≤ N → Kinded o (join-block join d o x y .es)
+        → AllFine o (join-block join d o x y .es) (join-block join d o x y .out)
+    both-fine join d joins p q o p-fine q-fine named room kinds =
+        let x : Block = emitP flowOf p o in
+        let o′ : ℕ = placeAfter o (x .es) in
+        let y : Block = emitP flowOf q o′ in
+        let named-p = named-left (namesP p) (namesP q) named in
+        let named-q = named-right (namesP p) (namesP q) named (after-later (x .es) o) in
+        joins o x y room kinds
+        (p-fine named-p (room-left (x .es) _ o room) (left (x .es) _ o kinds))
+        (q-fine named-q (room-left (y .es) _ o′ (room-right (x .es) _ o room))
+        (left (y .es) _ o′ (right (x .es) _ o kinds)))
+
+    prop-fine : (p : Prop) (o : ℕ) → PropFine p o
     prop-fine (constant c) o named room kinds = constant-fine t N o c room kinds
     prop-fine (signal j) o named room kinds = (tt, named j (eq-eqb j j refl))
     prop-fine (negP p) o named room kinds =
         let x : Block = emitP flowOf p o in
         negated-fine o x room kinds (prop-fine p o named (room-left (x .es) _ o room) (left (x .es) _ o kinds))
     prop-fine (andP p q) o named room kinds =
-        let x : Block = emitP flowOf p o in
-        let o′ : ℕ = placeAfter o (x .es) in
-        let y : Block = emitP flowOf q o′ in
-        let named-p = named-left (namesP p) (namesP q) named in
-        let named-q = named-right (namesP p) (namesP q) named (after-later (x .es) o) in
-        join-and o x y room kinds
-        (prop-fine p o named-p (room-left (x .es) _ o room) (left (x .es) _ o kinds))
-        (prop-fine q o′ named-q (room-left (y .es) _ o′ (room-right (x .es) _ o room))
-        (left (y .es) _ o′ (right (x .es) _ o kinds)))
+        both-fine and-es andNode join-and p q o (prop-fine p o) (prop-fine q _) named room kinds
     prop-fine (orP p q) o named room kinds =
-        let x : Block = emitP flowOf p o in
-        let o′ : ℕ = placeAfter o (x .es) in
-        let y : Block = emitP flowOf q o′ in
-        let named-p = named-left (namesP p) (namesP q) named in
-        let named-q = named-right (namesP p) (namesP q) named (after-later (x .es) o) in
-        join-or o x y room kinds
-        (prop-fine p o named-p (room-left (x .es) _ o room) (left (x .es) _ o kinds))
-        (prop-fine q o′ named-q (room-left (y .es) _ o′ (room-right (x .es) _ o room))
-        (left (y .es) _ o′ (right (x .es) _ o kinds)))
+        both-fine or-es orNode join-or p q o (prop-fine p o) (prop-fine q _) named room kinds
 
     -- ---- what is given of a formula, and of its parts
 

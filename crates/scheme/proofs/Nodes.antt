@@ -62,8 +62,31 @@ module _ (cap : ℕ) (trace : Trace) (flow : ℕ → ℕ → ℕ) where
     named-right : (x y : ℕ → Bool) → Signals (λ j. x j || y j) → Signals y
     named-right x y h j e = h j (rw e (or-true (x j)))
 
-    prop-is : (p : Prop) (o : ℕ) → Signals (namesP p) → Stands o (emitP flowOf p o .es)
-        → (k : ℕ) → on flow (emitP flowOf p o .out) k ≡ holds p (trace k)
+    -- The equations of a proposition, where they stand from place o on, give what it says.
+    abbrev PropIs : Prop → ℕ → Type 0
+    PropIs p o =
+        Signals (namesP p) → Stands o (emitP flowOf p o .es) → (k : ℕ) → on flow (emitP flowOf p o .out) k
+        ≡ holds p (trace k)
+
+    -- Two propositions that are joined by `&` or `|`, and the row that joins them.
+    both-are : (p q : Prop) (o : ℕ) (row : List Equation) →
+        let x : Block = emitP flowOf p o in
+        let o′ : ℕ = placeAfter o (x .es) in
+        let y : Block = emitP flowOf q o′ in
+        PropIs p o → PropIs q o′ → Signals (λ j. namesP p j || namesP q j) → Stands o (x .es ++ (y .es ++ row))
+        → (k : ℕ)
+        → (on flow (x .out) k ≡ holds p (trace k)) × (on flow (y .out) k ≡ holds q (trace k))
+        × Stands (placeAfter o′ (y .es)) row
+    both-are p q o row p-is q-is signals h k =
+        let x : Block = emitP flowOf p o in
+        let y : Block = emitP flowOf q (placeAfter o (x .es)) in
+        let parts = three (x .es) (y .es) row o h in (
+          p-is (named-left (namesP p) (namesP q) signals) (parts .0) k,
+          q-is (named-right (namesP p) (namesP q) signals) (parts .1) k,
+          parts .2,
+        )
+
+    prop-is : (p : Prop) (o : ℕ) → PropIs p o
     unfolding kindOf
     prop-is (constant c) o signals h k = rw (h .0 k) (nonzero-truth c)
     prop-is (signal j) o signals h k = signals j (eq-eqb j j refl) k
@@ -71,19 +94,11 @@ module _ (cap : ℕ) (trace : Trace) (flow : ℕ → ℕ → ℕ) where
         let x : Block = emitP flowOf p o in
         right (x .es) _ o h .0 k ∙ ap not (prop-is p o signals (left (x .es) _ o h) k)
     prop-is (andP p q) o signals h k =
-        let x : Block = emitP flowOf p o in
-        let o′ : ℕ = placeAfter o (x .es) in
-        let parts = three (x .es) (emitP flowOf q o′ .es) _ o h in
-        let first = prop-is p o (named-left (namesP p) (namesP q) signals) (parts .0) k in
-        let second = prop-is q o′ (named-right (namesP p) (namesP q) signals) (parts .1) k in
-        parts .2 .0 k ∙ ap₂ _&&_ first second
+        let (first, second, row) = both-are p q o _ (prop-is p o) (prop-is q _) signals h k in
+        row .0 k ∙ ap₂ _&&_ first second
     prop-is (orP p q) o signals h k =
-        let x : Block = emitP flowOf p o in
-        let o′ : ℕ = placeAfter o (x .es) in
-        let parts = three (x .es) (emitP flowOf q o′ .es) _ o h in
-        let first = prop-is p o (named-left (namesP p) (namesP q) signals) (parts .0) k in
-        let second = prop-is q o′ (named-right (namesP p) (namesP q) signals) (parts .1) k in
-        parts .2 .0 k ∙ ap₂ _||_ first second
+        let (first, second, row) = both-are p q o _ (prop-is p o) (prop-is q _) signals h k in
+        row .0 k ∙ ap₂ _||_ first second
 
     -- ---- what is given of a formula, and of its parts
 
