@@ -16,13 +16,13 @@ use Rattle.tables.specs.Table.{equation}
 use Rattle.scheme.specs.Emit.{placeAfter, signals, places, startFlow, idleFlow, headerCount, start-es}
 use Rattle.emitter.specs.Machine.{withEquations, Header, headerOf, withSignal, settle}
 use Rattle.emitter.specs.Contract.{Headed}
-use Rattle.emitter.proofs.Written.{written-append}
+use Rattle.emitter.proofs.Equations.{equations-append}
 
 -- The start flow and its negation, one after the other.
 pub starts-are : (t : List ℕ) {t₁ t₂ : List ℕ} → t₁ ≡ withEquations t startFlow (equation START 0 0 0 ∷ [])
     → t₂ ≡ withEquations t₁ idleFlow (equation NOT startFlow 0 0 ∷ []) → t₂ ≡ withEquations t 0 start-es
 starts-are t e₁ e₂ =
-    rw (e₂, e₁, written-append (equation START 0 0 0 ∷ []) (equation NOT startFlow 0 0 ∷ []) t startFlow)
+    rw (e₂, e₁, equations-append (equation START 0 0 0 ∷ []) (equation NOT startFlow 0 0 ∷ []) t startFlow)
 
 -- ---- one signal
 
@@ -88,7 +88,7 @@ settling-all {named = named} {j = j} e-t e h =
       few = omega arith;
     }
 
--- ---- the marks of ν give way to its places, and its signals' equations are written
+-- ---- the marks of ν give way to its places, and its signals' equations are in the table
 
 -- Signal j, whose mark is x.
 signal-at : (done : List ℕ) (x : ℕ) (rest t : List ℕ) (o j : ℕ) → length done ≡ j →
@@ -110,7 +110,7 @@ signals-one ν done t o j m true e =
     rw (
       e,
       append-assoc done (o ∷ []) (places ν (suc j) (suc o) m),
-      written-append (equation SIGNAL j 0 0 ∷ []) (signals ν (suc j) m) t o,
+      equations-append (equation SIGNAL j 0 0 ∷ []) (signals ν (suc j) m) t o,
     )
 signals-one ν done t o j m false e = rw (e, append-assoc done (o ∷ []) (places ν (suc j) o m))
 

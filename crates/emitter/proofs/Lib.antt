@@ -1,5 +1,5 @@
 -- Why the pass gives the emitter's equations: laws that the functions' proofs cite, and `Size` for callers.
-pub mod Written
+pub mod Equations
 pub mod Stack
 pub mod Records
 pub mod Header

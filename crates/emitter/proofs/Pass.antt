@@ -23,22 +23,22 @@ use Rattle.scheme.specs.Emit.{begin-es, point-es, held-es, kept-es, sum-es, age
 use Rattle.emitter.specs.Machine.{withEquations, State, state, before, recordOf}
 use Rattle.emitter.specs.Machine.{valuesAt, applied, step, run}
 use Rattle.scheme.proofs.Places.{after-append}
-use Rattle.emitter.proofs.Written.{written-none, written-append}
+use Rattle.emitter.proofs.Equations.{equations-none, equations-append}
 
 -- ---- blocks of equations in a state
 
--- Equations written at the next place, with another start and another stack.
+-- Equations at the next place, with another start and another stack.
 abbrev all : State → List Equation → ℕ → List ℕ → State
 all s es n st = state (withEquations (s .table) (s .next) es) (placeAfter (s .next) es) n st
 
--- A block's equations written at the next place, its result on the stack.
+-- A block's equations at the next place, its result on the stack.
 abbrev pub done : Block → State → State
 done x s = all s (x .es) (s .idle) (x .out ∷ s .stack)
 
 -- Equations after equations.
 joined : (s : State) (xs ys : List Equation) (m n : ℕ) (u st : List ℕ) →
     all (all s xs m u) ys n st ≡ all s (xs ++ ys) n st
-joined s xs ys m n u st = rw (written-append xs ys (s .table) (s .next), after-append xs ys (s .next))
+joined s xs ys m n u st = rw (equations-append xs ys (s .table) (s .next), after-append xs ys (s .next))
 
 module _ (places : List ℕ) where
   abbrev flowOf : ℕ → ℕ
@@ -137,7 +137,7 @@ module _ (places : List ℕ) where
       of-test begin p r s ∙ atom-done (begin-es (before (s .idle)) (s .idle)) beginNode (blockP p s) r s
   run-formula (test end p) r s =
       let x : Block = blockP p s in
-      of-test end p r s ∙ ap (run places r) (rw (written-none (done x s .table) (done x s .next)))
+      of-test end p r s ∙ ap (run places r) (rw (equations-none (done x s .table) (done x s .next)))
   run-formula (test point p) r s = of-test point p r s ∙ atom-done (point-es (before (s .idle))) pointNode
       (blockP p s) r s
   run-formula (test held p) r s =

@@ -100,7 +100,7 @@ entering-all {arena} {places} {t₀} {o} {t} {stack} {m} {i} {t′} {stack′} {
     sym (run-short places (drop i arena) s (short arena i h)) ∙ e .left in
     let all : stateOf t′ stack′ m′ ≡ ran arena places t₀ o =
     rw is-whole at (d .stands) ∙ ap (step places whole) done in
-    record { written = ap (λ (s : State). s .table) all; many = ap (λ (s : State). s .next) all; few = omega arith }
+    record { table = ap (λ (s : State). s .table) all; many = ap (λ (s : State). s .next) all; few = omega arith }
 
 -- ---- marking
 

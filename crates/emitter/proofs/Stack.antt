@@ -14,9 +14,9 @@ use Rattle.scheme.proofs.ByKind.{rows-few}
 use Rattle.node_table.specs.Numbers.{numberOf, valueList, asNode, lookedUp}
 use Rattle.node_table.specs.declared.Node.{Node as CodeNode}
 use Rattle.node_table.proofs.Found.{named}
-use Rattle.emitter.proofs.Written.{own-rows}
+use Rattle.emitter.proofs.Equations.{own-rows}
 use Rattle.emitter.specs.Machine.{withEquations, before, stacked, valuesAt, applied, step}
-use Rattle.emitter.specs.Contract.{Pushed, Added, AddedBy, Entered}
+use Rattle.emitter.specs.Contract.{Restacked, Added, AddedBy, Entered}
 use Rattle.emitter.specs.declared.Place.{Place}
 use Rattle.emitter.specs.declared.Record.{Record}
 
@@ -68,9 +68,9 @@ stacked-next l h t v e =
     rw
     (add-one top, getD-set-same l top v 0 low, stacked-above l top top v (omega arith), stacked-drop l h t)
 
-pub pushed : {stack : List ℕ} {h t v : ℕ} {stack′ : List ℕ} {low : ℕ} → h < length stack → low ≡ h - t
-    → stack′ ≡ set stack low v → Pushed stack h t v stack′ (low + 1)
-pushed {stack} {h} {t} {v} {stack′} {low} e l s =
+pub restacked : {stack : List ℕ} {h t v : ℕ} {stack′ : List ℕ} {low : ℕ} → h < length stack → low ≡ h - t
+    → stack′ ≡ set stack low v → Restacked stack h t v stack′ (low + 1)
+restacked {stack} {h} {t} {v} {stack′} {low} e l s =
     record { holds = rw (s, l) (stacked-next stack h t v e); low = omega arith }
 
 -- ---- one node: what the calls of `add_node` gave

@@ -19,7 +19,7 @@ use Rattle.emitter.specs.Machine.{withEquations, State, state, recordOf,
 use Rattle.emitter.specs.Machine.{applied, step, run, ran, marks, Header, headerOf, settle, headed}
 use Rattle.emitter.specs.Contract.{Emitted, Ran, Headed}
 use Rattle.scheme.proofs.Places.{after-length, after-append}
-use Rattle.emitter.proofs.Written.{written-append}
+use Rattle.emitter.proofs.Equations.{equations-append}
 use Rattle.emitter.proofs.Header.{settle-is}
 use Rattle.emitter.proofs.Named.{named-long, named-at}
 use Rattle.emitter.proofs.Pass.{done, run-formula}
@@ -39,7 +39,7 @@ header-is f m t =
     ≡ headerOf (withEquations (withEquations t 0 start-es) headerCount (signals (names f) 0 (length named)))
     (places (names f) 0 headerCount (length named)) (placeAfter headerCount (signals (names f) 0 (length named))) =
     settle-is (names f) named [] (withEquations t 0 start-es) headerCount 0 refl agree in
-    rw (written-append start-es (signals (names f) 0 m) t 0) (rw long at all)
+    rw (equations-append start-es (signals (names f) 0 m) t 0) (rw long at all)
 
 -- ---- the records, and the whole rule's node
 
@@ -87,8 +87,8 @@ module _ (f : Formula) (m : ℕ) (t : List ℕ) where
   ends-table =
       ap (λ (s : State). s .table) (ran-is f flows (withEquations t 0 head) (placeAfter 0 head))
       ∙ ap (λ (s : State). s .table) (whole-is middle flows (withEquations t 0 head) (placeAfter 0 head))
-      ∙ sym (written-append (middle .es) last (withEquations t 0 head) (placeAfter 0 head))
-      ∙ sym (written-append head (middle .es ++ last) t 0)
+      ∙ sym (equations-append (middle .es) last (withEquations t 0 head) (placeAfter 0 head))
+      ∙ sym (equations-append head (middle .es ++ last) t 0)
 
   pub ends-next : ends .next ≡ length whole
   unfolding ends
@@ -107,7 +107,7 @@ unfolding withEquations ends
 emitted {arena} {t} {named} {t₁} {ps} {o} {t₂} {r} short e-named h g =
     record {
       many = λ f e. g .many ∙ ap (λ (s : State). s .next) (same f e) ∙ ends-next f signalCount t;
-      written = λ f e. g .written ∙ ap (λ (s : State). s .table) (same f e) ∙ ends-table f signalCount t;
+      written = λ f e. g .table ∙ ap (λ (s : State). s .table) (same f e) ∙ ends-table f signalCount t;
       few = omega arith;
     }
   where

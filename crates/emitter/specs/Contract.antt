@@ -28,7 +28,7 @@ pub record Emitted (arena t t′ : List ℕ) (r : ℕ) : Type 0 where
 -- ---- inside the pass
 
 -- There is room for one more node.
-pub record Room (m : Place) (stack : List ℕ) : Type 0 where
+pub record PassRoom (m : Place) (stack : List ℕ) : Type 0 where
   pub near : m .next ≤ equationLimit
   pub low : m .height < length stack
 
@@ -37,7 +37,7 @@ abbrev pub stateOf : List ℕ → List ℕ → Place → State
 stateOf t stack m = state t (m .next) (m .idle) (stacked stack (m .height))
 
 -- Operands came off the stack, and v went on.
-pub record Pushed (stack : List ℕ) (height takes v : ℕ) (stack′ : List ℕ) (height′ : ℕ) : Type 0 where
+pub record Restacked (stack : List ℕ) (height takes v : ℕ) (stack′ : List ℕ) (height′ : ℕ) : Type 0 where
   pub holds : stacked stack′ height′ ≡ v ∷ drop takes (stacked stack height)
   pub low : height′ ≤ height + 1
 
@@ -52,7 +52,7 @@ pub record AddedBy (d : CodeNode) (vs t stack : List ℕ) (m : Place) (t′ stac
   pub rows : t′ ≡ withEquations t (m .next) (take (d .count) (map (lookedUp vs) (d .rows)))
   pub next : m′ .next ≡ m .next + d .count
   pub idle : m′ .idle ≡ numberAt vs (d .idle)
-  pub result : Pushed stack (m .height) (d .takes) (numberAt vs (d .result)) stack′ (m′ .height)
+  pub result : Restacked stack (m .height) (d .takes) (numberAt vs (d .result)) stack′ (m′ .height)
 
 -- One record was entered.
 pub record Entered (places : List ℕ) (x : Record) (t stack : List ℕ) (m : Place) (t′ stack′ : List ℕ) (m′ : Place)
@@ -63,11 +63,11 @@ pub record Entered (places : List ℕ) (x : Record) (t stack : List ℕ) (m : Pl
 
 -- All records were entered, and the whole rule's node after them.
 pub record Ran (arena places t : List ℕ) (o : ℕ) (t′ : List ℕ) (r : ℕ) : Type 0 where
-  pub written : t′ ≡ ran arena places t o .table
+  pub table : t′ ≡ ran arena places t o .table
   pub many : r ≡ ran arena places t o .next
   pub few : 4 * r ≤ 4 * o + widest * (length arena + 4)
 
--- The header was written, and the marks gave way to the signals' places.
+-- The header's equations are in the table, and the marks gave way to the signals' places.
 pub record Headed (t named t′ named′ : List ℕ) (r : ℕ) : Type 0 where
   pub stands : headerOf t′ named′ r ≡ headed t named
   pub few : r ≤ headerCount + signalCount

@@ -25,7 +25,7 @@ stackSize = suc recordLimit
 
 -- ---- equations in a table
 
--- Equations written from place o on; a number past the table's end is dropped.
+-- The table with equations from place o on; a number past the table's end is dropped.
 unfoldable pub withEquations : List ℕ → ℕ → List Equation → List ℕ
 withEquations t o es = sets t (4 * o) (numbersOf es)
 

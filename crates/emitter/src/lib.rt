@@ -17,7 +17,7 @@ ghost use Rattle.node_table.specs.Numbers.{valueList, asNode, Known, Sized, loo
 ghost use Rattle.emitter.specs.Machine.{withEquations, before, recordAt, recordFrom, valuesAt, stacked, marked};
 ghost use Rattle.emitter.specs.Machine.{marks, headerOf};
 ghost use Rattle.emitter.specs.Machine.{withSignal};
-ghost use Rattle.emitter.specs.Contract.{Emitted, Room, Pushed, AddedBy, Entered, Ran, Headed};
+ghost use Rattle.emitter.specs.Contract.{Emitted, PassRoom, Restacked, AddedBy, Entered, Ran, Headed};
 
 // The start flow and its negation, and how many these are: the header's equations before the named signals'.
 const START_FLOW: u32 = 0;
@@ -122,7 +122,7 @@ fn lowered(height: usize, takes: u32) -> usize
 // `takes` operands come off, v goes on: the new height.
 fn push(stack: &mut [u32], height: usize, takes: u32, v: u32) -> usize
     requires { ⌜ height < length (now stack) ⌝ }
-    ensures { λ r. ⌜ Pushed (now (stack .entry)) height takes v (now (stack .exit)) r ⌝ }
+    ensures { λ r. ⌜ Restacked (now (stack .entry)) height takes v (now (stack .exit)) r ⌝ }
 {
     let low = lowered(height, takes);
     store(stack, low, v);
@@ -192,7 +192,7 @@ fn values_at(stack: &[u32], places: &[u32], m: Place, x: Record) -> [u32; VALUES
 // A node: its rows go to the table, its operands come off the stack, its result goes on, and its start is the one from
 // here on.
 fn add_node(table: &mut [u32], stack: &mut [u32], m: Place, vs: &[u32; VALUES], d: Node) -> Place
-    requires { ⌜ Room m (now stack) × Sized d ⌝ }
+    requires { ⌜ PassRoom m (now stack) × Sized d ⌝ }
     ensures { λ r. ⌜ AddedBy d (now (vs .entry)) (now (table .entry)) (now (stack .entry)) m (now (table .exit))
         (now (stack .exit)) r ⌝ }
 {
@@ -216,7 +216,7 @@ fn enter(
     x: Record,
     d: Node,
 ) -> Place
-    requires { ⌜ Room m (now stack) × (d ≡ asNode (nodeOf (x .kind))) ⌝ }
+    requires { ⌜ PassRoom m (now stack) × (d ≡ asNode (nodeOf (x .kind))) ⌝ }
     ensures { λ r. ⌜ Entered (now (places .entry)) x (now (table .entry)) (now (stack .entry)) m
         (now (table .exit)) (now (stack .exit)) r ⌝ }
 {

@@ -1,4 +1,4 @@
--- `emitter::fill` meets its contract. The invariant: the first j rows are written, and the table is as long as it was.
+-- `emitter::fill` meets its contract. The invariant: the first j rows are in the table, which is as long as it was.
 -- Assumes nothing.
 use mathlib.Core.List.{map}
 use mathlib.Core.Path.{_≡_, refl, sym, ap, _∙_}
@@ -8,7 +8,7 @@ use borrow.Author.Needs.{needs}
 use lib.ListN.{length, take}
 use Rattle.node_table.specs.Numbers.{lookedUp}
 use Rattle.emitter.specs.Machine.{withEquations}
-use Rattle.emitter.proofs.Written.{written-none, row-written}
+use Rattle.emitter.proofs.Equations.{equations-none, rows-more}
 use Rattle.emitter.proofs.fill.Statement.{statement}
 use Rattle.emitter.proofs.fill.Tie as tie
 
@@ -46,7 +46,7 @@ row-known c κs =
 loop-holds : tie.Need-loop-holds Inv-loop μ-loop
 loop-holds c =
     let args = c .before .before .args in
-    (omega arith, refl, sym (written-none (args .t .now) (args .o)))
+    (omega arith, refl, sym (equations-none (args .t .now) (args .o)))
 
 loop-again : tie.Need-loop-again Inv-loop μ-loop
 loop-again c =
@@ -57,7 +57,7 @@ loop-again c =
     let loop = here .before .loop in (
       omega (arith, test .taken),
       put .kept .0 ∙ loop .inv .1,
-      row-written (args .t .now) (args .vs .now) (args .o) (loop .j) (args .d .rows) _
+      rows-more (args .t .now) (args .vs .now) (args .o) (loop .j) (args .d .rows) _
           (omega (arith, test .taken, start here .pre .1 .few, start here .pre .1 .room)) (loop .inv .2) (put .ensures),
     )
 

@@ -1,6 +1,6 @@
 -- `emitter::push` meets its contract: one number is stored at the lowered height. Assumes nothing.
 use borrow.Author.Needs.{needs}
-use Rattle.emitter.proofs.Stack.{pushed}
+use Rattle.emitter.proofs.Stack.{restacked}
 use Rattle.emitter.proofs.push.Statement.{statement}
 use Rattle.emitter.proofs.push.Tie as tie
 
@@ -11,7 +11,7 @@ low c = c .before .before .before .before
 returns : tie.Need-returns
 returns c =
     let height = low c in
-    pushed (height .before .before .pre) (height .lowered .ensures) (c .before .before .store .ensures)
+    restacked (height .before .before .pre) (height .lowered .ensures) (c .before .before .store .ensures)
 
 pub push-spec : {M : Type 1} → statement M
 push-spec =

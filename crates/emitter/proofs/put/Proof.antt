@@ -3,7 +3,7 @@
 use native.Mathlib.Omega.{arith}
 use borrow.Author.Needs.{needs}
 use lib.ListN.{length-set}
-use Rattle.emitter.proofs.Written.{written-one}
+use Rattle.emitter.proofs.Equations.{equation-one}
 use Rattle.emitter.proofs.put.Statement.{statement}
 use Rattle.emitter.proofs.put.Tie as tie
 
@@ -22,13 +22,13 @@ start c = c .before .before .before .before
 
 -- Four numbers where there is room.
 in-table : tie.Need-returns
-in-table c = written-one _ _ _ _ _ _
+in-table c = equation-one _ _ _ _ _ _
 
 -- At the end of the table each number by itself.
 at-end : tie.Need-returns-2
 at-end c =
     let args = start (first (second (third (c .before .before)))) .args in
-    cc (written-one (args .t .now) (args .o) (args .kind) (args .a) (args .b) (args .c))
+    cc (equation-one (args .t .now) (args .o) (args .kind) (args .a) (args .b) (args .c))
 
 pub put-spec : {M : Type 1} → statement M
 put-spec =

@@ -2,7 +2,7 @@
 use mathlib.Core.Path.{refl}
 use native.Mathlib.Omega.{arith}
 use borrow.Author.Needs.{needs}
-use Rattle.emitter.proofs.Written.{written-row}
+use Rattle.emitter.proofs.Equations.{equation-looked-up}
 use Rattle.emitter.proofs.put_row.Statement.{statement}
 use Rattle.emitter.proofs.put_row.Tie as tie
 
@@ -23,8 +23,8 @@ returns : tie.Need-returns
 returns c =
     let at = first (second (third c)) in
     let args = start at .args in
-    written-row (args .t .now) (args .vs .now) (args .o) (args .r) refl (at .before .kind-by .ensures) refl refl refl
-    (c .before .before .put .ensures)
+    equation-looked-up (args .t .now) (args .vs .now) (args .o) (args .r) refl (at .before .kind-by .ensures)
+    refl refl refl (c .before .before .put .ensures)
 
 pub put-row-spec : {M : Type 1} → statement M
 put-row-spec =

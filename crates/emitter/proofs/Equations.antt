@@ -1,4 +1,4 @@
--- Equations one after the other in a table: where they end, and what writing them leaves. Assumes nothing.
+-- Equations one after the other in a table: where they end, and what they leave of it. Assumes nothing.
 use mathlib.Core.List.{List, [], _∷_, _++_, map}
 use mathlib.Core.Path.{_≡_, refl, sym, ap, ap₂, _∙_}
 use Prim.Native.Nat.{ℕ, zero, suc, _+_, _*_, _≤_, _<_}
@@ -25,17 +25,17 @@ numbers-append : (xs ys : List Equation) → numbersOf (xs ++ ys) ≡ numbersOf 
 numbers-append [] ys = refl
 numbers-append (e ∷ xs) ys = ap (λ (l : List ℕ). e .kind ∷ e .a ∷ e .b ∷ e .c ∷ l) (numbers-append xs ys)
 
--- ---- writing
+-- ---- a table with equations
 
-pub written-none : (t : List ℕ) (o : ℕ) → withEquations t o [] ≡ t
+pub equations-none : (t : List ℕ) (o : ℕ) → withEquations t o [] ≡ t
 unfolding withEquations
-written-none t o = refl
+equations-none t o = refl
 
--- Equations written after others are all of them written at once.
-pub written-append : (xs ys : List Equation) (t : List ℕ) (o : ℕ) →
+-- Equations after others are all of them at once.
+pub equations-append : (xs ys : List Equation) (t : List ℕ) (o : ℕ) →
     withEquations t o (xs ++ ys) ≡ withEquations (withEquations t o xs) (placeAfter o xs) ys
 unfolding withEquations
-written-append xs ys t o =
+equations-append xs ys t o =
     let end : 4 * o + length (numbersOf xs) ≡ 4 * placeAfter o xs = omega
     (arith, length-numbers xs, after-length xs o) in
     ap (sets t (4 * o)) (numbers-append xs ys)
@@ -43,27 +43,28 @@ written-append xs ys t o =
     ∙ ap (λ (n : ℕ). sets (sets t (4 * o) (numbersOf xs)) n (numbersOf ys)) end
 
 -- The four stores of one equation.
-pub written-one : (t : List ℕ) (o kind a b c : ℕ) →
+pub equation-one : (t : List ℕ) (o kind a b c : ℕ) →
     set (set (set (set t (4 * o) kind) (4 * o + 1) a) (4 * o + 2) b) (4 * o + 3) c
     ≡ withEquations t o (equation kind a b c ∷ [])
 unfolding withEquations
-written-one t o kind a b c = rw (add-one (4 * o), add-two (4 * o), add-three (4 * o))
+equation-one t o kind a b c = rw (add-one (4 * o), add-two (4 * o), add-three (4 * o))
 
--- A row of numbers with its names looked up, written at o.
-pub written-row : (t vs : List ℕ) (o : ℕ) (r : Row) {comparison kind a b c : ℕ} {t′ : List ℕ}
-    → comparison ≡ numberAt vs nameCount → kind ≡ kindBy comparison (r .0) → a ≡ numberAt vs (r .1) → b ≡ numberAt vs (r .2)
-    → c ≡ numberAt vs (r .3) → t′ ≡ withEquations t o (equation kind a b c ∷ [])
+-- The equation of a row of numbers with its names looked up, at place o.
+pub equation-looked-up : (t vs : List ℕ) (o : ℕ) (r : Row) {comparison kind a b c : ℕ} {t′ : List ℕ}
+    → comparison ≡ numberAt vs nameCount → kind ≡ kindBy comparison (r .0) → a ≡ numberAt vs (r .1)
+    → b ≡ numberAt vs (r .2) → c ≡ numberAt vs (r .3) → t′ ≡ withEquations t o (equation kind a b c ∷ [])
     → t′ ≡ withEquations t o (lookedUp vs r ∷ [])
-written-row t vs o r e e-kind e-a e-b e-c e-t = rw (e-kind, e, e-a, e-b, e-c) at e-t
+equation-looked-up t vs o r e e-kind e-a e-b e-c e-t = rw (e-kind, e, e-a, e-b, e-c) at e-t
 
 -- One equation more.
-pub written-more : (t : List ℕ) (o : ℕ) (es : List Equation) (e : Equation) {t₁ t₂ : List ℕ} → t₁ ≡ withEquations t o es
-    → t₂ ≡ withEquations t₁ (o + length es) (e ∷ []) → t₂ ≡ withEquations t o (es ++ (e ∷ []))
-written-more t o es e e₁ e₂ =
+pub equations-more : (t : List ℕ) (o : ℕ) (es : List Equation) (e : Equation) {t₁ t₂ : List ℕ}
+    → t₁ ≡ withEquations t o es → t₂ ≡ withEquations t₁ (o + length es) (e ∷ [])
+    → t₂ ≡ withEquations t o (es ++ (e ∷ []))
+equations-more t o es e e₁ e₂ =
     e₂
     ∙ ap (λ (l : List ℕ). withEquations l (o + length es) (e ∷ [])) e₁
     ∙ ap (λ (n : ℕ). withEquations (withEquations t o es) n (e ∷ [])) (sym (after-length es o))
-    ∙ sym (written-append es (e ∷ []) t o)
+    ∙ sym (equations-append es (e ∷ []) t o)
 
 -- ---- the rows of a node
 
@@ -81,15 +82,15 @@ rows-length vs zero rs h = refl
 rows-length vs (suc i) [] h = absurd (omega arith)
 rows-length vs (suc i) (r ∷ rs) h = ap suc (rows-length vs i rs (omega arith))
 
--- After i rows one more is written.
-pub row-written : (t vs : List ℕ) (o i : ℕ) (rs : List Row) (r₀ : Row) {t₁ t₂ : List ℕ} → i < length rs
+-- After i rows one more.
+pub rows-more : (t vs : List ℕ) (o i : ℕ) (rs : List Row) (r₀ : Row) {t₁ t₂ : List ℕ} → i < length rs
     → t₁ ≡ withEquations t o (take i (map (lookedUp vs) rs))
     → t₂ ≡ withEquations t₁ (o + i) (lookedUp vs (getD rs i r₀) ∷ [])
     → t₂ ≡ withEquations t o (take (i + 1) (map (lookedUp vs) rs))
-row-written t vs o i rs r₀ {t₁} h e₁ e₂ =
+rows-more t vs o i rs r₀ {t₁} h e₁ e₂ =
     let rows : List Equation = take i (map (lookedUp vs) rs) in
     let at : o + i ≡ o + length rows = ap (λ (n : ℕ). o + n) (sym (rows-length vs i rs (omega arith))) in
-    written-more t o rows (lookedUp vs (getD rs i r₀)) e₁
+    equations-more t o rows (lookedUp vs (getD rs i r₀)) e₁
     (e₂ ∙ ap (λ (n : ℕ). withEquations t₁ n (lookedUp vs (getD rs i r₀) ∷ [])) at)
     ∙ ap (withEquations t o) (sym (rows-next vs i rs r₀ h))
     ∙ ap (λ (n : ℕ). withEquations t o (take n (map (lookedUp vs) rs))) (sym (add-one i))
