@@ -25,7 +25,7 @@ use Rattle.tables.specs.declared.Checked.the-variants.{Passed}
 use Rattle.flows.specs.declared.Fresh.the-variants.{Made}
 use Rattle.tables.proofs.Checks.{passed-both}
 use Rattle.flows.proofs.Runs.{lustre, calls}
-use Rattle.scheme.specs.Emit.{names, numbersOf}
+use Rattle.scheme.specs.Emit.{namedBy, numbersOf}
 use Rattle.agreement.specs.Agreement.{SameParameters, traceOfTicks}
 use Rattle.scheme.proofs.Parts.{observerOver}
 use Rattle.scheme.proofs.Formed.{formed-over, last-over, last-boolean}
@@ -43,7 +43,7 @@ made t n old passed room =
 
 module _ (cap : ℕ) (low : cap ≤ literalCount) (m : ℕ) (few : m ≤ signalCount) (f : Formula)
     (led : leads (raw f) ≡ true) (bound : bounded cap (raw f) ≡ true)
-    (below : (j : ℕ) → names f j ≡ true → j < m) (junk : List ℕ)
+    (below : (j : ℕ) → namedBy f j ≡ true → j < m) (junk : List ℕ)
     (short : length (observerOver m f) ≤ equationLimit) where
   abbrev t : List ℕ
   t = numbersOf (observerOver m f) ++ junk

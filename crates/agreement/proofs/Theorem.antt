@@ -15,7 +15,7 @@ use Rattle.limits.specs.Limits.{arenaLimit, equationLimit, literalCount, signal
 use Rattle.tables.specs.Table.{checked}
 use Rattle.flows.specs.Step.{AfterFresh}
 use Rattle.tables.specs.declared.Checked.the-variants.{Passed}
-use Rattle.scheme.specs.Emit.{names, observer, numbersOf}
+use Rattle.scheme.specs.Emit.{namedBy, observer, numbersOf}
 use Rattle.agreement.specs.Agreement.{Observes}
 use Rattle.scheme.proofs.Header.{names-below}
 use Rattle.scheme.proofs.Sizes.{observer-size}
@@ -47,7 +47,7 @@ observes cap low f led bound size junk =
     few = omega arith
 
     -- The formula names signals 0 to 63 only.
-    below : (j : ℕ) → names f j ≡ true → j < signalCount
+    below : (j : ℕ) → namedBy f j ≡ true → j < signalCount
     below j e = names-below cap j f bound e
 
     short : n ≤ equationLimit

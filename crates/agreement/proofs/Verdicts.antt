@@ -15,7 +15,7 @@ use Rattle.tables.specs.Table.{kindOf}
 use Rattle.limits.specs.Limits.{parameterCount}
 use Rattle.flows.specs.Lustre.{Lustre}
 use Rattle.scheme.specs.Scheme.{_⊕_}
-use Rattle.scheme.specs.Emit.{names, startFlow, idleFlow, headerCount, numbersOf}
+use Rattle.scheme.specs.Emit.{namedBy, startFlow, idleFlow, headerCount, numbersOf}
 use Rattle.scheme.proofs.Offsets.{zero-⊕}
 use Rattle.scheme.proofs.Places.{each-left, each-right}
 use Rattle.scheme.proofs.Parts.{headRows, flowAmong, bodyPlace, bodyBlock, wholePlace, wholeRows}
@@ -29,23 +29,23 @@ module _ (cap : ℕ) (trace : Trace) (flow : ℕ → ℕ → ℕ) where
   module _ (same : (i j : ℕ) → (trace i) .parameters ≡ (trace j) .parameters)
       (small : (k j : ℕ) → j < parameterCount → parameterAt (trace k) j < cap)
       (m : ℕ) (f : Formula) (led : leads (raw f) ≡ true) (bound : bounded cap (raw f) ≡ true)
-      (below : (j : ℕ) → names f j ≡ true → j < m) (junk : List ℕ)
+      (below : (j : ℕ) → namedBy f j ≡ true → j < m) (junk : List ℕ)
       (lustre : Lustre cap (numbersOf (observerOver m f) ++ junk) (length (observerOver m f)) trace flow) where
     stand : Stand cap trace flow 0 (observerOver m f)
     stand = all-stand cap trace flow (observerOver m f) junk lustre
 
-    head : Stand cap trace flow 0 (headRows (names f) m)
-    head = each-left (LocalAt cap trace flow) (headRows (names f) m) _ 0 stand
+    head : Stand cap trace flow 0 (headRows (namedBy f) m)
+    head = each-left (LocalAt cap trace flow) (headRows (namedBy f) m) _ 0 stand
 
     rest : Stand cap trace flow (bodyPlace m f) (bodyBlock m f .es ++ wholeRows m f)
-    rest = each-right (LocalAt cap trace flow) (headRows (names f) m) _ 0 stand
+    rest = each-right (LocalAt cap trace flow) (headRows (namedBy f) m) _ 0 stand
 
     -- The flow of each named signal is the signal.
-    signals : (j : ℕ) → names f j ≡ true → (k : ℕ) → on flow (flowAmong (names f) m j) k ≡ signalAt (trace k) j
+    signals : (j : ℕ) → namedBy f j ≡ true → (k : ℕ) → on flow (flowAmong (namedBy f) m j) k ≡ signalAt (trace k) j
     unfolding kindOf
     signals j e k =
-        let e′ : names f (0 ⊕ j) ≡ true = rw zero-⊕ e in
-        rw zero-⊕ at (signal-at (names f) (LocalAt cap trace flow) m 0 headerCount j (head .1 .1) (below j e) e′ k)
+        let e′ : namedBy f (0 ⊕ j) ≡ true = rw zero-⊕ e in
+        rw zero-⊕ at (signal-at (namedBy f) (LocalAt cap trace flow) m 0 headerCount j (head .1 .1) (below j e) e′ k)
 
     begins : (k : ℕ) → on flow startFlow k ≡ starts (trace k)
     unfolding kindOf
@@ -57,7 +57,7 @@ module _ (cap : ℕ) (trace : Trace) (flow : ℕ → ℕ → ℕ) where
 
     body-agrees : Agrees cap trace flow startFlow (bodyBlock m f .out) f
     body-agrees =
-        agrees cap trace flow same small (flowAmong (names f) m) f startFlow idleFlow (bodyPlace m f) (record {
+        agrees cap trace flow same small (flowAmong (namedBy f) m) f startFlow idleFlow (bodyPlace m f) (record {
           led = led;
           bound = bound;
           signals = signals;

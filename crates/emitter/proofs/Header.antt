@@ -13,7 +13,7 @@ use Rattle.traces.specs.Trace.{nonzero}
 use Rattle.tables.specs.Kind.{SIGNAL, START, NOT}
 use Rattle.limits.specs.Limits.{signalCount}
 use Rattle.tables.specs.Table.{equation}
-use Rattle.scheme.specs.Emit.{placeAfter, signals, places, startFlow, idleFlow, headerCount, start-es}
+use Rattle.scheme.specs.Emit.{placeAfter, signals-es, places, startFlow, idleFlow, headerCount, start-es}
 use Rattle.emitter.specs.Machine.{withEquations, Header, headerOf, withSignal, settle}
 use Rattle.emitter.specs.Contract.{Headed}
 use Rattle.emitter.proofs.Equations.{equations-append}
@@ -102,23 +102,24 @@ signal-at done x rest t o j e =
 -- Its equation before those of the m signals after it.
 signals-one : (ν : ℕ → Bool) (done t : List ℕ) (o j m : ℕ) (b : Bool) → ν j ≡ b →
     headerOf (withEquations (cond b (withEquations t o (equation SIGNAL j 0 0 ∷ [])) t) (cond b (suc o) o)
-    (signals ν (suc j) m))
-    ((done ++ (o ∷ [])) ++ places ν (suc j) (cond b (suc o) o) m) (placeAfter (cond b (suc o) o) (signals ν (suc j) m))
-    ≡ headerOf (withEquations t o (signals ν j (suc m))) (done ++ places ν j o (suc m))
-    (placeAfter o (signals ν j (suc m)))
+    (signals-es ν (suc j) m))
+    ((done ++ (o ∷ [])) ++ places ν (suc j) (cond b (suc o) o) m)
+    (placeAfter (cond b (suc o) o) (signals-es ν (suc j) m))
+    ≡ headerOf (withEquations t o (signals-es ν j (suc m))) (done ++ places ν j o (suc m))
+    (placeAfter o (signals-es ν j (suc m)))
 signals-one ν done t o j m true e =
     rw (
       e,
       append-assoc done (o ∷ []) (places ν (suc j) (suc o) m),
-      equations-append (equation SIGNAL j 0 0 ∷ []) (signals ν (suc j) m) t o,
+      equations-append (equation SIGNAL j 0 0 ∷ []) (signals-es ν (suc j) m) t o,
     )
 signals-one ν done t o j m false e = rw (e, append-assoc done (o ∷ []) (places ν (suc j) o m))
 
 pub settle-is : (ν : ℕ → Bool) (rest done t : List ℕ) (o j : ℕ) → length done ≡ j
     → ((i : ℕ) → i < length rest → ν (j + i) ≡ nonzero (numberAt rest i)) →
     settle (length rest) j (headerOf t (done ++ rest) o)
-    ≡ headerOf (withEquations t o (signals ν j (length rest))) (done ++ places ν j o (length rest))
-    (placeAfter o (signals ν j (length rest)))
+    ≡ headerOf (withEquations t o (signals-es ν j (length rest))) (done ++ places ν j o (length rest))
+    (placeAfter o (signals-es ν j (length rest)))
 unfolding settle withEquations
 settle-is ν [] done t o j e h = refl
 settle-is ν (x ∷ rest) done t o j e h =

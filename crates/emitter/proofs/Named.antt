@@ -19,7 +19,7 @@ use Rattle.formulas.specs.Formula.Formula.{test, len, count, neg, and, or, then
 use Rattle.formulas.specs.Arena.{CONSTANT, SIGNAL, NOT, AND, OR, TEST, LEN, COUNT, LEAD-END, THEN}
 use Rattle.formulas.specs.Arena.{testNumber, countNumber, numKind, numValue, row, flat}
 use Rattle.formulas.proofs.Formulas.{rawP, raw}
-use Rattle.scheme.specs.Emit.{namesP, names}
+use Rattle.scheme.specs.Emit.{namedByP, namedBy}
 use Rattle.emitter.specs.Machine.{marked, marks}
 
 -- The records l mark the signals of ν, whatever records follow: `on` are the marks then.
@@ -98,16 +98,16 @@ record-before l ν k a b c e g =
 
 -- ---- propositions and formulas
 
-marks-prop : (p : Prop) → Marks (flat (rawP p)) (namesP p)
+marks-prop : (p : Prop) → Marks (flat (rawP p)) (namedByP p)
 marks-prop (constant c) = other CONSTANT (truth c) 0 0 refl
 marks-prop (signal i) = one i
-marks-prop (negP p) = record-after (flat (rawP p)) (namesP p) NOT 0 0 0 refl (marks-prop p)
+marks-prop (negP p) = record-after (flat (rawP p)) (namedByP p) NOT 0 0 0 refl (marks-prop p)
 marks-prop (andP p q) =
-    both (flat (rawP p)) (flat (rawP q) ++ row AND 0 0 0) (namesP p) (namesP q) (marks-prop p)
-    (record-after (flat (rawP q)) (namesP q) AND 0 0 0 refl (marks-prop q))
+    both (flat (rawP p)) (flat (rawP q) ++ row AND 0 0 0) (namedByP p) (namedByP q) (marks-prop p)
+    (record-after (flat (rawP q)) (namedByP q) AND 0 0 0 refl (marks-prop q))
 marks-prop (orP p q) =
-    both (flat (rawP p)) (flat (rawP q) ++ row OR 0 0 0) (namesP p) (namesP q) (marks-prop p)
-    (record-after (flat (rawP q)) (namesP q) OR 0 0 0 refl (marks-prop q))
+    both (flat (rawP p)) (flat (rawP q) ++ row OR 0 0 0) (namedByP p) (namedByP q) (marks-prop p)
+    (record-after (flat (rawP q)) (namedByP q) OR 0 0 0 refl (marks-prop q))
 
 -- No test and no count has the signals' kind.
 test-other : (k : Test) → eqb (TEST + testNumber k) SIGNAL ≡ false
@@ -121,25 +121,25 @@ count-other : (k : Count) → eqb (COUNT + countNumber k) SIGNAL ≡ false
 count-other sum = refl
 count-other age = refl
 
-marks-formula : (f : Formula) → Marks (flat (raw f)) (names f)
+marks-formula : (f : Formula) → Marks (flat (raw f)) (namedBy f)
 marks-formula (test k p) =
-    record-after (flat (rawP p)) (namesP p) (TEST + testNumber k) 0 0 0 (test-other k) (marks-prop p)
+    record-after (flat (rawP p)) (namedByP p) (TEST + testNumber k) 0 0 0 (test-other k) (marks-prop p)
 marks-formula (len o n) = other LEN (opNumber o) (numKind n) (numValue n) refl
 marks-formula (count k p o n) =
-    record-after (flat (rawP p)) (namesP p) (COUNT + countNumber k) (opNumber o) (numKind n) (numValue n)
+    record-after (flat (rawP p)) (namedByP p) (COUNT + countNumber k) (opNumber o) (numKind n) (numValue n)
     (count-other k) (marks-prop p)
-marks-formula (neg f) = record-after (flat (raw f)) (names f) NOT 0 0 0 refl (marks-formula f)
+marks-formula (neg f) = record-after (flat (raw f)) (namedBy f) NOT 0 0 0 refl (marks-formula f)
 marks-formula (and f g) =
-    both (flat (raw f)) (flat (raw g) ++ row AND 0 0 0) (names f) (names g) (marks-formula f)
-    (record-after (flat (raw g)) (names g) AND 0 0 0 refl (marks-formula g))
+    both (flat (raw f)) (flat (raw g) ++ row AND 0 0 0) (namedBy f) (namedBy g) (marks-formula f)
+    (record-after (flat (raw g)) (namedBy g) AND 0 0 0 refl (marks-formula g))
 marks-formula (or f g) =
-    both (flat (raw f)) (flat (raw g) ++ row OR 0 0 0) (names f) (names g) (marks-formula f)
-    (record-after (flat (raw g)) (names g) OR 0 0 0 refl (marks-formula g))
+    both (flat (raw f)) (flat (raw g) ++ row OR 0 0 0) (namedBy f) (namedBy g) (marks-formula f)
+    (record-after (flat (raw g)) (namedBy g) OR 0 0 0 refl (marks-formula g))
 marks-formula (then f g) =
     let rest : List ℕ = flat (raw g) ++ row THEN 0 0 0 in
-    both (flat (raw f)) (row LEAD-END 0 0 0 ++ rest) (names f) (names g) (marks-formula f)
-    (record-before rest (names g) LEAD-END 0 0 0 refl
-    (record-after (flat (raw g)) (names g) THEN 0 0 0 refl (marks-formula g)))
+    both (flat (raw f)) (row LEAD-END 0 0 0 ++ rest) (namedBy f) (namedBy g) (marks-formula f)
+    (record-before rest (namedBy g) LEAD-END 0 0 0 refl
+    (record-after (flat (raw g)) (namedBy g) THEN 0 0 0 refl (marks-formula g)))
 
 -- ---- from no marks at all
 
@@ -157,11 +157,11 @@ named-long f m =
     ap length (marks-on f (replicate m 0)) ∙ marks-formula f .long (replicate m 0) ∙ length-replicate m 0
 
 pub named-at : (f : Formula) (m j : ℕ) → j < m →
-    names f j ≡ nonzero (numberAt (marks (flat (raw f)) (replicate m 0)) j)
+    namedBy f j ≡ nonzero (numberAt (marks (flat (raw f)) (replicate m 0)) j)
 named-at f m j h =
     let inside : j < length {A = ℕ} (replicate m 0) = rw (length-replicate {A = ℕ} m 0) h in
     sym
     (ap (λ (l : List ℕ). nonzero (numberAt l j)) (marks-on f (replicate m 0))
     ∙ marks-formula f .adds (replicate m 0) j inside
-    ∙ ap (λ (x : ℕ). names f j || nonzero x) (getD-replicate m j 0 0 h)
-    ∙ no-mark (names f j))
+    ∙ ap (λ (x : ℕ). namedBy f j || nonzero x) (getD-replicate m j 0 0 h)
+    ∙ no-mark (namedBy f j))

@@ -13,7 +13,7 @@ use Rattle.formulas.proofs.Formulas.{raw}
 use Rattle.tables.specs.Table.{Equation}
 use Rattle.limits.specs.Limits.{arenaLimit, signalCount}
 use Rattle.scheme.specs.Scheme.{_⊕_, nodeOf}
-use Rattle.scheme.specs.Emit.{Block, placeAfter, emit, names, signals, places, whole-es}
+use Rattle.scheme.specs.Emit.{Block, placeAfter, emit, namedBy, signals-es, places, whole-es}
 use Rattle.scheme.specs.Emit.{startFlow, idleFlow, headerCount, start-es}
 use Rattle.emitter.specs.Machine.{withEquations, State, state, recordOf, valuesAt}
 use Rattle.emitter.specs.Machine.{applied, step, run, ran, marks, Header, headerOf, settle, headed}
@@ -28,18 +28,19 @@ use Rattle.emitter.proofs.Pass.{done, run-formula}
 
 header-is : (f : Formula) (m : ℕ) (t : List ℕ) →
     settle m 0 (headerOf (withEquations t 0 start-es) (marks (flat (raw f)) (replicate m 0)) headerCount)
-    ≡ headerOf (withEquations t 0 (start-es ++ signals (names f) 0 m)) (places (names f) 0 headerCount m)
-    (placeAfter headerCount (signals (names f) 0 m))
+    ≡ headerOf (withEquations t 0 (start-es ++ signals-es (namedBy f) 0 m)) (places (namedBy f) 0 headerCount m)
+    (placeAfter headerCount (signals-es (namedBy f) 0 m))
 header-is f m t =
     let named : List ℕ = marks (flat (raw f)) (replicate m 0) in
     let long : length named ≡ m = named-long f m in
-    let agree : (i : ℕ) → i < length named → names f (0 + i) ≡ nonzero (numberAt named i) =
-    λ i h. ap (names f) (zero-add i) ∙ named-at f m i (rw long at h) in
+    let agree : (i : ℕ) → i < length named → namedBy f (0 + i) ≡ nonzero (numberAt named i) =
+    λ i h. ap (namedBy f) (zero-add i) ∙ named-at f m i (rw long at h) in
     let all : settle (length named) 0 (headerOf (withEquations t 0 start-es) named headerCount)
-    ≡ headerOf (withEquations (withEquations t 0 start-es) headerCount (signals (names f) 0 (length named)))
-    (places (names f) 0 headerCount (length named)) (placeAfter headerCount (signals (names f) 0 (length named))) =
-    settle-is (names f) named [] (withEquations t 0 start-es) headerCount 0 refl agree in
-    rw (equations-append start-es (signals (names f) 0 m) t 0) (rw long at all)
+    ≡ headerOf (withEquations (withEquations t 0 start-es) headerCount (signals-es (namedBy f) 0 (length named)))
+    (places (namedBy f) 0 headerCount (length named))
+    (placeAfter headerCount (signals-es (namedBy f) 0 (length named))) =
+    settle-is (namedBy f) named [] (withEquations t 0 start-es) headerCount 0 refl agree in
+    rw (equations-append start-es (signals-es (namedBy f) 0 m) t 0) (rw long at all)
 
 -- ---- the records, and the whole rule's node
 
@@ -65,10 +66,10 @@ whole-is x ps t o = refl
 -- The table and the number of equations, of any number m of signals.
 module _ (f : Formula) (m : ℕ) (t : List ℕ) where
   abbrev pub head : List Equation
-  head = start-es ++ signals (names f) 0 m
+  head = start-es ++ signals-es (namedBy f) 0 m
 
   abbrev pub flows : List ℕ
-  flows = places (names f) 0 headerCount m
+  flows = places (namedBy f) 0 headerCount m
 
   abbrev pub middle : Block
   middle = emit (numberAt flows) f startFlow idleFlow (placeAfter 0 head)

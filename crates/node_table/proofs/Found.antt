@@ -14,7 +14,7 @@ use Rattle.scheme.specs.Scheme.{widest, Name, RowKind, Row as SchemeRow, Node a
 use Rattle.scheme.specs.Scheme.{noNode, nodeCount, nodeOf, Values, valueNamed, kindFor, resolved}
 use Rattle.scheme.specs.Scheme.Name.{Nought, Idle, Start, Last, Previous, Signal, A, C}
 use Rattle.scheme.specs.Scheme.Name.{First, Second, Third, Fourth, Fifth}
-use Rattle.scheme.specs.Scheme.RowKind.{Plain, Comparison}
+use Rattle.scheme.specs.Scheme.RowKind.{OfKind, Comparison}
 use Rattle.scheme.proofs.ByKind.{rows-few}
 use Rattle.node_table.specs.Numbers.{numberOf, nameCount, valueList, COMPARISON, kindNumber, kindBy, asRow}
 use Rattle.node_table.specs.Numbers.{padded, asNode, nodeTable, Known, Sized, lookedUp}
@@ -113,11 +113,11 @@ named v Fifth = refl
 
 -- A row that always has its kind does not have the comparison's number.
 abbrev proper : RowKind → Bool
-proper (Plain k) = not (eqb k COMPARISON)
+proper (OfKind k) = not (eqb k COMPARISON)
 proper Comparison = true
 
 kind-found : (v : Values) (k : RowKind) → proper k ≡ true → kindBy (v .comparison) (kindNumber k) ≡ kindFor v k
-kind-found v (Plain k) h = go (eqb k COMPARISON) h
+kind-found v (OfKind k) h = go (eqb k COMPARISON) h
   where
     go : (b : Bool) → not b ≡ true → cond b (v .comparison) k ≡ k
     go true h = absurd (false≢true h)

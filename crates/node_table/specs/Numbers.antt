@@ -14,7 +14,7 @@ use Rattle.scheme.specs.Scheme.{widest, nodeList, noNode}
 use Rattle.tables.specs.Table.{equation}
 use Rattle.scheme.specs.Scheme.Name.{Nought, Idle, Start, Last, Previous, Signal, A, C}
 use Rattle.scheme.specs.Scheme.Name.{First, Second, Third, Fourth, Fifth}
-use Rattle.scheme.specs.Scheme.RowKind.{Plain, Comparison}
+use Rattle.scheme.specs.Scheme.RowKind.{OfKind, Comparison}
 use Rattle.node_table.specs.declared.Row.{Row}
 use Rattle.node_table.specs.declared.Node.{Node}
 
@@ -52,7 +52,7 @@ abbrev pub COMPARISON : ℕ
 COMPARISON = kindCount
 
 abbrev pub kindNumber : RowKind → ℕ
-kindNumber (Plain k) = k
+kindNumber (OfKind k) = k
 kindNumber Comparison = COMPARISON
 
 abbrev pub kindBy : ℕ → ℕ → ℕ

@@ -16,7 +16,7 @@ use Rattle.tables.specs.Table.{Equation}
 use Rattle.limits.specs.Limits.{literalCount}
 use Rattle.tables.specs.declared.Sort.the-variants.{Boolean}
 use Rattle.scheme.specs.Scheme.{_⊕_, Node, andNode, orNode}
-use Rattle.scheme.specs.Emit.{Block, placeAfter, ownFlow, emitP, emit, namesP, names, join-block}
+use Rattle.scheme.specs.Emit.{Block, placeAfter, ownFlow, emitP, emit, namedByP, namedBy, join-block}
 use Rattle.scheme.specs.Emit.{not-es, and-es, or-es}
 use Rattle.scheme.specs.Emit.{begin-es, point-es, kept-es, held-es, sum-es, age-es, lead-end-es, then-es}
 use Rattle.scheme.proofs.Places.{after-append, after-later, Each, each-left, each-right, each-join}
@@ -109,7 +109,7 @@ module _ (t : List ℕ) (N : ℕ) where
     -- The equations of a proposition from place o on fit.
     abbrev PropFine : Prop → ℕ → Type 0
     PropFine p o =
-        Named (namesP p) o → placeAfter o (emitP flowOf p o .es) ≤ N → Kinded o (emitP flowOf p o .es)
+        Named (namedByP p) o → placeAfter o (emitP flowOf p o .es) ≤ N → Kinded o (emitP flowOf p o .es)
         → AllFine o (emitP flowOf p o .es) (emitP flowOf p o .out)
 
     -- Two propositions that are joined by `&` or `|`.
@@ -117,15 +117,15 @@ module _ (t : List ℕ) (N : ℕ) where
         let x : Block = emitP flowOf p o in
         let o′ : ℕ = placeAfter o (x .es) in
         let y : Block = emitP flowOf q o′ in
-        PropFine p o → PropFine q o′ → Named (λ j. namesP p j || namesP q j) o
+        PropFine p o → PropFine q o′ → Named (λ j. namedByP p j || namedByP q j) o
         → placeAfter o (join-block join d o x y .es) ≤ N → Kinded o (join-block join d o x y .es)
         → AllFine o (join-block join d o x y .es) (join-block join d o x y .out)
     both-fine join d joins p q o p-fine q-fine named room kinds =
         let x : Block = emitP flowOf p o in
         let o′ : ℕ = placeAfter o (x .es) in
         let y : Block = emitP flowOf q o′ in
-        let named-p = named-left (namesP p) (namesP q) named in
-        let named-q = named-right (namesP p) (namesP q) named (after-later (x .es) o) in
+        let named-p = named-left (namedByP p) (namedByP q) named in
+        let named-q = named-right (namedByP p) (namedByP q) named (after-later (x .es) o) in
         joins o x y room kinds
         (p-fine named-p (room-left (x .es) _ o room) (left (x .es) _ o kinds))
         (q-fine named-q (room-left (y .es) _ o′ (room-right (x .es) _ o room))
@@ -155,7 +155,7 @@ module _ (t : List ℕ) (N : ℕ) where
       pub room : placeAfter o es ≤ N
 
     abbrev pub GivenOf : ℕ → Formula → ℕ → ℕ → ℕ → Type 0
-    GivenOf cap f s n o = Given (bounded cap (raw f)) (names f) s n o (emit flowOf f s n o .es)
+    GivenOf cap f s n o = Given (bounded cap (raw f)) (namedBy f) s n o (emit flowOf f s n o .es)
 
     -- An atom, from the rows that follow its proposition's equations.
     with-prop : {bounds : Bool} {s n o : ℕ} (rows : ℕ → ℕ → List Equation) (j : ℕ) (p : Prop) →
@@ -163,7 +163,7 @@ module _ (t : List ℕ) (N : ℕ) where
         let o′ : ℕ = placeAfter o (x .es) in
         (Before t o′ Boolean s → Before t o′ Boolean n → Before t o′ Boolean (x .out)
         → placeAfter o′ (rows o′ (x .out)) ≤ N → Kinded o′ (rows o′ (x .out)) → AllFine o′ (rows o′ (x .out)) (o′ ⊕ j))
-        → Given bounds (namesP p) s n o (x .es ++ rows o′ (x .out)) → AllFine o (x .es ++ rows o′ (x .out)) (o′ ⊕ j)
+        → Given bounds (namedByP p) s n o (x .es ++ rows o′ (x .out)) → AllFine o (x .es ++ rows o′ (x .out)) (o′ ⊕ j)
     with-prop {o = o} rows j p rows-fine given =
         let x : Block = emitP flowOf p o in
         let o′ : ℕ = placeAfter o (x .es) in
@@ -193,7 +193,7 @@ module _ (t : List ℕ) (N : ℕ) where
       both : (f g : Formula) {s n o : ℕ} (row : List Equation) →
           let x : Block = emit flowOf f s n o in
           let o′ : ℕ = placeAfter o (x .es) in
-          Given (bounded cap (raw f) && bounded cap (raw g)) (λ j. names f j || names g j) s n o
+          Given (bounded cap (raw f) && bounded cap (raw g)) (λ j. namedBy f j || namedBy g j) s n o
           (x .es ++ (emit flowOf g s n o′ .es ++ row))
           → GivenOf cap f s n o × GivenOf cap g s n o′
       both f g {s} {n} {o} row given =
@@ -204,7 +204,7 @@ module _ (t : List ℕ) (N : ℕ) where
           let far : o ≤ o′ = after-later (x .es) o in (
             record {
               bound = bound .0;
-              named = named-left (names f) (names g) (given .named);
+              named = named-left (namedBy f) (namedBy g) (given .named);
               start = given .start;
               negation = given .negation;
               kinds = left (x .es) _ o (given .kinds);
@@ -212,7 +212,7 @@ module _ (t : List ℕ) (N : ℕ) where
             },
             record {
               bound = bound .1;
-              named = named-right (names f) (names g) (given .named) far;
+              named = named-right (namedBy f) (namedBy g) (given .named) far;
               start = later (given .start) far;
               negation = later (given .negation) far;
               kinds = left (y .es) row o′ (right (x .es) _ o (given .kinds));
@@ -245,7 +245,7 @@ module _ (t : List ℕ) (N : ℕ) where
           let room′ : o″ ⊕ 4 ≤ N = room-right (y .es) rest (o′ ⊕ 5) room in
           let first = lead-fine (record {
             bound = bound .0;
-            named = named-left (names l) (names f) (given .named);
+            named = named-left (namedBy l) (namedBy f) (given .named);
             start = given .start;
             negation = given .negation;
             kinds = left (x .es) _ o (given .kinds);
@@ -255,7 +255,7 @@ module _ (t : List ℕ) (N : ℕ) where
           let end = lead-end-fine t N o′ negation (first .1) (omega arith) (left ending (y .es ++ rest) o′ kinds) in
           let second = second-fine (record {
             bound = bound .1;
-            named = named-right (names l) (names f) (given .named) (omega arith);
+            named = named-right (namedBy l) (namedBy f) (given .named) (omega arith);
             start = end .0 .1;
             negation = end .1;
             kinds = left (y .es) rest (o′ ⊕ 5) kinds′;

@@ -17,7 +17,7 @@ use Rattle.tables.specs.declared.Checked.the-variants.{Passed}
 use Rattle.tables.proofs.Tests.{all-of}
 use Rattle.tables.proofs.Checks.{long-enough}
 use Rattle.scheme.specs.Scheme.{_⊕_}
-use Rattle.scheme.specs.Emit.{names, signals, startFlow, idleFlow, headerCount, numbersOf}
+use Rattle.scheme.specs.Emit.{namedBy, signals-es, startFlow, idleFlow, headerCount, numbersOf}
 use Rattle.scheme.proofs.Offsets.{zero-⊕}
 use Rattle.scheme.proofs.Places.{after-later, Each, each-left, each-right, each-at, each-from}
 use Rattle.scheme.proofs.Places.{equation-at, length-numbers}
@@ -29,7 +29,7 @@ use Rattle.scheme.proofs.Blocks.{AllFine, follow, fine}
 use Rattle.scheme.proofs.Header.{signal-at, signal-before, signals-fit}
 
 module _ (cap : ℕ) (low : cap ≤ literalCount) (m : ℕ) (few : m ≤ signalCount) (f : Formula)
-    (bound : bounded cap (raw f) ≡ true) (below : (j : ℕ) → names f j ≡ true → j < m) (junk : List ℕ) where
+    (bound : bounded cap (raw f) ≡ true) (below : (j : ℕ) → namedBy f j ≡ true → j < m) (junk : List ℕ) where
   -- The table, and its number of equations.
   abbrev t : List ℕ
   t = numbersOf (observerOver m f) ++ junk
@@ -43,11 +43,11 @@ module _ (cap : ℕ) (low : cap ≤ literalCount) (m : ℕ) (few : m ≤ signalC
       each-from (KindAt t) (observerOver m f) 0
       (λ i h. rw zero-⊕ (ap (λ (e : Equation). kindOf (e .kind)) (equation-at (observerOver m f) junk i h)))
 
-  head-kinds : Each (KindAt t) 0 (headRows (names f) m)
-  head-kinds = each-left (KindAt t) (headRows (names f) m) _ 0 kinds
+  head-kinds : Each (KindAt t) 0 (headRows (namedBy f) m)
+  head-kinds = each-left (KindAt t) (headRows (namedBy f) m) _ 0 kinds
 
   rest-kinds : Each (KindAt t) (bodyPlace m f) (bodyBlock m f .es ++ wholeRows m f)
-  rest-kinds = each-right (KindAt t) (headRows (names f) m) _ 0 kinds
+  rest-kinds = each-right (KindAt t) (headRows (namedBy f) m) _ 0 kinds
 
   whole-kinds : Each (KindAt t) (wholePlace m f) (wholeRows m f)
   whole-kinds = each-right (KindAt t) (bodyBlock m f .es) (wholeRows m f) (bodyPlace m f) rest-kinds
@@ -62,19 +62,19 @@ module _ (cap : ℕ) (low : cap ≤ literalCount) (m : ℕ) (few : m ≤ signalC
   negation = here t n 0 idleFlow NOT (head-kinds .1 .0) refl
 
   -- and every named signal before the formula's equations.
-  named : (j : ℕ) → names f j ≡ true → Before t (bodyPlace m f) Boolean (flowAmong (names f) m j)
+  named : (j : ℕ) → namedBy f j ≡ true → Before t (bodyPlace m f) Boolean (flowAmong (namedBy f) m j)
   unfolding kindOf shapeOf sameSort
   named j e =
-      let e′ : names f (0 ⊕ j) ≡ true = rw zero-⊕ e in
-      let kind = signal-at (names f) (KindAt t) m 0 headerCount j (head-kinds .1 .1) (below j e) e′ in
-      record { earlier = signal-before (names f) m 0 headerCount j (below j e) e′; sorted = rw kind }
+      let e′ : namedBy f (0 ⊕ j) ≡ true = rw zero-⊕ e in
+      let kind = signal-at (namedBy f) (KindAt t) m 0 headerCount j (head-kinds .1 .1) (below j e) e′ in
+      record { earlier = signal-before (namedBy f) m 0 headerCount j (below j e) e′; sorted = rw kind }
 
   far : headerCount ≤ bodyPlace m f
-  far = after-later (signals (names f) 0 m) headerCount
+  far = after-later (signals-es (namedBy f) 0 m) headerCount
 
   body-fine : AllFine t n (bodyPlace m f) (bodyBlock m f .es) (bodyBlock m f .out)
   body-fine =
-      fine t n (flowAmong (names f) m) cap low f startFlow idleFlow (bodyPlace m f) (record {
+      fine t n (flowAmong (namedBy f) m) cap low f startFlow idleFlow (bodyPlace m f) (record {
         bound = bound;
         named = named;
         start = later start (omega (arith, far));
@@ -83,11 +83,11 @@ module _ (cap : ℕ) (low : cap ≤ literalCount) (m : ℕ) (few : m ≤ signalC
         room = omega (arith, whole-last m f);
       })
 
-  head-fits : Each (Fits t n) 0 (headRows (names f) m)
+  head-fits : Each (Fits t n) 0 (headRows (namedBy f) m)
   unfolding kindOf shapeOf shapeFits operandFits
   head-fits =
       let negation-fits = not-fine t n idleFlow start (omega arith) (head-kinds .1 .0, tt) .0 in
-      (record { fits = refl }, (negation-fits .0, signals-fit (names f) t n m 0 headerCount (omega arith)))
+      (record { fits = refl }, (negation-fits .0, signals-fit (namedBy f) t n m 0 headerCount (omega arith)))
 
   all-fine : AllFine t n 0 (observerOver m f) (wholePlace m f ⊕ 3)
   all-fine =
@@ -95,7 +95,7 @@ module _ (cap : ℕ) (low : cap ≤ literalCount) (m : ℕ) (few : m ≤ signalC
       let start′ : Before t (wholePlace m f) Boolean startFlow = later start (omega (arith, far)) in
       let room : wholePlace m f ⊕ 4 ≤ n = omega (arith, whole-last m f) in
       let closing-fine = whole-fine t n (wholePlace m f) start′ (body-fine .1) room whole-kinds in
-      follow t n (headRows (names f) m) (bodyBlock m f .es ++ wholeRows m f) 0 (wholePlace m f ⊕ 3) head-fits
+      follow t n (headRows (namedBy f) m) (bodyBlock m f .es ++ wholeRows m f) 0 (wholePlace m f ⊕ 3) head-fits
       (follow t n (bodyBlock m f .es) (wholeRows m f) (bodyPlace m f) (wholePlace m f ⊕ 3) (body-fine .0) closing-fine)
 
   -- So every equation of the table keeps its rules,

@@ -18,7 +18,7 @@ use Rattle.tables.specs.Table.{Equation, kindOf, shapeOf, shapeFits, operandFit
 use Rattle.limits.specs.Limits.{signalCount}
 use Rattle.scheme.specs.Scheme.{_⊕_}
 use Rattle.tables.specs.Table.{equation}
-use Rattle.scheme.specs.Emit.{placeAfter, namesP, names, signals, places}
+use Rattle.scheme.specs.Emit.{placeAfter, namedByP, namedBy, signals-es, places}
 use Rattle.scheme.proofs.Offsets.{suc-⊕}
 use Rattle.scheme.proofs.Places.{after-later, Each}
 use Rattle.scheme.proofs.Roles.{Fits}
@@ -27,58 +27,59 @@ use Rattle.scheme.proofs.Roles.{Fits}
 
 module _ (named : ℕ → Bool) where
   -- What holds of each equation at its place holds of signal j ⊕ i's at the flow that is looked up for it.
-  pub signal-at : (R : ℕ → Equation → Type 0) (m j o i : ℕ) → Each R o (signals named j m) → i < m
+  pub signal-at : (R : ℕ → Equation → Type 0) (m j o i : ℕ) → Each R o (signals-es named j m) → i < m
       → named (j ⊕ i) ≡ true → R (numberAt (places named j o m) i) (equation SIGNAL (j ⊕ i) 0 0)
   signal-at R zero j o i h l e = absurd (omega arith)
   signal-at R (suc m) j o zero h l e =
       subst (λ (x : Bool). Each R o
-      (cond x (equation SIGNAL j 0 0 ∷ signals named (suc j) m) (signals named (suc j) m)))
+      (cond x (equation SIGNAL j 0 0 ∷ signals-es named (suc j) m) (signals-es named (suc j) m)))
       e h .0
   signal-at R (suc m) j o (suc i) h l e =
       rw (← suc-⊕ j i)
       (signal-at R m (suc j) (cond (named j) (suc o) o) i (others (named j) h) (omega arith) (rw suc-⊕ e))
     where
       others : (x : Bool) → Each R o
-          (cond x (equation SIGNAL j 0 0 ∷ signals named (suc j) m) (signals named (suc j) m))
-          → Each R (cond x (suc o) o) (signals named (suc j) m)
+          (cond x (equation SIGNAL j 0 0 ∷ signals-es named (suc j) m) (signals-es named (suc j) m))
+          → Each R (cond x (suc o) o) (signals-es named (suc j) m)
       others true h = h .1
       others false h = h
 
   -- That flow stands before the place after the signals.
   pub signal-before : (m j o i : ℕ) → i < m → named (j ⊕ i) ≡ true
-      → numberAt (places named j o m) i < placeAfter o (signals named j m)
+      → numberAt (places named j o m) i < placeAfter o (signals-es named j m)
   signal-before zero j o i l e = absurd (omega arith)
   signal-before (suc m) j o zero l e =
       subst (λ (x : Bool). o < placeAfter o
-      (cond x (equation SIGNAL j 0 0 ∷ signals named (suc j) m) (signals named (suc j) m)))
-      (sym e) (after-later (signals named (suc j) m) (suc o))
+      (cond x (equation SIGNAL j 0 0 ∷ signals-es named (suc j) m) (signals-es named (suc j) m)))
+      (sym e) (after-later (signals-es named (suc j) m) (suc o))
   signal-before (suc m) j o (suc i) l e =
       others (named j) (λ o. signal-before m (suc j) o i (omega arith) (rw suc-⊕ e))
     where
-      others : (x : Bool) → ((o : ℕ) → numberAt (places named (suc j) o m) i < placeAfter o (signals named (suc j) m))
+      others : (x : Bool)
+          → ((o : ℕ) → numberAt (places named (suc j) o m) i < placeAfter o (signals-es named (suc j) m))
           → numberAt (places named (suc j) (cond x (suc o) o) m) i
-          < placeAfter o (cond x (equation SIGNAL j 0 0 ∷ signals named (suc j) m) (signals named (suc j) m))
+          < placeAfter o (cond x (equation SIGNAL j 0 0 ∷ signals-es named (suc j) m) (signals-es named (suc j) m))
       others true h = h (suc o)
       others false h = h o
 
   -- They fit,
-  pub signals-fit : (t : List ℕ) (N m j o : ℕ) → j + m ≤ signalCount → Each (Fits t N) o (signals named j m)
+  pub signals-fit : (t : List ℕ) (N m j o : ℕ) → j + m ≤ signalCount → Each (Fits t N) o (signals-es named j m)
   unfolding kindOf shapeOf shapeFits operandFits
   signals-fit t N zero j o h = tt
   signals-fit t N (suc m) j o h = with-first (named j) (λ o. signals-fit t N m (suc j) o (omega arith))
     where
-      with-first : (x : Bool) → ((o : ℕ) → Each (Fits t N) o (signals named (suc j) m))
-          → Each (Fits t N) o (cond x (equation SIGNAL j 0 0 ∷ signals named (suc j) m) (signals named (suc j) m))
+      with-first : (x : Bool) → ((o : ℕ) → Each (Fits t N) o (signals-es named (suc j) m))
+          → Each (Fits t N) o (cond x (equation SIGNAL j 0 0 ∷ signals-es named (suc j) m) (signals-es named (suc j) m))
       with-first true rest = (record { fits = rw (lt-ltb j signalCount (omega arith)) }, rest (suc o))
       with-first false rest = rest o
 
   -- and are at most m.
-  pub signals-length : (m j : ℕ) → length (signals named j m) ≤ m
+  pub signals-length : (m j : ℕ) → length (signals-es named j m) ≤ m
   signals-length zero j = omega arith
   signals-length (suc m) j = with-first (named j) (signals-length m (suc j))
     where
-      with-first : (x : Bool) → length (signals named (suc j) m) ≤ m
-          → length (cond x (equation SIGNAL j 0 0 ∷ signals named (suc j) m) (signals named (suc j) m)) ≤ suc m
+      with-first : (x : Bool) → length (signals-es named (suc j) m) ≤ m
+          → length (cond x (equation SIGNAL j 0 0 ∷ signals-es named (suc j) m) (signals-es named (suc j) m)) ≤ suc m
       with-first true h = omega arith
       with-first false h = omega arith
 
@@ -90,28 +91,28 @@ either true b f g e = f refl
 either false b f g e = g e
 
 module _ (cap j : ℕ) where
-  prop-names : (p : Prop) → bounded cap (rawP p) ≡ true → namesP p j ≡ true → j < signalCount
+  prop-names : (p : Prop) → bounded cap (rawP p) ≡ true → namedByP p j ≡ true → j < signalCount
   prop-names (constant c) b e = absurd (false≢true e)
   prop-names (signal i) b e = rw (eqb-true i j e) at (ltb-true i signalCount b)
   prop-names (negP p) b e = prop-names p b e
   prop-names (andP p q) b e =
       let h = and-eq-true-iff (bounded cap (rawP p)) (bounded cap (rawP q)) .0 b in
-      either (namesP p j) (namesP q j) (prop-names p (h .0)) (prop-names q (h .1)) e
+      either (namedByP p j) (namedByP q j) (prop-names p (h .0)) (prop-names q (h .1)) e
   prop-names (orP p q) b e =
       let h = and-eq-true-iff (bounded cap (rawP p)) (bounded cap (rawP q)) .0 b in
-      either (namesP p j) (namesP q j) (prop-names p (h .0)) (prop-names q (h .1)) e
+      either (namedByP p j) (namedByP q j) (prop-names p (h .0)) (prop-names q (h .1)) e
 
-  pub names-below : (f : Formula) → bounded cap (raw f) ≡ true → names f j ≡ true → j < signalCount
+  pub names-below : (f : Formula) → bounded cap (raw f) ≡ true → namedBy f j ≡ true → j < signalCount
   names-below (test k p) b e = prop-names p b e
   names-below (len o n) b e = absurd (false≢true e)
   names-below (count k p o n) b e = prop-names p (and-eq-true-iff (bounded cap (rawP p)) (numBound cap n) .0 b .0) e
   names-below (neg f) b e = names-below f b e
   names-below (and f g) b e =
       let h = and-eq-true-iff (bounded cap (raw f)) (bounded cap (raw g)) .0 b in
-      either (names f j) (names g j) (names-below f (h .0)) (names-below g (h .1)) e
+      either (namedBy f j) (namedBy g j) (names-below f (h .0)) (names-below g (h .1)) e
   names-below (or f g) b e =
       let h = and-eq-true-iff (bounded cap (raw f)) (bounded cap (raw g)) .0 b in
-      either (names f j) (names g j) (names-below f (h .0)) (names-below g (h .1)) e
+      either (namedBy f j) (namedBy g j) (names-below f (h .0)) (names-below g (h .1)) e
   names-below (then f g) b e =
       let h = and-eq-true-iff (bounded cap (raw f)) (bounded cap (raw g)) .0 b in
-      either (names f j) (names g j) (names-below f (h .0)) (names-below g (h .1)) e
+      either (namedBy f j) (namedBy g j) (names-below f (h .0)) (names-below g (h .1)) e

@@ -20,8 +20,8 @@ use Rattle.tables.specs.Kind.{SIGNAL}
 use Rattle.tables.specs.Table.{Equation, kindOf, kindAt, isMemory}
 use Rattle.scheme.specs.Scheme.{_⊕_, comparisonOf}
 use Rattle.tables.specs.Table.{equation}
-use Rattle.scheme.specs.Emit.{placeAfter, emitP, emit, names, flowIn, signals, header, whole-es, body, observer}
-use Rattle.scheme.specs.Emit.{startFlow, idleFlow, start-es, numbersOf}
+use Rattle.scheme.specs.Emit.{placeAfter, emitP, emit, namedBy, flowIn, signals-es, header, whole-es, body}
+use Rattle.scheme.specs.Emit.{observer, startFlow, idleFlow, start-es, numbersOf}
 use Rattle.tables.specs.Table.{memories}
 use Rattle.scheme.proofs.Places.{four-more}
 
@@ -57,13 +57,13 @@ counted-append : (xs ys : List Equation) → counted (xs ++ ys) ≡ counted xs +
 counted-append [] ys = omega arith
 counted-append (e ∷ xs) ys = rw (counted-append xs ys) (omega arith)
 
-counted-signals : (named : ℕ → Bool) (m j : ℕ) → counted (signals named j m) ≡ 0
+counted-signals : (named : ℕ → Bool) (m j : ℕ) → counted (signals-es named j m) ≡ 0
 unfolding kindOf isMemory
 counted-signals named zero j = refl
 counted-signals named (suc m) j = with-first (named j) (counted-signals named m (suc j))
   where
-    with-first : (x : Bool) → counted (signals named (suc j) m) ≡ 0
-        → counted (cond x (equation SIGNAL j 0 0 ∷ signals named (suc j) m) (signals named (suc j) m)) ≡ 0
+    with-first : (x : Bool) → counted (signals-es named (suc j) m) ≡ 0
+        → counted (cond x (equation SIGNAL j 0 0 ∷ signals-es named (suc j) m) (signals-es named (suc j) m)) ≡ 0
     with-first true h = omega arith
     with-first false h = h
 
@@ -108,7 +108,7 @@ module _ (flowOf : ℕ → ℕ) where
 -- ---- counted over an observer
 
 counted-header : (named : ℕ → Bool) (m : ℕ) → counted
-    (start-es ++ signals named 0 m) ≡ 0
+    (start-es ++ signals-es named 0 m) ≡ 0
 unfolding kindOf isMemory
 counted-header named m = omega (arith, counted-signals named m 0)
 
@@ -119,9 +119,10 @@ counted-three xs ys zs k p q r = simp counted-append (omega arith)
 counted-observer : (f : Formula) → counted (observer f) ≡ memoriesOf f + 1
 unfolding kindOf isMemory
 counted-observer f =
-    let o : ℕ = placeAfter 0 (header (names f)) in
-    counted-three (header (names f)) (body f .es) (whole-es startFlow (placeAfter o (body f .es)) (body f .out)) (memoriesOf f)
-    (counted-header (names f) signalCount) (counted-formula (flowIn (names f)) f startFlow idleFlow o) refl
+    let o : ℕ = placeAfter 0 (header (namedBy f)) in
+    counted-three (header (namedBy f)) (body f .es) (whole-es startFlow (placeAfter o (body f .es)) (body f .out))
+    (memoriesOf f) (counted-header (namedBy f) signalCount)
+    (counted-formula (flowIn (namedBy f)) f startFlow idleFlow o) refl
 
 -- ---- counted over the table
 

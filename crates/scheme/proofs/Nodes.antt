@@ -21,7 +21,7 @@ use Rattle.formulas.proofs.Meaning.{lead-falls}
 use Rattle.tables.specs.Table.{Equation, kindOf}
 use Rattle.limits.specs.Limits.{parameterCount}
 use Rattle.scheme.specs.Scheme.{_⊕_}
-use Rattle.scheme.specs.Emit.{Block, placeAfter, emitP, emit, namesP, names, lead-end-es, then-es}
+use Rattle.scheme.specs.Emit.{Block, placeAfter, emitP, emit, namedByP, namedBy, lead-end-es, then-es}
 use Rattle.scheme.specs.Emit.{begin-es, point-es, kept-es, held-es, sum-es, age-es}
 use Rattle.scheme.proofs.Offsets.{⊕-add, span, lt-longer, eq-longer}
 use Rattle.scheme.proofs.Places.{each-left, each-right}
@@ -65,7 +65,7 @@ module _ (cap : ℕ) (trace : Trace) (flow : ℕ → ℕ → ℕ) where
     -- The equations of a proposition, where they stand from place o on, give what it says.
     abbrev PropIs : Prop → ℕ → Type 0
     PropIs p o =
-        Signals (namesP p) → Stands o (emitP flowOf p o .es) → (k : ℕ) → on flow (emitP flowOf p o .out) k
+        Signals (namedByP p) → Stands o (emitP flowOf p o .es) → (k : ℕ) → on flow (emitP flowOf p o .out) k
         ≡ holds p (trace k)
 
     -- Two propositions that are joined by `&` or `|`, and the row that joins them.
@@ -73,7 +73,7 @@ module _ (cap : ℕ) (trace : Trace) (flow : ℕ → ℕ → ℕ) where
         let x : Block = emitP flowOf p o in
         let o′ : ℕ = placeAfter o (x .es) in
         let y : Block = emitP flowOf q o′ in
-        PropIs p o → PropIs q o′ → Signals (λ j. namesP p j || namesP q j) → Stands o (x .es ++ (y .es ++ row))
+        PropIs p o → PropIs q o′ → Signals (λ j. namedByP p j || namedByP q j) → Stands o (x .es ++ (y .es ++ row))
         → (k : ℕ)
         → (on flow (x .out) k ≡ holds p (trace k)) × (on flow (y .out) k ≡ holds q (trace k))
         × Stands (placeAfter o′ (y .es)) row
@@ -81,8 +81,8 @@ module _ (cap : ℕ) (trace : Trace) (flow : ℕ → ℕ → ℕ) where
         let x : Block = emitP flowOf p o in
         let y : Block = emitP flowOf q (placeAfter o (x .es)) in
         let parts = three (x .es) (y .es) row o h in (
-          p-is (named-left (namesP p) (namesP q) signals) (parts .0) k,
-          q-is (named-right (namesP p) (namesP q) signals) (parts .1) k,
+          p-is (named-left (namedByP p) (namedByP q) signals) (parts .0) k,
+          q-is (named-right (namedByP p) (namedByP q) signals) (parts .1) k,
           parts .2,
         )
 
@@ -112,12 +112,12 @@ module _ (cap : ℕ) (trace : Trace) (flow : ℕ → ℕ → ℕ) where
       pub stands : Stands o es
 
     abbrev pub GivenOf : Formula → ℕ → ℕ → ℕ → Type 0
-    GivenOf f s n o = Given (leads (raw f)) (bounded cap (raw f)) (names f) s n o (emit flowOf f s n o .es)
+    GivenOf f s n o = Given (leads (raw f)) (bounded cap (raw f)) (namedBy f) s n o (emit flowOf f s n o .es)
 
     -- An atom's proposition, and the rows that follow its equations.
     with-prop : {leading bounds : Bool} {s n o : ℕ} (p : Prop) (rows : ℕ → ℕ → List Equation) →
         let x : Block = emitP flowOf p o in
-        Given leading bounds (namesP p) s n o (x .es ++ rows (placeAfter o (x .es)) (x .out))
+        Given leading bounds (namedByP p) s n o (x .es ++ rows (placeAfter o (x .es)) (x .out))
         → ((k : ℕ) → on flow (x .out) k ≡ at trace p k) × Stands (placeAfter o (x .es))
         (rows (placeAfter o (x .es)) (x .out))
     with-prop {o = o} p rows given =
@@ -142,7 +142,7 @@ module _ (cap : ℕ) (trace : Trace) (flow : ℕ → ℕ → ℕ) where
         let o′ : ℕ = placeAfter o (x .es) in
         let y : Block = emit flowOf g s n o′ in
         Given (leads (raw f) && leads (raw g)) (bounded cap (raw f) && bounded cap (raw g))
-        (λ j. names f j || names g j) s n o (x .es ++ (y .es ++ row))
+        (λ j. namedBy f j || namedBy g j) s n o (x .es ++ (y .es ++ row))
         → GivenOf f s n o × GivenOf g s n o′ × Stands (placeAfter o′ (y .es)) row
     both f g {s} {n} {o} row given =
         let x : Block = emit flowOf f s n o in
@@ -153,14 +153,14 @@ module _ (cap : ℕ) (trace : Trace) (flow : ℕ → ℕ → ℕ) where
           record {
             led = led .0;
             bound = bound .0;
-            signals = named-left (names f) (names g) (given .signals);
+            signals = named-left (namedBy f) (namedBy g) (given .signals);
             negated = given .negated;
             stands = parts .0;
           },
           record {
             led = led .1;
             bound = bound .1;
-            signals = named-right (names f) (names g) (given .signals);
+            signals = named-right (namedBy f) (namedBy g) (given .signals);
             negated = given .negated;
             stands = parts .1;
           },
@@ -197,7 +197,7 @@ module _ (cap : ℕ) (trace : Trace) (flow : ℕ → ℕ → ℕ) where
           first = record {
             led = led .0;
             bound = bound .0;
-            signals = named-left (names l) (names f) (given .signals);
+            signals = named-left (namedBy l) (namedBy f) (given .signals);
             negated = given .negated;
             stands = parts .0;
           };
@@ -205,7 +205,7 @@ module _ (cap : ℕ) (trace : Trace) (flow : ℕ → ℕ → ℕ) where
           second = record {
             led = led .1;
             bound = bound .1;
-            signals = named-right (names l) (names f) (given .signals);
+            signals = named-right (namedBy l) (namedBy f) (given .signals);
             negated =
                 second-negated cap trace flow s n (given .negated) o′ o″ (x .out) (y .out) (parts .1) rest-stands;
             stands = left (y .es) rest (o′ ⊕ 5) (parts .2);

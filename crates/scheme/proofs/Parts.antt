@@ -11,13 +11,13 @@ use Rattle.formulas.specs.Formula.{Formula}
 use Rattle.limits.specs.Limits.{signalCount}
 use Rattle.tables.specs.Table.{Equation}
 use Rattle.scheme.specs.Scheme.{_⊕_}
-use Rattle.scheme.specs.Emit.{Block, placeAfter, emit, names, signals, places, whole-es, observer}
+use Rattle.scheme.specs.Emit.{Block, placeAfter, emit, namedBy, signals-es, places, whole-es, observer}
 use Rattle.scheme.specs.Emit.{startFlow, idleFlow, headerCount, start-es}
 use Rattle.scheme.proofs.Places.{after-append, after-length}
 
 -- The start flow, its negation, and the named signals among the first m.
 abbrev pub headRows : (ℕ → Bool) → ℕ → List Equation
-headRows named m = start-es ++ signals named 0 m
+headRows named m = start-es ++ signals-es named 0 m
 
 -- The flow of signal j.
 abbrev pub flowAmong : (ℕ → Bool) → ℕ → ℕ → ℕ
@@ -26,10 +26,10 @@ flowAmong named m j = numberAt (places named 0 headerCount m) j
 module _ (m : ℕ) (f : Formula) where
   -- Where the formula's equations begin, and they,
   abbrev pub bodyPlace : ℕ
-  bodyPlace = placeAfter 0 (headRows (names f) m)
+  bodyPlace = placeAfter 0 (headRows (namedBy f) m)
 
   abbrev pub bodyBlock : Block
-  bodyBlock = emit (flowAmong (names f) m) f startFlow idleFlow bodyPlace
+  bodyBlock = emit (flowAmong (namedBy f) m) f startFlow idleFlow bodyPlace
 
   -- where the closing equations begin, and they.
   abbrev pub wholePlace : ℕ
@@ -39,12 +39,12 @@ module _ (m : ℕ) (f : Formula) where
   wholeRows = whole-es startFlow wholePlace (bodyBlock .out)
 
   abbrev pub observerOver : List Equation
-  observerOver = headRows (names f) m ++ (bodyBlock .es ++ wholeRows)
+  observerOver = headRows (namedBy f) m ++ (bodyBlock .es ++ wholeRows)
 
   -- The closing equations are the last four.
   pub whole-last : wholePlace ⊕ 4 ≡ length observerOver
   whole-last =
-      sym (after-append (headRows (names f) m) (bodyBlock .es ++ wholeRows) 0
+      sym (after-append (headRows (namedBy f) m) (bodyBlock .es ++ wholeRows) 0
       ∙ after-append (bodyBlock .es) wholeRows bodyPlace)
       ∙ after-length observerOver 0 ∙ omega arith
 

@@ -1,6 +1,6 @@
--- How many equations an observer has: at most as many as the widest node for each record of the formula's tree, 66
--- before and 4 after them. A formula that was read has at most 480 records, so its observer has at most 4,096 equations.
--- Assumes nothing.
+-- How many equations an observer has: for each record of the formula's tree at most as many as the widest node has,
+-- 66 before and 4 after them. A formula that was read has at most 480 records, so its observer has at most 4,096
+-- equations. Assumes nothing.
 use mathlib.Core.Bool.{Bool}
 use mathlib.Core.List.{List, _++_}
 use Prim.Native.Nat.{ℕ, _+_, _*_, _≤_}
@@ -17,8 +17,8 @@ use Rattle.formulas.specs.Raw.{rawP, raw}
 use Rattle.tables.specs.Table.{Equation}
 use Rattle.limits.specs.Limits.{recordLimit, arenaLimit, equationLimit, signalCount}
 use Rattle.scheme.specs.Scheme.{_⊕_, widest}
-use Rattle.scheme.specs.Emit.{placeAfter, emitP, emit, names, flowIn, signals, header, whole-es, body, observer}
-use Rattle.scheme.specs.Emit.{startFlow, idleFlow, headerCount, start-es}
+use Rattle.scheme.specs.Emit.{placeAfter, emitP, emit, namedBy, flowIn, signals-es, header, whole-es, body}
+use Rattle.scheme.specs.Emit.{observer, startFlow, idleFlow, headerCount, start-es}
 use Rattle.scheme.proofs.Header.{signals-length}
 
 module _ (flowOf : ℕ → ℕ) where
@@ -51,7 +51,7 @@ module _ (flowOf : ℕ → ℕ) where
       simp length-append (omega (arith, size l s n o, size f (o′ ⊕ 3) (o′ ⊕ 4) (o′ ⊕ 5)))
 
 -- The header of an observer, and its three parts together.
-header-size : (named : ℕ → Bool) (m : ℕ) → length (start-es ++ signals named 0 m) ≤ m + headerCount
+header-size : (named : ℕ → Bool) (m : ℕ) → length (start-es ++ signals-es named 0 m) ≤ m + headerCount
 header-size named m = omega (arith, signals-length named m 0)
 
 three-size : (xs ys zs : List Equation) (a b c : ℕ) → length xs ≤ a → length ys ≤ b → length zs ≤ c
@@ -67,9 +67,11 @@ body-size k m g h = omega arith
 
 pub observer-size : (f : Formula) → length (flat (raw f)) ≤ arenaLimit → length (observer f) ≤ equationLimit
 observer-size f h =
-    let o : ℕ = placeAfter 0 (header (names f)) in
-    let few = body-size (length (body f .es)) (length (flat (raw f))) (size (flowIn (names f)) f startFlow idleFlow o) h in
-    let all = three-size (header (names f)) (body f .es) (whole-es startFlow (placeAfter o (body f .es)) (body f .out))
+    let o : ℕ = placeAfter 0 (header (namedBy f)) in
+    let own = size (flowIn (namedBy f)) f startFlow idleFlow o in
+    let few = body-size (length (body f .es)) (length (flat (raw f))) own h in
+    let end : List Equation = whole-es startFlow (placeAfter o (body f .es)) (body f .out) in
+    let all = three-size (header (namedBy f)) (body f .es) end
     (signalCount + headerCount) bodyMost 4
-    (header-size (names f) signalCount) few (omega arith) in
+    (header-size (namedBy f) signalCount) few (omega arith) in
     le-trans all (omega arith)

@@ -193,27 +193,28 @@ module _ (flowOf : ℕ → ℕ) where
 
 -- ---- the named signals
 
-abbrev pub namesP : Prop → ℕ → Bool
-namesP (constant c) j = false
-namesP (signal i) j = eqb i j
-namesP (negP p) j = namesP p j
-namesP (andP p q) j = namesP p j || namesP q j
-namesP (orP p q) j = namesP p j || namesP q j
+-- Signal j is named by the proposition, and by the formula.
+abbrev pub namedByP : Prop → ℕ → Bool
+namedByP (constant c) j = false
+namedByP (signal i) j = eqb i j
+namedByP (negP p) j = namedByP p j
+namedByP (andP p q) j = namedByP p j || namedByP q j
+namedByP (orP p q) j = namedByP p j || namedByP q j
 
--- The formula names signal j.
-abbrev pub names : Formula → ℕ → Bool
-names (test k p) j = namesP p j
-names (len o n) j = false
-names (count k p o n) j = namesP p j
-names (neg f) j = names f j
-names (and f g) j = names f j || names g j
-names (or f g) j = names f j || names g j
-names (then f g) j = names f j || names g j
+abbrev pub namedBy : Formula → ℕ → Bool
+namedBy (test k p) j = namedByP p j
+namedBy (len o n) j = false
+namedBy (count k p o n) j = namedByP p j
+namedBy (neg f) j = namedBy f j
+namedBy (and f g) j = namedBy f j || namedBy g j
+namedBy (or f g) j = namedBy f j || namedBy g j
+namedBy (then f g) j = namedBy f j || namedBy g j
 
 -- The equations of the named ones among the m signals from j on, by rising number.
-abbrev pub signals : (ℕ → Bool) → ℕ → ℕ → List Equation
-signals named j zero = []
-signals named j (suc m) = cond (named j) (equation SIGNAL j 0 0 ∷ signals named (suc j) m) (signals named (suc j) m)
+abbrev pub signals-es : (ℕ → Bool) → ℕ → ℕ → List Equation
+signals-es named j zero = []
+signals-es named j (suc m) =
+    cond (named j) (equation SIGNAL j 0 0 ∷ signals-es named (suc j) m) (signals-es named (suc j) m)
 
 -- The flow of each of these signals, where signal j's stands at o if it is named.
 abbrev pub places : (ℕ → Bool) → ℕ → ℕ → ℕ → List ℕ
@@ -237,7 +238,7 @@ start-es = equation START 0 0 0 ∷ equation NOT startFlow 0 0 ∷ []
 
 -- After them the named signals.
 abbrev pub header : (ℕ → Bool) → List Equation
-header named = start-es ++ signals named 0 signalCount
+header named = start-es ++ signals-es named 0 signalCount
 
 -- The flow of signal j.
 abbrev pub flowIn : (ℕ → Bool) → ℕ → ℕ
@@ -246,13 +247,13 @@ flowIn named j = numberAt (places named 0 headerCount signalCount) j
 -- ---- the observer
 
 abbrev pub body : Formula → Block
-body f = emit (flowIn (names f)) f startFlow idleFlow (placeAfter 0 (header (names f)))
+body f = emit (flowIn (namedBy f)) f startFlow idleFlow (placeAfter 0 (header (namedBy f)))
 
 abbrev pub observer : Formula → List Equation
 observer f =
-    header (names f)
+    header (namedBy f)
     ++ (body f .es
-    ++ whole-es startFlow (placeAfter (placeAfter 0 (header (names f))) (body f .es)) (body f .out))
+    ++ whole-es startFlow (placeAfter (placeAfter 0 (header (namedBy f))) (body f .es)) (body f .out))
 
 -- The numbers of equations, four each.
 abbrev pub numbersOf : List Equation → List ℕ

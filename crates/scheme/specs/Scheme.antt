@@ -27,7 +27,7 @@ pub data Name : Type 0 where
 
 -- The kind of a row's equation: always that one, or the comparison that the record asks for.
 pub data RowKind : Type 0 where
-  Plain : ℕ → RowKind
+  OfKind : ℕ → RowKind
   Comparison : RowKind
 
 -- The kind and the three numbers of an equation.
@@ -42,10 +42,10 @@ row k a b c = record { kind = k; a = a; b = b; c = c }
 
 -- An equation of that kind with one operand, and with two.
 abbrev pub one : ℕ → Name → Row
-one k a = row (Plain k) a Nought Nought
+one k a = row (OfKind k) a Nought Nought
 
 abbrev pub two : ℕ → Name → Name → Row
-two k a b = row (Plain k) a b Nought
+two k a b = row (OfKind k) a b Nought
 
 -- The comparison of a count with the record's literal or parameter.
 abbrev pub comparisonRow : Name → Row
@@ -219,7 +219,7 @@ valueNamed v Fourth = v .place ⊕ 3
 valueNamed v Fifth = v .place ⊕ 4
 
 abbrev pub kindFor : Values → RowKind → ℕ
-kindFor v (Plain k) = k
+kindFor v (OfKind k) = k
 kindFor v Comparison = v .comparison
 
 -- The kind of equation that compares with a literal or with a parameter, as a record says it.
