@@ -1,6 +1,6 @@
 -- The answers of an observer, over every list of calls from the fresh state, are its formula's verdicts. This joins
--- what Formed shows of the table's check, Verdicts of flows that satisfy their equations, and the laws of runs of any
--- table. Over a number m of signals that is left open (see Parts). Assumes nothing.
+-- what Formed (scheme) shows of the table's check, Verdicts of flows that satisfy their equations, and the laws of runs
+-- of any table (flows). Over a number m of signals that is left open (scheme, proofs/Parts.antt). Assumes nothing.
 use mathlib.Core.Bool.{true}
 use mathlib.Core.List.{List, _++_}
 use mathlib.Core.Path.{_≡_, sym, ap, _∙_}

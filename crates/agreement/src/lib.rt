@@ -1,1 +1,1 @@
-// The observers of formulas and their agreement with the interval meaning: definitions and theorems. No code.
+// The agreement of observers (crate scheme) with the interval meaning: definitions and theorems. No code.

@@ -1,4 +1,4 @@
--- Why the pass gives the emitter's equations: laws that the functions' proofs cite, and `Size` for callers.
+-- Why the pass gives the observer's equations: laws that the functions' proofs cite, and `Size` for callers.
 pub mod Equations
 pub mod Stack
 pub mod Records

@@ -1,4 +1,4 @@
--- The tables of numbers are the nodes, and a row that is looked up is the scheme's equation. Assumes nothing.
+-- The table of numbers has the scheme's nodes, and a row that is looked up is the scheme's equation. Assumes nothing.
 use mathlib.Core.Bool.{Bool, true, false, not, cond, false≢true}
 use mathlib.Core.List.{List, [], _∷_, _++_, map}
 use mathlib.Core.Path.{_≡_, refl, sym, ap, _∙_}

@@ -1,2 +1,2 @@
--- That the tables of numbers are the nodes.
+-- That the table of numbers has the scheme's nodes.
 pub mod Found

@@ -45,7 +45,7 @@ pub const NAMES: usize = FIRST as usize + WIDEST;
 // The kind of a row that compares as the record asks: the first number that is of no kind of equation.
 const COMPARISON: u32 = tables::COMPARE_PARAMETER + 1;
 
-// ---- the tables
+// ---- the table
 
 // The most rows that a node has.
 const WIDEST: usize = 5;

@@ -1,1 +1,1 @@
-// The observer of a formula: definitions and laws. No code; crate nodes has the rows as code.
+// The observer of a formula: definitions and laws. No code; crate node_table has the nodes as code.
