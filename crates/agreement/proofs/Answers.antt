@@ -9,7 +9,7 @@ use native.Mathlib.Omega.{arith}
 use lib.ListN.{length}
 use borrow.Author.Tests.{le-leb}
 use Rattle.traces.specs.declared.Tick.{Tick}
-use Rattle.traces.specs.Trace.{Trace, truth}
+use Rattle.traces.specs.Trace.{Trace, tickOf, truth}
 use Rattle.formulas.specs.Formula.{Formula}
 use Rattle.formulas.specs.Meaning.{verdict}
 use Rattle.formulas.specs.Tree.{leads}
@@ -74,7 +74,7 @@ module _ (cap : ℕ) (low : cap ≤ literalCount) (m : ℕ) (few : m ≤ signalC
         → answers cap t n (freshened t n old .state) xs
         ≡ expected cap n (verdict (traceOfTicks ps (ticks cap n xs)) f) 0 xs
     answered xs same =
-        let beyond : Tick = record { start = 0; signals = 0; parameters = ps } in
+        let beyond : Tick = tickOf 0 0 ps in
         let trace : Trace = traceOfTicks ps (ticks cap n xs) in
         ap (λ (y : AfterFresh). answers cap t n (y .state) xs) (made t n old passes room)
         ∙ calls cap t n passes old room beyond xs
