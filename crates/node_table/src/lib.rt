@@ -1,5 +1,5 @@
 // The nodes of the observer scheme as code (crate scheme, specs/Scheme.antt has them as definitions). A name of a
-// value is a number here, its place in an array of values.
+// value is a number here, its place in an array of values. The numbers are bytes, since a pass copies the table.
 ghost use mathlib.Core.Path.{_≡_};
 ghost use Prim.Native.Nat.{min};
 ghost use Rattle.scheme.specs.Scheme.{nodeCount, comparisonOf};
@@ -8,42 +8,42 @@ ghost use Rattle.node_table.specs.Numbers.{nodeTable, kindBy};
 // ---- the names
 
 // 0.
-const NOUGHT: u32 = 0;
+const NOUGHT: u8 = 0;
 
 // The negated start flow, and the start flow.
-const IDLE: u32 = 1;
+const IDLE: u8 = 1;
 
-const START: u32 = 2;
+const START: u8 = 2;
 
 // The flow of the last operand, and of the one before it.
-const LAST: u32 = 3;
+const LAST: u8 = 3;
 
-const PREVIOUS: u32 = 4;
+const PREVIOUS: u8 = 4;
 
 // The flow of the signal that the record names.
-const SIGNAL: u32 = 5;
+const SIGNAL: u8 = 5;
 
 // The record's first and last number.
-const A: u32 = 6;
+const A: u8 = 6;
 
-const C: u32 = 7;
+const C: u8 = 7;
 
 // The node's own flows.
-const FIRST: u32 = 8;
+const FIRST: u8 = 8;
 
-const SECOND: u32 = 9;
+const SECOND: u8 = 9;
 
-const THIRD: u32 = 10;
+const THIRD: u8 = 10;
 
-const FOURTH: u32 = 11;
+const FOURTH: u8 = 11;
 
-const FIFTH: u32 = 12;
+const FIFTH: u8 = 12;
 
 // How many names there are; the kind of the record's comparison stands after their values.
 pub const NAMES: usize = FIRST as usize + WIDEST;
 
 // The kind of a row that compares as the record asks: the first number that is of no kind of equation.
-const COMPARISON: u32 = tables::COMPARE_PARAMETER + 1;
+const COMPARISON: u8 = tables::KIND_COUNT as u8;
 
 // ---- the table
 
@@ -51,7 +51,7 @@ const COMPARISON: u32 = tables::COMPARE_PARAMETER + 1;
 const WIDEST: usize = 5;
 
 // A row: the kind of an equation, and the names of its three numbers.
-pub struct Row(pub u32, pub u32, pub u32, pub u32);
+pub struct Row(pub u8, pub u8, pub u8, pub u8);
 
 // A node: how many rows it has, and these first among as many as the widest has; how many operands it takes off the
 // stack, which value it puts there, and which value is the negated start flow from here on.
@@ -59,19 +59,19 @@ pub struct Node {
     pub count: u32,
     pub rows: [Row; WIDEST],
     pub takes: u32,
-    pub result: u32,
-    pub idle: u32,
+    pub result: u8,
+    pub idle: u8,
 }
 
 // Past a node's last row.
 const NO_ROW: Row = Row(0, NOUGHT, NOUGHT, NOUGHT);
 
 // The rows that `kept` and `held` share.
-const KEPT_1: Row = Row(tables::BOOLEAN_PRE, THIRD, NOUGHT, NOUGHT);
+const KEPT_1: Row = Row(tables::BOOLEAN_PRE as u8, THIRD, NOUGHT, NOUGHT);
 
-const KEPT_2: Row = Row(tables::OR, START, FIRST, NOUGHT);
+const KEPT_2: Row = Row(tables::OR as u8, START, FIRST, NOUGHT);
 
-const KEPT_3: Row = Row(tables::AND, SECOND, LAST, NOUGHT);
+const KEPT_3: Row = Row(tables::AND as u8, SECOND, LAST, NOUGHT);
 
 // The nodes. s and n are the start flow and its negation, P the last operand, m a memory.
 
@@ -79,7 +79,7 @@ const KEPT_3: Row = Row(tables::AND, SECOND, LAST, NOUGHT);
 const CONSTANT_NODE: Node = Node {
     count: 1,
     rows: [
-        Row(tables::CONSTANT, A, NOUGHT, NOUGHT),
+        Row(tables::CONSTANT as u8, A, NOUGHT, NOUGHT),
         NO_ROW,
         NO_ROW,
         NO_ROW,
@@ -103,7 +103,7 @@ const SIGNAL_NODE: Node = Node {
 const NOT_NODE: Node = Node {
     count: 1,
     rows: [
-        Row(tables::NOT, LAST, NOUGHT, NOUGHT),
+        Row(tables::NOT as u8, LAST, NOUGHT, NOUGHT),
         NO_ROW,
         NO_ROW,
         NO_ROW,
@@ -118,7 +118,7 @@ const NOT_NODE: Node = Node {
 const AND_NODE: Node = Node {
     count: 1,
     rows: [
-        Row(tables::AND, PREVIOUS, LAST, NOUGHT),
+        Row(tables::AND as u8, PREVIOUS, LAST, NOUGHT),
         NO_ROW,
         NO_ROW,
         NO_ROW,
@@ -133,7 +133,7 @@ const AND_NODE: Node = Node {
 const OR_NODE: Node = Node {
     count: 1,
     rows: [
-        Row(tables::OR, PREVIOUS, LAST, NOUGHT),
+        Row(tables::OR as u8, PREVIOUS, LAST, NOUGHT),
         NO_ROW,
         NO_ROW,
         NO_ROW,
@@ -148,10 +148,10 @@ const OR_NODE: Node = Node {
 const BEGIN_NODE: Node = Node {
     count: 4,
     rows: [
-        Row(tables::BOOLEAN_PRE, FOURTH, NOUGHT, NOUGHT),
-        Row(tables::AND, START, LAST, NOUGHT),
-        Row(tables::AND, IDLE, FIRST, NOUGHT),
-        Row(tables::OR, SECOND, THIRD, NOUGHT),
+        Row(tables::BOOLEAN_PRE as u8, FOURTH, NOUGHT, NOUGHT),
+        Row(tables::AND as u8, START, LAST, NOUGHT),
+        Row(tables::AND as u8, IDLE, FIRST, NOUGHT),
+        Row(tables::OR as u8, SECOND, THIRD, NOUGHT),
         NO_ROW,
     ],
     takes: 1,
@@ -172,7 +172,7 @@ const END_NODE: Node = Node {
 const POINT_NODE: Node = Node {
     count: 1,
     rows: [
-        Row(tables::AND, START, LAST, NOUGHT),
+        Row(tables::AND as u8, START, LAST, NOUGHT),
         NO_ROW,
         NO_ROW,
         NO_ROW,
@@ -190,7 +190,7 @@ const HELD_NODE: Node = Node {
         KEPT_1,
         KEPT_2,
         KEPT_3,
-        Row(tables::AND, IDLE, FIRST, NOUGHT),
+        Row(tables::AND as u8, IDLE, FIRST, NOUGHT),
         NO_ROW,
     ],
     takes: 1,
@@ -211,9 +211,9 @@ const KEPT_NODE: Node = Node {
 const LEN_NODE: Node = Node {
     count: 4,
     rows: [
-        Row(tables::COUNT_PRE, THIRD, NOUGHT, NOUGHT),
-        Row(tables::CAPPED, FIRST, IDLE, NOUGHT),
-        Row(tables::IF, IDLE, SECOND, NOUGHT),
+        Row(tables::COUNT_PRE as u8, THIRD, NOUGHT, NOUGHT),
+        Row(tables::CAPPED as u8, FIRST, IDLE, NOUGHT),
+        Row(tables::IF as u8, IDLE, SECOND, NOUGHT),
         Row(COMPARISON, THIRD, A, C),
         NO_ROW,
     ],
@@ -226,9 +226,9 @@ const LEN_NODE: Node = Node {
 const SUM_NODE: Node = Node {
     count: 4,
     rows: [
-        Row(tables::COUNT_PRE, THIRD, NOUGHT, NOUGHT),
-        Row(tables::IF, IDLE, FIRST, NOUGHT),
-        Row(tables::CAPPED, SECOND, LAST, NOUGHT),
+        Row(tables::COUNT_PRE as u8, THIRD, NOUGHT, NOUGHT),
+        Row(tables::IF as u8, IDLE, FIRST, NOUGHT),
+        Row(tables::CAPPED as u8, SECOND, LAST, NOUGHT),
         Row(COMPARISON, SECOND, A, C),
         NO_ROW,
     ],
@@ -241,10 +241,10 @@ const SUM_NODE: Node = Node {
 const AGE_NODE: Node = Node {
     count: 5,
     rows: [
-        Row(tables::COUNT_PRE, FOURTH, NOUGHT, NOUGHT),
-        Row(tables::IF, IDLE, FIRST, NOUGHT),
-        Row(tables::CAPPED, SECOND, LAST, NOUGHT),
-        Row(tables::IF, LAST, THIRD, NOUGHT),
+        Row(tables::COUNT_PRE as u8, FOURTH, NOUGHT, NOUGHT),
+        Row(tables::IF as u8, IDLE, FIRST, NOUGHT),
+        Row(tables::CAPPED as u8, SECOND, LAST, NOUGHT),
+        Row(tables::IF as u8, LAST, THIRD, NOUGHT),
         Row(COMPARISON, FOURTH, A, C),
     ],
     takes: 1,
@@ -256,11 +256,11 @@ const AGE_NODE: Node = Node {
 const LEAD_END_NODE: Node = Node {
     count: 5,
     rows: [
-        Row(tables::BOOLEAN_PRE, LAST, NOUGHT, NOUGHT),
-        Row(tables::NOT, LAST, NOUGHT, NOUGHT),
-        Row(tables::AND, IDLE, FIRST, NOUGHT),
-        Row(tables::AND, THIRD, SECOND, NOUGHT),
-        Row(tables::NOT, FOURTH, NOUGHT, NOUGHT),
+        Row(tables::BOOLEAN_PRE as u8, LAST, NOUGHT, NOUGHT),
+        Row(tables::NOT as u8, LAST, NOUGHT, NOUGHT),
+        Row(tables::AND as u8, IDLE, FIRST, NOUGHT),
+        Row(tables::AND as u8, THIRD, SECOND, NOUGHT),
+        Row(tables::NOT as u8, FOURTH, NOUGHT, NOUGHT),
     ],
     takes: 1,
     result: IDLE,
@@ -271,10 +271,10 @@ const LEAD_END_NODE: Node = Node {
 const THEN_NODE: Node = Node {
     count: 4,
     rows: [
-        Row(tables::BOOLEAN_PRE, THIRD, NOUGHT, NOUGHT),
-        Row(tables::OR, START, FIRST, NOUGHT),
-        Row(tables::AND, PREVIOUS, SECOND, NOUGHT),
-        Row(tables::AND, THIRD, LAST, NOUGHT),
+        Row(tables::BOOLEAN_PRE as u8, THIRD, NOUGHT, NOUGHT),
+        Row(tables::OR as u8, START, FIRST, NOUGHT),
+        Row(tables::AND as u8, PREVIOUS, SECOND, NOUGHT),
+        Row(tables::AND as u8, THIRD, LAST, NOUGHT),
         NO_ROW,
     ],
     takes: 2,
@@ -286,10 +286,10 @@ const THEN_NODE: Node = Node {
 const WHOLE_NODE: Node = Node {
     count: 4,
     rows: [
-        Row(tables::BOOLEAN_PRE, SECOND, NOUGHT, NOUGHT),
-        Row(tables::OR, START, FIRST, NOUGHT),
-        Row(tables::NOT, SECOND, NOUGHT, NOUGHT),
-        Row(tables::OR, THIRD, LAST, NOUGHT),
+        Row(tables::BOOLEAN_PRE as u8, SECOND, NOUGHT, NOUGHT),
+        Row(tables::OR as u8, START, FIRST, NOUGHT),
+        Row(tables::NOT as u8, SECOND, NOUGHT, NOUGHT),
+        Row(tables::OR as u8, THIRD, LAST, NOUGHT),
         NO_ROW,
     ],
     takes: 1,
@@ -350,10 +350,14 @@ pub fn place_of(k: u32) -> usize
 // ---- kinds
 
 // The kind of a row's equation, where `comparison` is the kind that the record asks for.
-pub fn kind_by(comparison: u32, k: u32) -> u32
+pub fn kind_by(comparison: u32, k: u8) -> u32
     ensures { λ r. ⌜ r ≡ kindBy comparison k ⌝ }
 {
-    if k == COMPARISON { comparison } else { k }
+    if k == COMPARISON {
+        comparison
+    } else {
+        k as u32
+    }
 }
 
 // The kind of equation that compares with a literal or with a parameter, as the record says.

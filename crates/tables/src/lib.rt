@@ -66,7 +66,7 @@ pub const COMPARE_LITERAL: u32 = 10;
 pub const COMPARE_PARAMETER: u32 = 11;
 
 // How many kinds there are.
-const KIND_COUNT: usize = 12;
+pub const KIND_COUNT: usize = 12;
 
 // The table of kinds: a row for each, by its number.
 const KINDS: [Shape; KIND_COUNT] = [
