@@ -152,10 +152,12 @@ module _ {r : Number} {s : List ℕ} {p : Parsed} (h : ReadsAs r s p) where
     comma-found g o = record { means = rw (done-of e) (sym (comma-there s n v g o)); within = omega arith }
 
 -- The last of eight is stored.
-pub eighth : (ps : List ℕ) (v : ℕ) → length ps ≡ parameterCount → take lastParameter ps ++ (v ∷ []) ≡ set ps lastParameter v
+pub eighth : (ps : List ℕ) (v : ℕ) → length ps ≡ parameterCount
+    → take lastParameter ps ++ (v ∷ []) ≡ set ps lastParameter v
 eighth ps v h =
     let z : length ps ≤ parameterCount = omega arith in
-    sym (set-split ps lastParameter v (omega arith) ∙ ap (λ (l : List ℕ). take lastParameter ps ++ v ∷ l) (drop-of-length-le ps z))
+    let none = ap (λ (l : List ℕ). take lastParameter ps ++ v ∷ l) (drop-of-length-le ps z) in
+    sym (set-split ps lastParameter v (omega arith) ∙ none)
 
 -- The loop of `parameters_line`: i numbers are read, and what stands from `at` on, after them, reads as the line does.
 pub record Listing (s ps : List ℕ) (at i : ℕ) : Type 0 where
@@ -163,7 +165,8 @@ pub record Listing (s ps : List ℕ) (at i : ℕ) : Type 0 where
   pub within : i ≤ lastParameter
   pub eight : length ps ≡ parameterCount
 
-pub listing-begun : (s ps : List ℕ) → hasPrefix parametersHead s ≡ true → length ps ≡ parameterCount → Listing s ps (length parametersHead) 0
+pub listing-begun : (s ps : List ℕ) → hasPrefix parametersHead s ≡ true → length ps ≡ parameterCount
+    → Listing s ps (length parametersHead) 0
 unfolding parametersOf
 listing-begun s ps e h = record { rest = rw e; within = omega arith; eight = h }
 

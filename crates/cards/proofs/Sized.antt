@@ -5,7 +5,7 @@ use mathlib.Core.List.{List, [], _∷_, _++_}
 use Prim.Native.Nat.{ℕ, zero, suc, _+_, _-_, _*_, _≤_, _<_}
 use native.Mathlib.Omega.{arith}
 use lib.Dec.{leb, eqb}
-use lib.ListN.{length, getD, drop, length-drop}
+use lib.ListN.{length, getD, length-drop}
 use borrow.Author.Tests.{leb-true, eqb-false}
 use Rattle.limits.specs.Limits.{literalCount, lineLimit}
 use Rattle.cards.specs.Heads.{parametersHead, countHead, afterHead}
@@ -232,7 +232,8 @@ parameters-short l ps e =
     let rest = afterHead parametersHead l in
     let most : length rest ≤ 63 =
     subst (Spans 63 rest) e
-    (if-spans 63 rest (hasPrefix parametersHead l) (numbers lastParameter [] rest) (numbers-span lastParameter [] rest)) in
+    (if-spans 63 rest (hasPrefix parametersHead l) (numbers lastParameter [] rest)
+    (numbers-span lastParameter [] rest)) in
     omega (arith, most, length-drop (length parametersHead) l)
 
 abbrev Counts : ℕ → List ℕ → Count → Type 0

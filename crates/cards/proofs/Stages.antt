@@ -6,7 +6,7 @@ use mathlib.Core.List.{List}
 use Prim.Native.Nat.{ℕ, _+_, _≤_, _<_}
 use native.Mathlib.Omega.{arith}
 use lib.Dec.{eqb}
-use lib.ListN.{length, drop}
+use lib.ListN.{length}
 use borrow.Author.Tests.{eqb-false, ne-eqb, le-leb, leb-false}
 use Rattle.limits.specs.Limits.{literalCount, lineLimit}
 use Rattle.cards.specs.Heads.{ruleHead, afterHead}

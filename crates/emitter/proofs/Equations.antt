@@ -14,7 +14,7 @@ use Rattle.scheme.specs.Scheme.{widest, Row as SchemeRow, rowAt, nodeOf, Values
 use Rattle.scheme.specs.Emit.{placeAfter, numbersOf}
 use Rattle.scheme.proofs.Places.{after-length, length-numbers}
 use Rattle.scheme.proofs.ByKind.{rows-few}
-use Rattle.node_table.specs.Numbers.{nameCount, valueList, kindBy, asRow, padded, lookedUp}
+use Rattle.node_table.specs.Numbers.{nameCount, valueList, kindBy, asRow, paddedRows, lookedUp}
 use Rattle.node_table.specs.declared.Row.{Row}
 use Rattle.node_table.proofs.Found.{row-looked-up}
 use Rattle.emitter.specs.Machine.{withEquations}
@@ -99,14 +99,14 @@ rows-more t vs o i rs r₀ {t₁} h e₁ e₂ =
 module _ (v : Values) where
   rows-own : (n : ℕ) (rs : List SchemeRow) → length rs ≤ n
       → ((i : ℕ) → i < length rs → lookedUp (valueList v) (asRow (rowAt rs i)) ≡ resolved v (rowAt rs i))
-      → take (length rs) (map (lookedUp (valueList v)) (padded n rs)) ≡ filled v rs
+      → take (length rs) (map (lookedUp (valueList v)) (paddedRows n rs)) ≡ filled v rs
   rows-own n [] h each = refl
   rows-own zero (r ∷ rs) h each = absurd (omega arith)
   rows-own (suc n) (r ∷ rs) h each =
       ap₂ _∷_ (each 0 (omega arith)) (rows-own n rs (omega arith) (λ i g. each (suc i) (omega arith)))
 
   pub own-rows : (k : ℕ)
-      → take (length (nodeOf k .rows)) (map (lookedUp (valueList v)) (padded widest (nodeOf k .rows)))
+      → take (length (nodeOf k .rows)) (map (lookedUp (valueList v)) (paddedRows widest (nodeOf k .rows)))
       ≡ filled v (nodeOf k .rows)
   own-rows k =
       rows-own widest (nodeOf k .rows) (rows-few k) (λ i h. row-looked-up v k i (omega (arith, rows-few k)))

@@ -11,7 +11,7 @@ use Rattle.lists.specs.Number.{numberAt}
 use Rattle.scheme.specs.Scheme.{nodeOf, Values, valueNamed, filled}
 use Rattle.scheme.proofs.Offsets.{⊕-add}
 use Rattle.scheme.proofs.ByKind.{rows-few}
-use Rattle.node_table.specs.Numbers.{numberOf, valueList, asNode, lookedUp}
+use Rattle.node_table.specs.Numbers.{nameNumber, valueList, asNode, lookedUp}
 use Rattle.node_table.specs.declared.Node.{Node as CodeNode}
 use Rattle.node_table.proofs.Found.{named}
 use Rattle.emitter.proofs.Equations.{own-rows}
@@ -87,8 +87,8 @@ added {vs} {t} {stack} {m} {d} {t′} k v e-d e-vs h =
     let few = rows-few k in
     let count : d .count ≡ length (nodeOf k .rows) = ap (λ (x : CodeNode). x .count) e-d in
     let takes : d .takes ≡ nodeOf k .takes = ap (λ (x : CodeNode). x .takes) e-d in
-    let result : d .result ≡ numberOf (nodeOf k .result) = ap (λ (x : CodeNode). x .result) e-d in
-    let idle : d .idle ≡ numberOf (nodeOf k .idle) = ap (λ (x : CodeNode). x .idle) e-d in
+    let result : d .result ≡ nameNumber (nodeOf k .result) = ap (λ (x : CodeNode). x .result) e-d in
+    let idle : d .idle ≡ nameNumber (nodeOf k .idle) = ap (λ (x : CodeNode). x .idle) e-d in
     let rows : take (d .count) (map (lookedUp vs) (d .rows)) ≡ filled v (nodeOf k .rows) =
     ap₂ (λ (x : CodeNode) (l : List ℕ). take (x .count) (map (lookedUp l) (x .rows))) e-d e-vs ∙ own-rows v k in
     let table : t′ ≡ withEquations t (m .next) (filled v (nodeOf k .rows)) = e-t ∙ ap (withEquations t (m .next))

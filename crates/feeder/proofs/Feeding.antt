@@ -15,7 +15,8 @@ use Rattle.cards.specs.declared.Phase.{Phase}
 use Rattle.cards.specs.declared.Phase.the-variants as P
 use Rattle.lists.proofs.Lines.{line-short}
 use Rattle.cards.proofs.Lines.{one-line}
-use Rattle.player.specs.Card.{World, worldOf, overWatch, overWorld, Effect, lined, outputBytes, brokenBytes, longestOutput}
+use Rattle.player.specs.Card.{World, worldOf, overWatch, overWorld, Effect, lined}
+use Rattle.player.specs.Card.{outputBytes, brokenBytes, longestOutput}
 use Rattle.feeder.specs.Feed.{Goes, Short, Room, fedTo, Runs, Feeds, fedWorld, leftOver, placed}
 use Rattle.feeder.specs.Feed.{tailBytes, tailFed}
 use Rattle.feeder.specs.declared.Fed.{Fed}

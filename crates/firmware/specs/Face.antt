@@ -65,7 +65,7 @@ sameAnswer x = record { refusal = same.refusalOf x; result = same.resultOf x }
 -- The answer of the comparison that document 01 has for the two texts.
 pub record SameTold (first second : List ℕ) (r : Answer) : Type 0 where
   pub told : Same
-  pub same : SameAnswer (ruleOf first) (ruleOf second) told
+  pub answers : SameAnswer (ruleOf first) (ruleOf second) told
   pub answer : r ≡ sameAnswer told
 
 -- A number of equations that C's answer has room for.

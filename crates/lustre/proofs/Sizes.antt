@@ -16,7 +16,7 @@ use Rattle.tables.specs.Table.Kind.{countPre, capped, ifElse, compareLiteral, c
 use Rattle.tables.proofs.Checks.{checked-fitting}
 use Rattle.tables.specs.declared.Checked.{Checked}
 use Rattle.tables.specs.declared.Checked.the-variants.{Passed, Refused as Failed}
-use Rattle.lustre.specs.Write.{lineLength, lengthLimit, writeEffect, effectIf, writeChecked, afterText}
+use Rattle.lustre.specs.Write.{longestLine, lengthLimit, writeEffect, effectIf, writeChecked, afterText}
 use Rattle.lustre.specs.declared.Written.the-variants.{Length}
 use Rattle.lustre.proofs.Numerals.{digits-short}
 use Rattle.lustre.proofs.Theorems.{text-written}
@@ -60,14 +60,14 @@ value-few compareParameter e w =
 value-few unknown e w = omega arith
 
 module _ (t : List ℕ) (small : (i : ℕ) → numberAt t i < 4294967296) where
-  line-few : (i : ℕ) → i < 4294967296 → length (lineText i (equationAt t i)) ≤ lineLength
+  line-few : (i : ℕ) → i < 4294967296 → length (lineText i (equationAt t i)) ≤ longestLine
   unfolding lineText lineRest
   line-few i h =
       let e = equationAt t i in
       let value = value-few (kindOf (e .kind)) e (record { a = small _; b = small _; c = small _ }) in
       simp length-append (omega (arith, digits-short i h, value))
 
-  lines-few : (n : ℕ) → n ≤ equationLimit → length (lines t n) ≤ lineLength * n
+  lines-few : (n : ℕ) → n ≤ equationLimit → length (lines t n) ≤ longestLine * n
   unfolding lines
   lines-few zero h = omega arith
   lines-few (suc n) h = simp length-append (omega (arith, lines-few n (omega arith), line-few n (omega arith)))

@@ -19,12 +19,12 @@ writeReply (Length l) = gives l
 writeReply (Refused r) = refused r
 
 -- No line is longer, nor are the first line and the last two together (proofs/Sizes.antt).
-abbrev pub lineLength : ℕ
-lineLength = 100
+abbrev pub longestLine : ℕ
+longestLine = 100
 
 -- No table's text is longer.
 abbrev pub lengthLimit : ℕ
-lengthLimit = lineLength * equationLimit + lineLength
+lengthLimit = longestLine * equationLimit + longestLine
 
 -- "Write as Lustre text. 10, 11; 15: the buffer is shorter than that text."
 abbrev pub writeTests : List ℕ → ℕ → List ℕ → List Test

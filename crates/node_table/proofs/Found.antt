@@ -16,8 +16,8 @@ use Rattle.scheme.specs.Scheme.Name.{Nought, Idle, Start, Last, Previous, Signa
 use Rattle.scheme.specs.Scheme.Name.{First, Second, Third, Fourth, Fifth}
 use Rattle.scheme.specs.Scheme.RowKind.{OfKind, Comparison}
 use Rattle.scheme.proofs.ByKind.{rows-few}
-use Rattle.node_table.specs.Numbers.{numberOf, nameCount, valueList, COMPARISON, kindNumber, kindBy, asRow}
-use Rattle.node_table.specs.Numbers.{padded, asNode, nodeTable, Known, Sized, lookedUp}
+use Rattle.node_table.specs.Numbers.{nameNumber, nameCount, valueList, COMPARISON, kindNumber, kindBy, asRow}
+use Rattle.node_table.specs.Numbers.{paddedRows, asNode, nodeTable, Known, Sized, lookedUp}
 use Rattle.node_table.specs.declared.Node.{Node}
 
 -- ---- the table
@@ -53,7 +53,7 @@ node-found t k i x e-t e-i = elim (decLt k nodeCount) [
 
 -- ---- names and rows
 
-named-low : (x : Name) → numberOf x < nameCount
+named-low : (x : Name) → nameNumber x < nameCount
 named-low Nought = omega arith
 named-low Idle = omega arith
 named-low Start = omega arith
@@ -72,14 +72,14 @@ row-known : (r : SchemeRow) → Known (asRow r)
 row-known r = record { a = named-low (r .a); b = named-low (r .b); c = named-low (r .c) }
 
 -- Padded rows are known, and n.
-padded-known : (n : ℕ) (rs : List SchemeRow) (i : ℕ) → Known (getD (padded n rs) i (asRow noRow))
+padded-known : (n : ℕ) (rs : List SchemeRow) (i : ℕ) → Known (getD (paddedRows n rs) i (asRow noRow))
 padded-known zero rs i = row-known noRow
 padded-known (suc n) [] zero = row-known noRow
 padded-known (suc n) [] (suc i) = padded-known n [] i
 padded-known (suc n) (r ∷ rs) zero = row-known r
 padded-known (suc n) (r ∷ rs) (suc i) = padded-known n rs i
 
-padded-length : (n : ℕ) (rs : List SchemeRow) → length (padded n rs) ≡ n
+padded-length : (n : ℕ) (rs : List SchemeRow) → length (paddedRows n rs) ≡ n
 padded-length zero rs = refl
 padded-length (suc n) [] = ap suc (padded-length n [])
 padded-length (suc n) (r ∷ rs) = ap suc (padded-length n rs)
@@ -96,7 +96,7 @@ node-sized k =
 
 -- ---- looking up
 
-pub named : (v : Values) (x : Name) → numberAt (valueList v) (numberOf x) ≡ valueNamed v x
+pub named : (v : Values) (x : Name) → numberAt (valueList v) (nameNumber x) ≡ valueNamed v x
 named v Nought = refl
 named v Idle = refl
 named v Start = refl

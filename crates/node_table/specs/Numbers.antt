@@ -18,24 +18,24 @@ use Rattle.scheme.specs.Scheme.RowKind.{OfKind, Comparison}
 use Rattle.node_table.specs.declared.Row.{Row}
 use Rattle.node_table.specs.declared.Node.{Node}
 
-abbrev pub numberOf : Name → ℕ
-numberOf Nought = 0
-numberOf Idle = 1
-numberOf Start = 2
-numberOf Last = 3
-numberOf Previous = 4
-numberOf Signal = 5
-numberOf A = 6
-numberOf C = 7
-numberOf First = 8
-numberOf Second = 9
-numberOf Third = 10
-numberOf Fourth = 11
-numberOf Fifth = 12
+abbrev pub nameNumber : Name → ℕ
+nameNumber Nought = 0
+nameNumber Idle = 1
+nameNumber Start = 2
+nameNumber Last = 3
+nameNumber Previous = 4
+nameNumber Signal = 5
+nameNumber A = 6
+nameNumber C = 7
+nameNumber First = 8
+nameNumber Second = 9
+nameNumber Third = 10
+nameNumber Fourth = 11
+nameNumber Fifth = 12
 
 -- The values in the order of their names' numbers, and after them the kind of the record's comparison.
 abbrev pub nameCount : ℕ
-nameCount = numberOf First + widest
+nameCount = nameNumber First + widest
 
 -- The n flows from place o on.
 abbrev pub flowsFrom : ℕ → ℕ → List ℕ
@@ -59,22 +59,22 @@ abbrev pub kindBy : ℕ → ℕ → ℕ
 kindBy comparison k = cond (eqb k COMPARISON) comparison k
 
 abbrev pub asRow : SchemeRow → Row
-asRow r = record { 0 = kindNumber (r .kind); 1 = numberOf (r .a); 2 = numberOf (r .b); 3 = numberOf (r .c) }
+asRow r = record { 0 = kindNumber (r .kind); 1 = nameNumber (r .a); 2 = nameNumber (r .b); 3 = nameNumber (r .c) }
 
 -- The first n rows, with rows that nothing asks for past the last.
-abbrev pub padded : ℕ → List SchemeRow → List Row
-padded zero rs = []
-padded (suc n) [] = asRow noRow ∷ padded n []
-padded (suc n) (r ∷ rs) = asRow r ∷ padded n rs
+abbrev pub paddedRows : ℕ → List SchemeRow → List Row
+paddedRows zero rs = []
+paddedRows (suc n) [] = asRow noRow ∷ paddedRows n []
+paddedRows (suc n) (r ∷ rs) = asRow r ∷ paddedRows n rs
 
 abbrev pub asNode : SchemeNode → Node
 asNode d =
     record {
       count = length (d .rows);
-      rows = padded widest (d .rows);
+      rows = paddedRows widest (d .rows);
       takes = d .takes;
-      result = numberOf (d .result);
-      idle = numberOf (d .idle);
+      result = nameNumber (d .result);
+      idle = nameNumber (d .idle);
     }
 
 -- Every node, and none past the last kind.

@@ -17,7 +17,7 @@ use Rattle.cards.specs.declared.Phase.{Phase}
 use Rattle.cards.specs.declared.Phase.the-variants as P
 use Rattle.cards.specs.declared.Stage.{Stage}
 use Rattle.cards.proofs.Stages.{Follows, says-follows}
-use Rattle.player.specs.Card.{World, Effect, stop, withRule, withStep, playedTo, played, lined}
+use Rattle.player.specs.Card.{World, Effect, endedBy, withRule, withStep, playedTo, played, lined}
 use Rattle.player.specs.Card.{ruleMade, ruledWorld, stepOf, steppedWorld}
 use Rattle.player.specs.Card.{refusalDigits, outputBytes, brokenBytes, longestOutput}
 use Rattle.player.specs.declared.Output.{Output}
@@ -55,7 +55,7 @@ pub record Pays (p : Phase) (n : ℕ) (t : Effect) : Type 0 where
 
 module _ (p : Phase) (n : ℕ) (e : isOver p ≡ false) where
   -- A card that ends pays its last refusal by the debt, and no output needs no pay.
-  stop-pays : (o : Output) (w : World) → Pays p n (stop o w)
+  stop-pays : (o : Output) (w : World) → Pays p n (endedBy o w)
   stop-pays o w = record { paid = omega (arith, output-small o, no-debt p e) }
 
   quiet-pays : (w : World) → Pays p n (record { world = w; output = O.Quiet })
@@ -72,7 +72,7 @@ module _ (p : Phase) (n : ℕ) (e : isOver p ≡ false) where
   step-pays k (S.Verdict v) w h = record { paid = omega (arith, h, no-debt p e) }
   step-pays k (S.Refused r) w h = stop-pays (O.Refused r) w
 
-over-pays : (n : ℕ) (w : World) → Pays P.Over n (stop O.Quiet w)
+over-pays : (n : ℕ) (w : World) → Pays P.Over n (endedBy O.Quiet w)
 unfolding outputBytes
 over-pays n w = record { paid = omega arith }
 

@@ -31,7 +31,7 @@ use Rattle.flows.specs.declared.Stepped.{Stepped}
 use Rattle.flows.specs.declared.Stepped.the-variants as S
 use Rattle.reader.specs.Part.{ruleFrom}
 use Rattle.player.specs.Card.{afterRule, freshAs, ruleMade, stepEffect, tickEffect}
-use Rattle.player.specs.Card.{World, worldOf, watchOf, Effect, effectOf, stop, playedTo, played, lined}
+use Rattle.player.specs.Card.{World, worldOf, watchOf, Effect, effectOf, endedBy, playedTo, played, lined}
 use Rattle.player.specs.Card.{lastOutput}
 use Rattle.player.specs.declared.Output.the-variants as O
 use Rattle.player.specs.declared.Watch.{Watch}
@@ -69,7 +69,7 @@ step-ends k start signals w t a r c v i e h =
     ap (λ (x : AfterStep). stepEffect k x w) (ap (λ (x : Stepped). afterStep x c v) (sym e) ∙ h ∙ at-tick)
 
 -- An over-long line is broken,
-played-broken : (p : Phase) (w : World) → played w (brokenBy p) ≡ stop (lastOutput (brokenBy p)) w
+played-broken : (p : Phase) (w : World) → played w (brokenBy p) ≡ endedBy (lastOutput (brokenBy p)) w
 unfolding played
 played-broken P.Edition w = refl
 played-broken P.Parameters w = refl
@@ -79,13 +79,13 @@ played-broken P.Ticks w = refl
 played-broken P.Over w = refl
 
 pub long-lined : (w : World) (l : List ℕ) → lineLimit ≤ length l
-    → lined w l ≡ stop (lastOutput (brokenBy (w .watch .stage .phase))) w
+    → lined w l ≡ endedBy (lastOutput (brokenBy (w .watch .stage .phase))) w
 unfolding lined
 long-lined w l h =
     ap (played w) (long-says (w .watch .stage) l h) ∙ played-broken (w .watch .stage .phase) w
 
 -- and a line does nothing once the card is over.
-pub over-lined : (w : World) (l : List ℕ) → w .watch .stage .phase ≡ P.Over → lined w l ≡ stop O.Quiet w
+pub over-lined : (w : World) (l : List ℕ) → w .watch .stage .phase ≡ P.Over → lined w l ≡ endedBy O.Quiet w
 unfolding lined played
 over-lined w l e = rw (over-says (w .watch .stage) l e)
 

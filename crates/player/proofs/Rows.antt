@@ -3,7 +3,6 @@ use mathlib.Core.Path.{_≡_, refl}
 use mathlib.Core.List.{[], _∷_, _++_}
 use Rattle.lists.specs.Text.{bytes}
 use Rattle.cards.specs.Lines.{cut}
-use Rattle.cards.specs.Numbers.{hasPrefix}
 use Rattle.cards.specs.Says.{lineSays}
 use Rattle.player.specs.Card.{played, lined, refusalDigits, outputBytes, owed, prints, printed}
 use Rattle.player.specs.declared.Output.the-variants as O

@@ -78,8 +78,8 @@ effectOf o w = record { world = w; output = o }
 abbrev pub withWatch : Watch → World → World
 withWatch k w = worldOf k (w .parameters) (w .table) (w .state) (w .values)
 
-abbrev pub goOn : Watch → Output → World → Effect
-goOn k o w = effectOf o (withWatch k w)
+abbrev pub movedOn : Watch → Output → World → Effect
+movedOn k o w = effectOf o (withWatch k w)
 
 -- "and ends": the card is over after this output.
 abbrev pub overWatch : Watch
@@ -88,8 +88,8 @@ overWatch = watchOf (stageAt P.Over 0) 0
 abbrev pub overWorld : World → World
 overWorld w = withWatch overWatch w
 
-abbrev pub stop : Output → World → Effect
-stop o w = effectOf o (overWorld w)
+abbrev pub endedBy : Output → World → Effect
+endedBy o w = effectOf o (overWorld w)
 
 -- The same as the code's answers.
 abbrev pub goingOn : Stage → ℕ → Output → Answered
@@ -131,7 +131,7 @@ ruleAnswer k (C.Equations n) = goingOn k n O.Quiet
 ruleAnswer k (C.Refused r) = stopped (O.Refused r)
 
 abbrev pub withRule : Stage → Compiled → World → Effect
-withRule k r w = goOn (ruleAnswer k r .watch) (ruleAnswer k r .output) w
+withRule k r w = movedOn (ruleAnswer k r .watch) (ruleAnswer k r .output) w
 
 abbrev pub ruledWorld : AfterRule → World → World
 ruledWorld r w = worldOf (w .watch) (w .parameters) (r .table) (r .state) (w .values)
@@ -141,8 +141,8 @@ ruleEffect k r w = withRule k (r .answer) (ruledWorld r w)
 
 -- A tick line: one step.
 abbrev pub withStep : Stage → Stepped → World → Effect
-withStep k (S.Verdict v) w = goOn (watchOf k (w .watch .n)) (O.Verdict v) w
-withStep k (S.Refused r) w = stop (O.Refused r) w
+withStep k (S.Verdict v) w = movedOn (watchOf k (w .watch .n)) (O.Verdict v) w
+withStep k (S.Refused r) w = endedBy (O.Refused r) w
 
 abbrev pub steppedWorld : AfterStep → World → World
 steppedWorld a w = worldOf (w .watch) (w .parameters) (w .table) (a .state) (a .values)
@@ -159,13 +159,13 @@ tickEffect k start signals w = stepEffect k (stepOf start signals w) w
 
 -- What a line does that says so, k being the stage after it.
 abbrev pub playedTo : Stage → Says → World → Effect
-playedTo k edition w = goOn (watchOf k 0) O.Quiet w
+playedTo k edition w = movedOn (watchOf k 0) O.Quiet w
 playedTo k (parameters ps) w = effectOf O.Quiet (worldOf (watchOf k 0) ps (w .table) (w .state) (w .values))
 playedTo k (rule text) w = ruleEffect k (ruleMade text (w .table) (w .state)) w
-playedTo k (count m) w = goOn (watchOf k (w .watch .n)) O.Quiet w
+playedTo k (count m) w = movedOn (watchOf k (w .watch .n)) O.Quiet w
 playedTo k (tick start signals) w = tickEffect k start signals w
-playedTo k (refused r) w = stop (O.Refused r) w
-playedTo k nothing w = stop O.Quiet w
+playedTo k (refused r) w = endedBy (O.Refused r) w
+playedTo k nothing w = endedBy O.Quiet w
 
 unfoldable pub played : World → Says → Effect
 played w s = playedTo (stageAfter (w .watch .stage .left) s) s w

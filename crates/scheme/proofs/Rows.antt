@@ -104,17 +104,17 @@ module _ (t : List ℕ) (N o : ℕ) where
   module _ {rp : Role} {n p : ℕ} (bn : Before t o Boolean n) (gp : Given rp p) where
     compare-fit : (cap : ℕ) → cap ≤ literalCount → (op : Op) (x : Num) → numBound cap x ≡ true → (rows : List Row)
         → o ⊕ length rows ≤ N → Kinded (filled (comparing o n p op x) rows)
-        → ((c : ℕ) → rowsOk (comparing o n p op (literal c)) (rolesOf given free rp free comparisonCount literalCount) rows
-        ≡ true)
-        → ((c : ℕ) → rowsOk (comparing o n p op (parameter c)) (rolesOf given free rp free comparisonCount parameterCount) rows
-        ≡ true)
+        → ((c : ℕ) → rowsOk (comparing o n p op (literal c))
+        (rolesOf given free rp free comparisonCount literalCount) rows ≡ true)
+        → ((c : ℕ) → rowsOk (comparing o n p op (parameter c))
+        (rolesOf given free rp free comparisonCount parameterCount) rows ≡ true)
         → Each (Fits t N) o (filled (comparing o n p op x) rows)
     compare-fit cap low op (literal c) bound rows room kinds ok ok′ =
-        numbers-fit (comparing o n p op (literal c)) refl (used bn) unused gp unused comparisonCount literalCount rows
-        (op-below op) (omega (arith, ltb-true c cap bound)) room kinds (ok c)
+        numbers-fit (comparing o n p op (literal c)) refl (used bn) unused gp unused comparisonCount literalCount
+        rows (op-below op) (omega (arith, ltb-true c cap bound)) room kinds (ok c)
     compare-fit cap low op (parameter c) bound rows room kinds ok ok′ =
-        numbers-fit (comparing o n p op (parameter c)) refl (used bn) unused gp unused comparisonCount parameterCount rows
-        (op-below op) (ltb-true c parameterCount bound) room kinds (ok′ c)
+        numbers-fit (comparing o n p op (parameter c)) refl (used bn) unused gp unused comparisonCount parameterCount
+        rows (op-below op) (ltb-true c parameterCount bound) room kinds (ok′ c)
 
   -- A comparison is boolean.
   compare-boolean : (x : Num) → sameSort (sortOf (kindOf (comparisonOf (numKind x)))) Boolean ≡ true

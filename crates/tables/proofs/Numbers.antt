@@ -10,7 +10,8 @@ use native.Mathlib.Decide.{decLt}
 use lib.Dec.{leb}
 use lib.ListN.{length, getD, List·getD-map, List·getD-eq-default}
 use borrow.Author.Tests.{lt-leb, le-leb}
-use Rattle.tables.specs.Kind.{BOOLEAN-PRE, COUNT-PRE, IF, kindCount}
+use Rattle.tables.specs.Kind.{SIGNAL, START, CONSTANT, NOT, AND, OR, BOOLEAN-PRE, COUNT-PRE, CAPPED, IF}
+use Rattle.tables.specs.Kind.{COMPARE-LITERAL, COMPARE-PARAMETER, kindCount}
 use Rattle.tables.specs.Table.{kinds, kindOf, shapeOf, sortOf, sameSort, all}
 use Rattle.tables.specs.Table.Kind.{unknown}
 use Rattle.tables.specs.Table.{isMemory}
@@ -27,6 +28,15 @@ NoneOf k (suc m) = NoneOf k m × (k ≡ m → ⊥)
 pub none-below : (k m : ℕ) → NoneOf k m → m ≤ k
 none-below k zero h = omega arith
 none-below k (suc m) h = let l = none-below k m (h .0) in let d = h .1 in omega arith
+
+-- The numbers by name are those of the list of kinds, in its order.
+numbered :
+    map kindOf
+    (SIGNAL ∷ START ∷ CONSTANT ∷ NOT ∷ AND ∷ OR ∷ BOOLEAN-PRE ∷ COUNT-PRE ∷ CAPPED ∷ IF ∷ COMPARE-LITERAL
+    ∷ COMPARE-PARAMETER ∷ [])
+    ≡ kinds
+unfolding kindOf
+numbered = refl
 
 -- The numbers after the last kind are no kinds.
 pub kind-beyond : (k : ℕ) → kindCount ≤ k → kindOf k ≡ unknown

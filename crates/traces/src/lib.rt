@@ -1,5 +1,4 @@
-// Ticks, and the numbers of the comparisons. What a tick's numbers mean is in specs/Trace.antt, what a comparison says in
-// specs/Compare.antt.
+// Ticks, and the numbers of the comparisons. What they mean is in specs/Trace.antt and specs/Compare.antt.
 ghost use mathlib.Core.Path.{_≡_};
 ghost use Rattle.traces.specs.Trace.{tickOf};
 

@@ -54,7 +54,7 @@ unfolding small
 among-small [] b t = omega arith
 among-small (o ∷ os) b t =
     let both = and-eq-true-iff (leb (o .word) OTHER) (small os) .0 t in
-    chosen (λ c. c ≤ OTHER) (eqb b (o .byte)) (λ _. leb-true (o .word) OTHER (both .0))
+    chosen (λ c. c ≤ OTHER) (eqb b (o .sign)) (λ _. leb-true (o .word) OTHER (both .0))
     (λ _. among-small os b (both .1))
 
 class-small : (b : ℕ) → classOf b ≤ OTHER

@@ -58,11 +58,11 @@ both-false true true h = (h, h)
 both-false true false h = (h, refl)
 both-false false y h = (refl, h)
 
-no-operator : (os : List Operator) (b : ℕ) → among b (map (λ o. o .byte) os) ≡ false → wordAmong os b ≡ OTHER
+no-operator : (os : List Operator) (b : ℕ) → among b (map (λ o. o .sign) os) ≡ false → wordAmong os b ≡ OTHER
 unfolding among
 no-operator [] b h = refl
 no-operator (o ∷ os) b h =
-    let no = both-false (eqb b (o .byte)) (among b (map (λ o. o .byte) os)) h in
+    let no = both-false (eqb b (o .sign)) (among b (map (λ o. o .sign) os)) h in
     rw (no .0) (no-operator os b (no .1))
 
 outside : (x y : Bool) (w : ℕ) → eqb (cond x RUN (cond y SPACE w)) RUN ≡ false → y ≡ false → w ≡ OTHER
@@ -72,17 +72,17 @@ outside false true w r s o = absurd (true≢false s)
 outside false false w r s o = o
 
 pub other : (b : ℕ) → eqb (classOf b) RUN ≡ false
-    → NoneOf b (byte " " ∷ map (λ o. o .byte) operators) (Unit {0}) → classOf b ≡ OTHER
+    → NoneOf b (byte " " ∷ map (λ o. o .sign) operators) (Unit {0}) → classOf b ≡ OTHER
 unfolding classOf among
 other b r h =
-    let bytes : List ℕ = byte " " ∷ map (λ o. o .byte) operators in
-    let no = both-false (eqb b (byte " ")) (among b (map (λ o. o .byte) operators)) (none-among b bytes h) in
+    let bytes : List ℕ = byte " " ∷ map (λ o. o .sign) operators in
+    let no = both-false (eqb b (byte " ")) (among b (map (λ o. o .sign) operators)) (none-among b bytes h) in
     outside (inRun b) (eqb b (byte " ")) _ r (no .0) (no-operator operators b (no .1))
 
 -- No operator that is the byte b has the word w.
 lacks : ℕ → ℕ → List Operator → Bool
 lacks w b [] = true
-lacks w b (o ∷ os) = not (eqb (o .word) w && eqb b (o .byte)) && lacks w b os
+lacks w b (o ∷ os) = not (eqb (o .word) w && eqb b (o .sign)) && lacks w b os
 
 one-false : (x y : Bool) → not (x && y) ≡ true → y ≡ true → x ≡ false
 one-false true true h t = sym h
@@ -93,8 +93,8 @@ lacking : (w b : ℕ) (os : List Operator) → eqb OTHER w ≡ false → lacks w
 unfolding lacks
 lacking w b [] p h = p
 lacking w b (o ∷ os) p h =
-    let both = and-eq-true-iff (not (eqb (o .word) w && eqb b (o .byte))) (lacks w b os) .0 h in
-    chosen (λ c. eqb c w ≡ false) (eqb b (o .byte)) (one-false _ _ (both .0)) (λ _. lacking w b os p (both .1))
+    let both = and-eq-true-iff (not (eqb (o .word) w && eqb b (o .sign))) (lacks w b os) .0 h in
+    chosen (λ c. eqb c w ≡ false) (eqb b (o .sign)) (one-false _ _ (both .0)) (λ _. lacking w b os p (both .1))
 
 -- No other byte than a letter or a digit is part of a run: one below the digits, between them and the letters, above
 -- the letters.

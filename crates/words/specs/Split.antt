@@ -29,11 +29,11 @@ OTHER = 50
 
 -- The operator bytes, each with its word.
 pub record Operator : Type 0 where
-  pub byte : ℕ
+  pub sign : ℕ
   pub word : ℕ
 
 abbrev pub operator : String → ℕ → Operator
-operator s w = record { byte = byte s; word = w }
+operator s w = record { sign = byte s; word = w }
 
 abbrev pub operators : List Operator
 operators =
@@ -42,7 +42,7 @@ operators =
 
 abbrev pub wordAmong : List Operator → ℕ → ℕ
 wordAmong [] b = OTHER
-wordAmong (o ∷ os) b = cond (eqb b (o .byte)) (o .word) (wordAmong os b)
+wordAmong (o ∷ os) b = cond (eqb b (o .sign)) (o .word) (wordAmong os b)
 
 -- "a longest run of `a` to `z` and `0` to `9`"
 abbrev pub inRun : ℕ → Bool

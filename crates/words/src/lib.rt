@@ -44,7 +44,7 @@ const END: u32 = 14;
 
 const POINT: u32 = 15;
 
-pub const HELD: u32 = 16;
+const HELD: u32 = 16;
 
 pub const KEPT: u32 = 17;
 

@@ -45,9 +45,10 @@ admitted : (c : tie.After-enum-told2) →
     Admitted (brought (args .w) (args .parameters) (args .table) (args .state) (args .values))
 admitted c =
     let checked = c .before .before in
+    let passes = sym (checked .step-checked .ensures) ∙ c .enum-told2 .given .1 in
     record {
       phase = ticks checked .enum-told .given .1;
-      passes = passes-any _ _ _ _ _ (built checked .tick-of .ensures) (sym (checked .step-checked .ensures) ∙ c .enum-told2 .given .1);
+      passes = passes-any _ _ _ _ _ (built checked .tick-of .ensures) passes;
     }
 
 -- Another phase; a step that would be refused.

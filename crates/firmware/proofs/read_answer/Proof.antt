@@ -1,6 +1,5 @@
 -- `firmware::read_answer` meets its contract, case by case. Assumes nothing.
 use mathlib.Core.Path.{sym, ap}
-use Rattle.rules.specs.declared.Read as rules
 use Rattle.firmware.specs.Face.{readAnswer}
 use borrow.Author.Needs.{needs}
 use Rattle.firmware.proofs.read_answer.Statement.{statement}

@@ -8,20 +8,23 @@ use Rattle.flows.specs.Step.{stepped}
 use Rattle.firmware.proofs.towerwatch_step.Statement.{statement}
 use Rattle.firmware.proofs.towerwatch_step.Tie as tie
 
--- The step, from the end; and the tick that is built, from there.
+-- The step, from the end; the tick that is built, from there; and the start.
 abbrev called : tie.After-step-answer → tie.After-step
 called c = c .before .before .before .before .before
 
 abbrev built : tie.After-step → tie.After-tick-of
 built c = c .before .before .before
 
+abbrev start : tie.After-step → tie.Start
+start c = built c .before .before .before .before .before
+
 returns : tie.Need-returns
 returns c =
     let call = called c .step in
-    let args = built (called c) .before .before .before .before .before .args in
+    let args = start (called c) .args in
+    let run = stepped standardCap (args .table .now) (args .n) (args .state .now) (args .values .now) in
     ap (λ (r : Answer). leftValues r (call .last .1 .1 .0) (call .last .1 .1 .1 .0)) (c .step-answer .ensures)
-    ∙ ap tick (call .ensures ∙ ap (stepped standardCap (args .table .now) (args .n) (args .state .now) (args .values .now))
-    (built (called c) .tick-of .ensures))
+    ∙ ap tick (call .ensures ∙ ap run (built (called c) .tick-of .ensures))
 
 pub towerwatch-step-spec : {M : Type 1} → statement M
 towerwatch-step-spec =
