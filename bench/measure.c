@@ -1,4 +1,4 @@
-/* measure CARD LABEL=PROGRAM..: runs each program on the card, in turns, seven times; PROGRAM may end in a space and an
+/* measure CARD LABEL=PROGRAM..: runs each program on the card, in turns, three times; PROGRAM may end in a space and an
  * argument. Prints two lines for each, its label with the least time in seconds and with the peak memory in KB. */
 #include <fcntl.h>
 #include <stdio.h>
@@ -8,7 +8,7 @@
 #include <time.h>
 #include <unistd.h>
 
-enum { ROUNDS = 7, PROGRAMS = 16 };
+enum { ROUNDS = 3, PROGRAMS = 16 };
 
 struct program {
     char *label, *words[3];

@@ -1,17 +1,17 @@
-# Lines `state place name number`, with tabs: a row for each name with the median (the least to the most) of the places,
-# a column for each state. At each place the least number of a name counts. Below C's times stands the ratio to them.
+# Lines `state round name number`, with tabs: a row for each name with the median (the least to the most) of the rounds,
+# a column for each state. Below C's times stands the ratio to them, round by round.
 BEGIN { FS = "\t" }
 
 {
     key = $1 SUBSEP $2 SUBSEP $3
-    if (!(key in least) || $4 < least[key]) least[key] = $4
-    places[$2]
+    number[key] = $4
+    rounds[$2]
     if (!($3 in seen)) { seen[$3]; order[++count] = $3 }
 }
 
 END {
     columns = split(states, state, " ")
-    printf "%-58s", "median (least to most) of the places"
+    printf "%-58s", "median (least to most) of the rounds"
     for (i = 1; i <= columns; i++) printf "%28s", state[i]
     print ""
     for (j = 1; j <= count; j++) {
@@ -27,17 +27,17 @@ function row(name,   i) {
     print ""
 }
 
-function ratios(ours, other,   i, p) {
+function ratios(ours, other,   i, r) {
     for (i = 1; i <= columns; i++)
-        for (p in places)
-            if ((state[i], p, ours) in least)
-                least[state[i], p, "    ratio"] = least[state[i], p, ours] / least[state[i], p, other]
+        for (r in rounds)
+            if ((state[i], r, ours) in number)
+                number[state[i], r, "    ratio"] = number[state[i], r, ours] / number[state[i], r, other]
     row("    ratio")
 }
 
-function summary(s, name,   p, n, a, i, j, t) {
+function summary(s, name,   r, n, a, i, j, t) {
     n = 0
-    for (p in places) if ((s, p, name) in least) a[++n] = least[s, p, name]
+    for (r in rounds) if ((s, r, name) in number) a[++n] = number[s, r, name]
     if (n == 0) return "-"
     for (i = 2; i <= n; i++)
         for (j = i; j > 1 && a[j] < a[j - 1]; j--) { t = a[j]; a[j] = a[j - 1]; a[j - 1] = t }
