@@ -1,2 +1,2 @@
 -- Laws behind the proofs of the turns and of the whole run.
-pub mod Turning
+pub mod Progress

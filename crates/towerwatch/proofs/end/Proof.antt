@@ -1,7 +1,7 @@
 -- `towerwatch::end` meets its contract: what `finish` puts is handed to the write. Assumes nothing.
 use mathlib.Core.Path.{refl}
 use borrow.Author.Needs.{needs}
-use Rattle.towerwatch.proofs.Turning.{end-takes}
+use Rattle.towerwatch.proofs.Progress.{end-takes}
 use Rattle.towerwatch.proofs.end.Statement.{statement}
 use Rattle.towerwatch.proofs.end.Tie as tie
 

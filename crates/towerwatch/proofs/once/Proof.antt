@@ -6,7 +6,7 @@ use native.Mathlib.Omega.{arith}
 use borrow.Author.Needs.{needs}
 use lib.ListN.{take, drop}
 use Rattle.feeder.specs.Feed.{Ready}
-use Rattle.towerwatch.proofs.Turning.{ready-read, ready-none}
+use Rattle.towerwatch.proofs.Progress.{ready-read, ready-none}
 use Rattle.towerwatch.proofs.once.Statement.{statement}
 use Rattle.towerwatch.proofs.once.Tie as tie
 

@@ -4,7 +4,7 @@ use mathlib.Core.Path.{_≡_, refl}
 use native.Mathlib.Omega.{arith}
 use borrow.Author.Needs.{needs}
 use lib.ListN.{length}
-use Rattle.towerwatch.proofs.Turning.{piece-takes}
+use Rattle.towerwatch.proofs.Progress.{piece-takes}
 use Rattle.towerwatch.proofs.piece.Statement.{statement}
 use Rattle.towerwatch.proofs.piece.Tie as tie
 
@@ -25,14 +25,14 @@ out-back c = c .before .before .before .before
 abbrev state-back : tie.After-show → tie.After-state
 state-back c = out-back c .before .before .before .before
 
-abbrev turned : tie.After-show → tie.After-run-turn
-turned c = state-back c .before .before .before .before .before
+abbrev ran : tie.After-show → tie.After-run-turn
+ran c = state-back c .before .before .before .before .before
 
 returns : tie.Need-returns
 returns c =
     let shown = c .before .before .show in
     let over = c .before .is-over in
-    let here = turned (c .before .before) in
+    let here = ran (c .before .before) in
     let turn = here .run-turn in
     let args = entry here .args in
     let pre = entry here .pre in

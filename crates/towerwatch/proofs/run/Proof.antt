@@ -8,7 +8,7 @@ use lib.ListN.{length, take}
 use Rattle.player.specs.Card.{worldOf}
 use Rattle.feeder.specs.Feed.{Ready}
 use Rattle.towerwatch.specs.Run.{outputRoom}
-use Rattle.towerwatch.proofs.Turning.{budget, Reached, reached-start, reached-on, fewer, ends-whole}
+use Rattle.towerwatch.proofs.Progress.{budget, Reached, reached-start, reached-on, fewer, ends-whole}
 use Rattle.towerwatch.proofs.run.Statement.{statement}
 use Rattle.towerwatch.proofs.run.Tie as tie
 
