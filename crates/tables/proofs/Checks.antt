@@ -3,27 +3,42 @@
 use mathlib.Core.Path.{_≡_, refl}
 use mathlib.Core.Bool.{Bool, true, false, cond, _&&_}
 use mathlib.Core.List.{List, [], _++_}
-use Prim.Native.Nat.{ℕ, _*_, _-_, _≤_, _<_}
+use Prim.Native.Nat.{ℕ, _+_, _*_, _-_, _≤_, _<_}
 use native.Mathlib.Omega.{arith}
 use lib.Dec.{leb, ltb}
 use lib.ListN.{length}
 use borrow.Author.Tests.{le-ltb, lt-ltb, lt-leb, le-leb, ltb-true, leb-true}
-use Rattle.tables.specs.Table.{all, Equation, equationFits, operandFits, shapeFits, kindAt, sortOf, sameSort}
+use Rattle.lists.specs.Number.{numberAt}
+use Rattle.tables.specs.Kind.{kindCount}
+use Rattle.tables.specs.Table.{all, equationAt, equationFits, operandFits, shapeFits, shapeOf, kindOf, kindAt}
+use Rattle.tables.specs.Table.{sortOf, sameSort}
 use Rattle.limits.specs.Limits.{equationLimit}
 use Rattle.tables.specs.Table.{lengthFits, equationsFit, Test, firstFailed}
 use Rattle.tables.specs.Table.{tableTests, checked}
 use Rattle.tables.specs.declared.Sort.the-variants.{Boolean}
-use Rattle.tables.specs.declared.Shape.{Shape}
+use Rattle.tables.specs.declared.Operand.{Operand}
 use Rattle.tables.specs.declared.Checked.{Checked}
 use Rattle.tables.specs.declared.Checked.the-variants.{Passed, Refused}
+use Rattle.tables.proofs.Numbers.{kind-beyond}
 use Rattle.tables.proofs.Tests.{and-true}
 
--- The three numbers of an equation, each tested by its operand's rule.
-pub three-fit : (t : List ℕ) (n i : ℕ) (s : Shape) (e : Equation) (p q r z : Bool)
-    → p ≡ operandFits t n i (s .a) (e .a) → q ≡ operandFits t n i (s .b) (e .b) → r ≡ operandFits t n i (s .c) (e .c)
-    → z ≡ (p && (q && r)) → z ≡ shapeFits t n i s e
+-- Three tests, each by what it decides.
+pub three-fit : {p q r z P Q R : Bool} → p ≡ P → q ≡ Q → r ≡ R → z ≡ (p && (q && r)) → z ≡ (P && (Q && R))
+three-fit ep eq er ez = rw (← ep, ← eq, ← er) ez
+
+-- Equation i, where k is its kind: its three numbers are tested as the row of k asks.
+pub row-fits : (t : List ℕ) (n i k : ℕ) {p q r : Operand} {z : Bool} → numberAt t (4 * i) ≡ k
+    → p ≡ shapeOf (kindOf k) .a → q ≡ shapeOf (kindOf k) .b → r ≡ shapeOf (kindOf k) .c
+    → z ≡ (operandFits t n i p (equationAt t i .a)
+    && (operandFits t n i q (equationAt t i .b) && operandFits t n i r (equationAt t i .c)))
+    → z ≡ equationFits t n i
 unfolding shapeFits
-three-fit t n i s e p q r z ep eq er ez = rw (← ep, ← eq, ← er) ez
+row-fits t n i k e f g h l = rw (e, ← f, ← g, ← h) l
+
+-- An equation whose kind has no row fits nowhere: no number is below 0.
+pub no-row : (t : List ℕ) (n i : ℕ) → kindCount ≤ numberAt t (4 * i) → false ≡ equationFits t n i
+unfolding shapeFits shapeOf operandFits
+no-row t n i h = rw (kind-beyond (numberAt t (4 * i)) h, le-ltb (numberAt t (4 * i + 1)) 0 (omega arith))
 
 -- Where the first test passes, the others decide.
 pub passed-one : (b : Bool) (x : Checked) (r : ℕ) → cond b x (Refused r) ≡ Passed → (b ≡ true) × (x ≡ Passed)

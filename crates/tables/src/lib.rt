@@ -6,7 +6,7 @@ ghost use Prim.Native.Nat.{_*_, _≤_, _<_};
 ghost use lib.ListN.{length};
 ghost use Rattle.tables.specs.Kind.{kindCount};
 ghost use Rattle.tables.specs.Table.{all, kindOf, shapeOf, sortOf, sameSort, isMemory, isFlow, operandFits};
-ghost use Rattle.tables.specs.Table.{equationFits, checked};
+ghost use Rattle.tables.specs.Table.{equationAt, equationFits, checked};
 
 // The sort of a flow.
 pub enum Sort {
@@ -165,30 +165,31 @@ fn shape_at(k: u32) -> Shape
     KINDS[i]
 }
 
-// The row of the kind of that number. In each arm the row is known as the program is compiled.
-fn shape_of(k: u32) -> Shape
-    ensures { λ r. ⌜ r ≡ shapeOf (kindOf k) ⌝ }
+// What A has to be in an equation of kind k.
+fn a(k: u32) -> Operand
+    requires { ⌜ k < kindCount ⌝ }
+    ensures { λ r. ⌜ r ≡ shapeOf (kindOf k) .a ⌝ }
 {
-    match k {
-        SIGNAL => shape_at(SIGNAL),
-        START => shape_at(START),
-        CONSTANT => shape_at(CONSTANT),
-        NOT => shape_at(NOT),
-        AND => shape_at(AND),
-        OR => shape_at(OR),
-        BOOLEAN_PRE => shape_at(BOOLEAN_PRE),
-        COUNT_PRE => shape_at(COUNT_PRE),
-        CAPPED => shape_at(CAPPED),
-        IF => shape_at(IF),
-        COMPARE_LITERAL => shape_at(COMPARE_LITERAL),
-        COMPARE_PARAMETER => shape_at(COMPARE_PARAMETER),
-        _ => Shape {
-            a: Operand::Below(0),
-            b: Operand::Unused,
-            c: Operand::Unused,
-            gives: Sort::Boolean,
-        },
-    }
+    let shape = shape_at(k);
+    shape.a
+}
+
+// What B has to be in an equation of kind k.
+fn b(k: u32) -> Operand
+    requires { ⌜ k < kindCount ⌝ }
+    ensures { λ r. ⌜ r ≡ shapeOf (kindOf k) .b ⌝ }
+{
+    let shape = shape_at(k);
+    shape.b
+}
+
+// What C has to be in an equation of kind k.
+fn c(k: u32) -> Operand
+    requires { ⌜ k < kindCount ⌝ }
+    ensures { λ r. ⌜ r ≡ shapeOf (kindOf k) .c ⌝ }
+{
+    let shape = shape_at(k);
+    shape.c
 }
 
 // Whether the flow of a kind is a count.
@@ -242,19 +243,53 @@ fn all_three(p: bool, q: bool, r: bool) -> bool
     false
 }
 
-// Whether equation i of n keeps the rules of its kind.
-fn equation_fits(table: &[u32], n: usize, i: usize) -> bool
+// Whether A, B and C of equation i of n can be such operands.
+fn operands_fit(table: &[u32], n: usize, i: usize, p: Operand, q: Operand, r: Operand) -> bool
     requires { ⌜ (i < n) × (4 * n ≤ length (now table)) ⌝ }
-    ensures { λ r. ⌜ r ≡ equationFits (now (table .entry)) n i ⌝ }
+    ensures { λ z. ⌜ z ≡ (operandFits (now (table .entry)) n i p (equationAt (now (table .entry)) i .a)
+        && (operandFits (now (table .entry)) n i q (equationAt (now (table .entry)) i .b)
+        && operandFits (now (table .entry)) n i r (equationAt (now (table .entry)) i .c))) ⌝ }
 {
-    let shape = shape_of(table[4 * i]);
-    let p = shape.a;
-    let q = shape.b;
-    let r = shape.c;
     let a = operand_fits(table, n, i, p, table[4 * i + 1]);
     let b = operand_fits(table, n, i, q, table[4 * i + 2]);
     let c = operand_fits(table, n, i, r, table[4 * i + 3]);
     all_three(a, b, c)
+}
+
+// Whether equation i of n keeps the rules of its kind. In each arm the row is known as the program is compiled.
+fn equation_fits(table: &[u32], n: usize, i: usize) -> bool
+    requires { ⌜ (i < n) × (4 * n ≤ length (now table)) ⌝ }
+    ensures { λ r. ⌜ r ≡ equationFits (now (table .entry)) n i ⌝ }
+{
+    match table[4 * i] {
+        SIGNAL => operands_fit(table, n, i, a(SIGNAL), b(SIGNAL), c(SIGNAL)),
+        START => operands_fit(table, n, i, a(START), b(START), c(START)),
+        CONSTANT => operands_fit(table, n, i, a(CONSTANT), b(CONSTANT), c(CONSTANT)),
+        NOT => operands_fit(table, n, i, a(NOT), b(NOT), c(NOT)),
+        AND => operands_fit(table, n, i, a(AND), b(AND), c(AND)),
+        OR => operands_fit(table, n, i, a(OR), b(OR), c(OR)),
+        BOOLEAN_PRE => operands_fit(table, n, i, a(BOOLEAN_PRE), b(BOOLEAN_PRE), c(BOOLEAN_PRE)),
+        COUNT_PRE => operands_fit(table, n, i, a(COUNT_PRE), b(COUNT_PRE), c(COUNT_PRE)),
+        CAPPED => operands_fit(table, n, i, a(CAPPED), b(CAPPED), c(CAPPED)),
+        IF => operands_fit(table, n, i, a(IF), b(IF), c(IF)),
+        COMPARE_LITERAL => operands_fit(
+            table,
+            n,
+            i,
+            a(COMPARE_LITERAL),
+            b(COMPARE_LITERAL),
+            c(COMPARE_LITERAL),
+        ),
+        COMPARE_PARAMETER => operands_fit(
+            table,
+            n,
+            i,
+            a(COMPARE_PARAMETER),
+            b(COMPARE_PARAMETER),
+            c(COMPARE_PARAMETER),
+        ),
+        _ => false,
+    }
 }
 
 // Whether each of the n equations keeps the rules of its kind.
