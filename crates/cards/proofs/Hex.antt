@@ -1,17 +1,16 @@
--- How hexadecimal digits (specs/Ticks.antt) go on at a place of a line, that sixteen of them fit 64 bits, and the table
--- of their values. Assumes nothing.
-use mathlib.Core.Path.{_≡_, refl, _∙_, sym, ap}
+-- How hexadecimal digits (specs/Ticks.antt) go on at a place of a line, that sixteen of them fit 64 bits, and their
+-- values. Assumes nothing.
+use mathlib.Core.Path.{_≡_, refl, _∙_, sym}
 use mathlib.Core.Bool.{Bool, true, false, cond}
-use mathlib.Core.List.{List, [], _∷_}
-use Prim.Native.Nat.{ℕ, zero, suc, _+_, _-_, _*_, _^_, _≤_, _<_}
+use mathlib.Core.List.{List}
+use Prim.Native.Nat.{ℕ, _+_, _-_, _*_, _/_, _%_, _^_, _≤_, _<_}
 use native.Mathlib.Omega.{arith}
 use native.Mathlib.Nat.{pow-suc, pow-le-pow-right}
 use native.Mathlib.Numerals.{add-one}
-use lib.Dec.{eqb, leb}
+use lib.Dec.{eqb}
 use lib.ListN.{length, getD, drop, drop-of-length-le}
 use lib.Seq.{drop-cons}
-use borrow.Author.Tests.{eq-eqb, lt-ltb, le-ltb, le-leb, lt-leb, eqb-true, leb-true}
-use Rattle.lists.specs.Text.{bytes}
+use borrow.Author.Tests.{eq-eqb, lt-ltb, le-ltb, le-leb, lt-leb, eqb-true}
 use Rattle.lists.specs.Decimal.{isDigit}
 use Rattle.cards.specs.Ticks.{hexOf, hexes, tickLine}
 use Rattle.cards.specs.declared.TickLine.{TickLine}
@@ -44,7 +43,7 @@ fits64 k x d z h e =
     let l : 16 ^ k ≤ 16 ^ 15 = pow-le-pow-right (omega arith) z in
     omega (arith, room (16 ^ k) x d h e)
 
--- The bytes below the first digit and above the last,
+-- The bytes below the first digit, above the last, and between 9 and a,
 module _ (b : ℕ) where
   pub hex-low : b < 48 → hexOf b ≡ 16
   unfolding hexOf isDigit
@@ -54,51 +53,19 @@ module _ (b : ℕ) where
   unfolding hexOf isDigit
   hex-high h = rw (le-leb 48 b (omega arith), lt-leb b 57 (omega arith), le-leb 97 b (omega arith), lt-leb b 102 h)
 
--- and those between them: place i of `digits` is for byte 48 + i, and is 48 more than its value.
-abbrev digits : List ℕ
-digits = bytes "0123456789@@@@@@@@@@@@@@@@@@@@@@@@@@@@@@@@@@@@@@@:;<=>?"
+  pub hex-between : 57 < b → b < 97 → hexOf b ≡ 16
+  unfolding hexOf isDigit
+  hex-between h k = rw (le-leb 48 b (omega arith), lt-leb b 57 h, lt-leb 97 b k)
 
--- Each number of ds is 48 more than the value of its byte, the first one's byte being b.
-unfoldable values : List ℕ → ℕ → Bool
-values [] b = true
-values (d ∷ ds) b = cond (eqb d (hexOf b + 48)) (cond (leb d 64) (values ds (suc b)) false) false
+  -- and the others: the low four bits of a digit, nine more for a letter, which has bit 6.
+  pub hex-number : 48 ≤ b → b ≤ 57 → hexOf b ≡ b % 16 + b / 64 * 9
+  unfolding hexOf isDigit
+  hex-number h k = rw (le-leb 48 b h, le-leb b 57 k) (omega arith)
 
-both : (t u : Bool) → cond t u false ≡ true → (t ≡ true) × (u ≡ true)
-both true u e = (refl, e)
-both false u e = (e, cc)
-
--- So is each, by its place.
-abbrev ValueAt : List ℕ → ℕ → ℕ → Type 0
-ValueAt ds b i = (getD ds i 0 ≡ hexOf (b + i) + 48) × (getD ds i 0 ≤ 64)
-
-values-at : (ds : List ℕ) (b i : ℕ) → values ds b ≡ true → i < length ds → ValueAt ds b i
-unfolding values
-values-at [] b i e h = absurd (omega arith)
-values-at (d ∷ ds) b zero e h =
-    let one = both (eqb d (hexOf b + 48)) _ e in
-    let z : b + zero ≡ b = omega arith in
-    (rw z (eqb-true _ _ (one .0)), leb-true _ _ (both (leb d 64) _ (one .1) .0))
-values-at (d ∷ ds) b (suc i) e h =
-    let more = both (leb d 64) _ (both (eqb d (hexOf b + 48)) _ e .1) in
-    let z : b + suc i ≡ suc b + i = omega arith in
-    rw z (values-at ds (suc b) i (more .1) (omega arith))
-
-digits-right : values digits 48 ≡ true
-unfolding values hexOf isDigit
-digits-right = refl
-
-module _ (b : ℕ) (low : 48 ≤ b) (high : b ≤ 102) where
-  right-at : (getD digits (b - 48) 0 ≡ hexOf b + 48) × (getD digits (b - 48) 0 ≤ 64)
-  right-at =
-      let z : 48 + (b - 48) ≡ b = omega arith in
-      let h = values-at digits 48 (b - 48) digits-right (omega arith) in
-      (h .0 ∙ ap (λ (n : ℕ). hexOf n + 48) z, h .1)
-
-  pub digit-at : getD digits (b - 48) 0 ≡ hexOf b + 48
-  digit-at = right-at .0
-
-  pub digit-small : getD digits (b - 48) 0 ≤ 64
-  digit-small = right-at .1
+  pub hex-letter : 97 ≤ b → b ≤ 102 → hexOf b ≡ b % 16 + b / 64 * 9
+  unfolding hexOf isDigit
+  hex-letter h k =
+      rw (le-leb 48 b (omega arith), lt-leb b 57 (omega arith), le-leb 97 b h, le-leb b 102 k) (omega arith)
 
 -- A line that is not broken passes each of its tests.
 module _ {start signals : ℕ} where

@@ -149,10 +149,13 @@ fn hex_digit(b: u8) -> u64
     if b'f' < b {
         return 16;
     }
-    // Byte 48 + v for each value v: `@` for 16.
-    let digits = b"0123456789@@@@@@@@@@@@@@@@@@@@@@@@@@@@@@@@@@@@@@@:;<=>?";
-    let i = (b - b'0') as usize;
-    (digits[i] - b'0') as u64
+    if b'9' < b {
+        if b < b'a' {
+            return 16;
+        }
+    }
+    // The low four bits of a digit, nine more for a letter: bit 6 tells them apart.
+    (b % 16 + b / 64 * 9) as u64
 }
 
 // "`t=` start (0 or 1), comma, 16 lowercase hexadecimal digits whose bit j is signal j"

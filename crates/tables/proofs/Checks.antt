@@ -22,10 +22,6 @@ use Rattle.tables.specs.declared.Checked.the-variants.{Passed, Refused}
 use Rattle.tables.proofs.Numbers.{kind-beyond}
 use Rattle.tables.proofs.Tests.{and-true}
 
--- Three tests, each by what it decides.
-pub three-fit : {p q r z P Q R : Bool} → p ≡ P → q ≡ Q → r ≡ R → z ≡ (p && (q && r)) → z ≡ (P && (Q && R))
-three-fit ep eq er ez = rw (← ep, ← eq, ← er) ez
-
 -- Equation i, where k is its kind: its three numbers are tested as the row of k asks.
 pub row-fits : (t : List ℕ) (n i k : ℕ) {p q r : Operand} {z : Bool} → numberAt t (4 * i) ≡ k
     → p ≡ shapeOf (kindOf k) .a → q ≡ shapeOf (kindOf k) .b → r ≡ shapeOf (kindOf k) .c

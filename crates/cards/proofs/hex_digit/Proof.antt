@@ -1,9 +1,10 @@
--- `cards::hex_digit` meets its contract: a byte below the first digit or above the last, or one that the table has.
--- Assumes nothing.
+-- `cards::hex_digit` meets its contract: a byte below the first digit, above the last or between 9 and a, or a digit or
+-- a letter, whose value comes from its bits. Assumes nothing.
 use mathlib.Core.Path.{sym}
+use mathlib.Core.Logic.{inl, inr}
 use borrow.Author.Needs.{needs}
 use native.Mathlib.Omega.{arith}
-use Rattle.cards.proofs.Hex.{hex-low, hex-high, digit-at, digit-small}
+use Rattle.cards.proofs.Hex.{hex-low, hex-high, hex-between, hex-number, hex-letter}
 use Rattle.cards.proofs.hex_digit.Statement.{statement}
 use Rattle.cards.proofs.hex_digit.Tie as tie
 
@@ -13,22 +14,20 @@ below c = sym (hex-low (c .before .args .b) (c .if1 .taken))
 above : tie.Need-returns-2
 above c = sym (hex-high (c .before .before .args .b) (c .if2 .taken))
 
-sub-result : tie.Need-sub-result
-sub-result c =
+between : tie.Need-returns-3
+between c =
     let b = c .before .before .before .before .args .b in
-    omega (arith, digit-at b (omega arith) (omega arith))
+    sym (hex-between b (c .before .if3 .taken) (c .if4 .taken))
 
-cast-result : tie.Need-cast-result
-cast-result c =
-    let b = c .before .before .before .before .args .b in
-    omega (arith, digit-small b (omega arith) (omega arith))
-
-in-table : tie.Need-returns-3
-in-table c =
-    let b = c .before .before .before .before .args .b in
-    omega (arith, digit-at b (omega arith) (omega arith))
+of-bits : tie.Need-returns-4
+of-bits c =
+    let b = c .before .before .before .args .b in
+    elim (c .if3 .came) [
+      | inl letter ↦ sym (hex-letter b (letter .1 .left) (c .before .if2 .left))
+      | inr digit ↦ sym (hex-number b (c .before .before .if1 .left) (digit .left))
+    ]
 
 pub hex-digit-spec : {M : Type 1} → statement M
 hex-digit-spec =
     tie.close
-    (tie.spec below above (λ c. search needs) (λ c. search needs) sub-result cast-result in-table)
+    (tie.spec below above between (λ c. omega arith) (λ c. omega arith) (λ c. omega arith) of-bits)

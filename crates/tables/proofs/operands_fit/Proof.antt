@@ -1,5 +1,4 @@
 -- `tables::operands_fit` meets its contract: the tests of the three operands. Assumes nothing.
-use Rattle.tables.proofs.Checks.{three-fit}
 use borrow.Author.Needs.{needs}
 use Rattle.tables.proofs.operands_fit.Statement.{statement}
 use Rattle.tables.proofs.operands_fit.Tie as tie
@@ -16,7 +15,7 @@ returns c =
     let third = c .before .operand-fits3 in
     let second = second-at c .operand-fits2 in
     let first = first-at c .operand-fits in
-    three-fit (first .ensures) (second .ensures) (third .ensures) (c .all-three .ensures)
+    rw (← first .ensures, ← second .ensures, ← third .ensures) (c .all-three .ensures)
 
 pub operands-fit-spec : {M : Type 1} → statement M
 operands-fit-spec =
