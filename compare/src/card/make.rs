@@ -61,7 +61,7 @@ fn joined(lines: &[Vec<u8>]) -> Vec<u8> {
 
 /// Changes, removes or adds a byte of a line.
 fn touch(random: &mut Random, line: &mut Vec<u8>) {
-    const BYTES: &[u8] = b"0123456789abcdefgks=,t \n\r\x00\xff";
+    const BYTES: &[u8] = b"0123456789abcdefgks=,t` \n\r\x00\xff";
     if line.is_empty() {
         return;
     }

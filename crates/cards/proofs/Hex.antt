@@ -11,8 +11,9 @@ use lib.Dec.{eqb}
 use lib.ListN.{length, getD, drop, drop-of-length-le}
 use lib.Seq.{drop-cons}
 use borrow.Author.Tests.{eq-eqb, lt-ltb, le-ltb, le-leb, lt-leb, eqb-true}
-use Rattle.lists.specs.Decimal.{isDigit}
-use Rattle.cards.specs.Ticks.{hexOf, hexes, tickLine}
+use Rattle.lists.specs.Text.{byte}
+use Rattle.lists.specs.Decimal.{isDigit, digitValue}
+use Rattle.cards.specs.Ticks.{hexOf, hexes, tickLength, tickLine}
 use Rattle.cards.specs.declared.TickLine.{TickLine}
 use Rattle.cards.specs.declared.TickLine.the-variants.{Is, Broken}
 
@@ -45,27 +46,30 @@ fits64 k x d z h e =
 
 -- The bytes below the first digit, above the last, and between 9 and a,
 module _ (b : ℕ) where
-  pub hex-low : b < 48 → hexOf b ≡ 16
+  pub hex-low : b < byte "0" → hexOf b ≡ 16
   unfolding hexOf isDigit
-  hex-low h = rw (lt-leb 48 b h, lt-leb 97 b (omega arith))
+  hex-low h = rw (lt-leb (byte "0") b h, lt-leb (byte "a") b (omega arith))
 
-  pub hex-high : 102 < b → hexOf b ≡ 16
+  pub hex-high : byte "f" < b → hexOf b ≡ 16
   unfolding hexOf isDigit
-  hex-high h = rw (le-leb 48 b (omega arith), lt-leb b 57 (omega arith), le-leb 97 b (omega arith), lt-leb b 102 h)
+  hex-high h =
+      rw (le-leb (byte "0") b (omega arith), lt-leb b (byte "9") (omega arith))
+      (rw (le-leb (byte "a") b (omega arith), lt-leb b (byte "f") h))
 
-  pub hex-between : 57 < b → b < 97 → hexOf b ≡ 16
+  pub hex-between : byte "9" < b → b < byte "a" → hexOf b ≡ 16
   unfolding hexOf isDigit
-  hex-between h k = rw (le-leb 48 b (omega arith), lt-leb b 57 h, lt-leb 97 b k)
+  hex-between h k = rw (le-leb (byte "0") b (omega arith), lt-leb b (byte "9") h, lt-leb (byte "a") b k)
 
   -- and the others: the low four bits of a digit, nine more for a letter, which has bit 6.
-  pub hex-number : 48 ≤ b → b ≤ 57 → hexOf b ≡ b % 16 + b / 64 * 9
+  pub hex-decimal : byte "0" ≤ b → b ≤ byte "9" → hexOf b ≡ b % 16 + b / 64 * 9
   unfolding hexOf isDigit
-  hex-number h k = rw (le-leb 48 b h, le-leb b 57 k) (omega arith)
+  hex-decimal h k = rw (le-leb (byte "0") b h, le-leb b (byte "9") k) (omega arith)
 
-  pub hex-letter : 97 ≤ b → b ≤ 102 → hexOf b ≡ b % 16 + b / 64 * 9
+  pub hex-letter : byte "a" ≤ b → b ≤ byte "f" → hexOf b ≡ b % 16 + b / 64 * 9
   unfolding hexOf isDigit
   hex-letter h k =
-      rw (le-leb 48 b (omega arith), lt-leb b 57 (omega arith), le-leb 97 b h, le-leb b 102 k) (omega arith)
+      rw (le-leb (byte "0") b (omega arith), lt-leb b (byte "9") (omega arith))
+      (rw (le-leb (byte "a") b h, le-leb b (byte "f") k) (omega arith))
 
 -- A line that is not broken passes each of its tests.
 module _ {start signals : ℕ} where
@@ -78,35 +82,36 @@ module _ {start signals : ℕ} where
   not-failed true e = (cc, cc)
   not-failed false e = (refl, e)
 
-pub tick-length : (l : List ℕ) (start signals : ℕ) → tickLine l ≡ Is start signals → length l ≡ 20
+pub tick-length : (l : List ℕ) (start signals : ℕ) → tickLine l ≡ Is start signals → length l ≡ tickLength
 unfolding tickLine
-tick-length l start signals e = eqb-true _ _ (passed (eqb (length l) 20) e .0)
+tick-length l start signals e = eqb-true _ _ (passed (eqb (length l) tickLength) e .0)
 
 -- A line that is well made up to its digits.
-pub tick-digits : (s : List ℕ) → length s ≡ 20 → getD s 0 0 ≡ 116 → getD s 1 0 ≡ 61 → getD s 3 0 ≡ 44
-    → 48 ≤ getD s 2 0 → getD s 2 0 ≤ 49 → hexes (getD s 2 0 - 48) 0 (drop 4 s) ≡ tickLine s
+pub tick-digits : (s : List ℕ) → length s ≡ tickLength → getD s 0 0 ≡ byte "t" → getD s 1 0 ≡ byte "="
+    → getD s 3 0 ≡ byte "," → byte "0" ≤ getD s 2 0 → getD s 2 0 ≤ byte "1"
+    → hexes (digitValue (getD s 2 0)) 0 (drop 4 s) ≡ tickLine s
 unfolding tickLine
 tick-digits s l a b c lo hi =
     rw (eq-eqb _ _ l, eq-eqb _ _ a, eq-eqb _ _ b, eq-eqb _ _ c, le-ltb _ _ lo, le-ltb _ _ hi)
 
 -- The loop of `tick_line`: the digits from place i on, after those that made x, read as the line does.
 pub record Hexing (s : List ℕ) (b x i : ℕ) : Type 0 where
-  pub rest : hexes (b - 48) x (drop i s) ≡ tickLine s
+  pub rest : hexes (digitValue b) x (drop i s) ≡ tickLine s
   pub low : 4 ≤ i
-  pub high : i ≤ 20
-  pub twenty : length s ≡ 20
+  pub high : i ≤ tickLength
+  pub whole : length s ≡ tickLength
   pub below : x < 16 ^ (i - 4)
 
 module _ {s : List ℕ} {b x i : ℕ} (k : Hexing s b x i) where
-  pub hexing-end : 20 ≤ i → Is (b - 48) x ≡ tickLine s
-  hexing-end h = sym (hexes-end s i (b - 48) x (omega (arith, k .twenty))) ∙ k .rest
+  pub hexing-end : tickLength ≤ i → Is (digitValue b) x ≡ tickLine s
+  hexing-end h = sym (hexes-end s i (digitValue b) x (omega (arith, k .whole))) ∙ k .rest
 
-  module _ (h : i < 20) {d : ℕ} (q : d ≡ hexOf (getD s i 0)) where
+  module _ (h : i < tickLength) {d : ℕ} (q : d ≡ hexOf (getD s i 0)) where
     there : i < length s
-    there = omega (arith, k .twenty)
+    there = omega (arith, k .whole)
 
     pub hexing-bad : 15 < d → Broken ≡ tickLine s
-    hexing-bad g = sym (hexes-bad s i (b - 48) x there (rw (← q) g)) ∙ k .rest
+    hexing-bad g = sym (hexes-bad s i (digitValue b) x there (rw (← q) g)) ∙ k .rest
 
     pub hexing-fits : d ≤ 15 → x * 16 + d < 18446744073709551616
     hexing-fits g = fits64 (i - 4) x d (omega (arith, k .low)) (k .below) g
@@ -115,9 +120,9 @@ module _ {s : List ℕ} {b x i : ℕ} (k : Hexing s b x i) where
     hexing-more g =
         let z : i + 1 - 4 ≡ i - 4 + 1 = omega (arith, k .low) in
         record {
-          rest = rw q (sym (hexes-more s i (b - 48) x there (rw (← q) g)) ∙ k .rest);
+          rest = rw q (sym (hexes-more s i (digitValue b) x there (rw (← q) g)) ∙ k .rest);
           low = omega (arith, k .low);
           high = omega arith;
-          twenty = k .twenty;
+          whole = k .whole;
           below = rw z (grows (i - 4) x d (k .below) g);
         }

@@ -9,7 +9,7 @@ use lib.Dec.{eqb}
 use lib.ListN.{length, getD, set, take, drop, length-set, drop-of-length-le}
 use lib.Seq.{drop-cons, take-suc-set, set-split}
 use borrow.Author.Tests.{eq-eqb, ne-eqb}
-use Rattle.limits.specs.Limits.{literalCount, parameterCount}
+use Rattle.limits.specs.Limits.{lastLiteral, parameterCount}
 use Rattle.cards.specs.Heads.{parametersHead}
 use Rattle.lists.specs.Decimal.{DecimalAt}
 use Rattle.lists.specs.declared.Decimal.{Decimal}
@@ -103,7 +103,7 @@ module _ {w s : List ℕ} {k : ℕ} (m : Matching w s k) where
   match-more h g e = record { rest = sym (prefix-more w s k h g e) ∙ m .rest; within = omega arith }
 
 -- What the decimal reader answers.
-module _ {s : List ℕ} {at : ℕ} {r : Decimal} (h : DecimalAt s at (literalCount - 1) r) where
+module _ {s : List ℕ} {at : ℕ} {r : Decimal} (h : DecimalAt s at lastLiteral r) where
   pub number-is : {v n : ℕ} → r ≡ D.Is v n → ReadsAs (N.Is v n) s (number (drop at s))
   unfolding number
   number-is e = record { means = sym (ap parsed (is-of h e)); within = is-next h e }

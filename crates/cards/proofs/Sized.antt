@@ -7,7 +7,7 @@ use native.Mathlib.Omega.{arith}
 use lib.Dec.{leb, eqb}
 use lib.ListN.{length, getD, length-drop}
 use borrow.Author.Tests.{leb-true, eqb-false}
-use Rattle.limits.specs.Limits.{literalCount, lineLimit}
+use Rattle.limits.specs.Limits.{literalCount, lastLiteral, lineLimit}
 use Rattle.cards.specs.Heads.{parametersHead, countHead, afterHead}
 use Rattle.lists.specs.Decimal.{Numeral, isDigit, settled, digitsAfter, numeral}
 use Rattle.lists.specs.Decimal.Numeral.{is, above, missing}
@@ -37,14 +37,14 @@ abbrev Small : Parsed → Type 0
 Small (done v r) = v < literalCount
 Small none = Unit {0}
 
-parsed-small : (l : List ℕ) (n : Numeral) → numeral (literalCount - 1) l ≡ n → Small (parsed n)
-parsed-small l (is v r) e = omega (arith, is-bounded (literalCount - 1) l e)
+parsed-small : (l : List ℕ) (n : Numeral) → numeral lastLiteral l ≡ n → Small (parsed n)
+parsed-small l (is v r) e = omega (arith, is-bounded lastLiteral l e)
 parsed-small l (above r) e = tt
 parsed-small l missing e = tt
 
 number-small : (l : List ℕ) → Small (number l)
 unfolding number
-number-small l = parsed-small l (numeral (literalCount - 1) l) refl
+number-small l = parsed-small l (numeral lastLiteral l) refl
 
 -- So all numbers of a list that was read are.
 abbrev AllLow : Listed → Type 0
@@ -144,16 +144,16 @@ least-step (suc (suc (suc (suc (suc zero))))) = omega arith
 least-step (suc (suc (suc (suc (suc (suc k)))))) = omega arith
 
 -- The digits end here: the number is read, or it is too large.
-settled-spends : (m v : ℕ) (l r : List ℕ) → length l ≤ m + length r → Spends m l (settled (literalCount - 1) v r)
-settled-spends m v l r h = chosen (Spends m l) (leb v (literalCount - 1)) (λ _. h) (λ _. tt)
+settled-spends : (m v : ℕ) (l r : List ℕ) → length l ≤ m + length r → Spends m l (settled lastLiteral v r)
+settled-spends m v l r h = chosen (Spends m l) (leb v lastLiteral) (λ _. h) (λ _. tt)
 
-large-settled : (m v : ℕ) (l r : List ℕ) → literalCount ≤ v → Spends m l (settled (literalCount - 1) v r)
+large-settled : (m v : ℕ) (l r : List ℕ) → literalCount ≤ v → Spends m l (settled lastLiteral v r)
 large-settled m v l r h =
-    chosen (Spends m l) (leb v (literalCount - 1))
-    (λ e. absurd (omega (arith, leb-true v (literalCount - 1) e))) (λ _. tt)
+    chosen (Spends m l) (leb v lastLiteral)
+    (λ e. absurd (omega (arith, leb-true v lastLiteral e))) (λ _. tt)
 
 -- A number that is too large is none, whatever digits follow.
-large-spends : (r : List ℕ) (m v : ℕ) (l : List ℕ) → literalCount ≤ v → Spends m l (digitsAfter (literalCount - 1) v r)
+large-spends : (r : List ℕ) (m v : ℕ) (l : List ℕ) → literalCount ≤ v → Spends m l (digitsAfter lastLiteral v r)
 unfolding digitsAfter
 large-spends [] m v l h = large-settled m v l [] h
 large-spends (b ∷ r) m v l h =
@@ -161,13 +161,13 @@ large-spends (b ∷ r) m v l h =
     (λ _. large-settled m v l (b ∷ r) h)
 
 digit-spends : (k b v : ℕ) (l : List ℕ) → least k ≤ v
-    → ((m : ℕ) → least m ≤ v * 10 + (b - 48) → Spends m l (digitsAfter (literalCount - 1) (v * 10 + (b - 48)) l))
-    → Spends k (b ∷ l) (digitsAfter (literalCount - 1) (v * 10 + (b - 48)) l)
+    → ((m : ℕ) → least m ≤ v * 10 + (b - 48) → Spends m l (digitsAfter lastLiteral (v * 10 + (b - 48)) l))
+    → Spends k (b ∷ l) (digitsAfter lastLiteral (v * 10 + (b - 48)) l)
 digit-spends zero b v l h ih = large-spends l zero (v * 10 + (b - 48)) (b ∷ l) (omega arith)
 digit-spends (suc k) b v l h ih =
-    one-more k b l (digitsAfter (literalCount - 1) (v * 10 + (b - 48)) l) (ih k (omega (arith, h, least-step k)))
+    one-more k b l (digitsAfter lastLiteral (v * 10 + (b - 48)) l) (ih k (omega (arith, h, least-step k)))
 
-digits-spend : (l : List ℕ) (k v : ℕ) → least k ≤ v → Spends k l (digitsAfter (literalCount - 1) v l)
+digits-spend : (l : List ℕ) (k v : ℕ) → least k ≤ v → Spends k l (digitsAfter lastLiteral v l)
 unfolding digitsAfter
 digits-spend [] k v h = settled-spends k v [] [] (omega arith)
 digits-spend (b ∷ l) k v h =
@@ -181,7 +181,7 @@ number-takes [] = tt
 number-takes (b ∷ l) =
     chosen (Spends 7 (b ∷ l)) (eqb b 48) (λ _. omega arith)
     (λ z. chosen (Spends 7 (b ∷ l)) (isDigit b)
-    (λ d. one-more 6 b l (digitsAfter (literalCount - 1) (b - 48) l)
+    (λ d. one-more 6 b l (digitsAfter lastLiteral (b - 48) l)
     (digits-spend l 6 (b - 48) (omega (arith, eqb-false b 48 z, digit-range b d)))) (λ _. tt))
 
 -- A list of numbers that was read has at most m bytes.

@@ -1,4 +1,4 @@
--- Laws of the check: when the tests of a table pass, and which one fails first.
+-- Laws of the check: when an equation fits by its kind's row, when the tests of a table pass, and which fails first.
 -- Assumes nothing.
 use mathlib.Core.Path.{_≡_, refl}
 use mathlib.Core.Bool.{Bool, true, false, cond, _&&_}

@@ -244,16 +244,16 @@ fn all_three(p: bool, q: bool, r: bool) -> bool
 }
 
 // Whether A, B and C of equation i of n can be such operands.
-fn operands_fit(table: &[u32], n: usize, i: usize, p: Operand, q: Operand, r: Operand) -> bool
+fn operands_fit(table: &[u32], n: usize, i: usize, a: Operand, b: Operand, c: Operand) -> bool
     requires { ⌜ (i < n) × (4 * n ≤ length (now table)) ⌝ }
-    ensures { λ z. ⌜ z ≡ (operandFits (now (table .entry)) n i p (equationAt (now (table .entry)) i .a)
-        && (operandFits (now (table .entry)) n i q (equationAt (now (table .entry)) i .b)
-        && operandFits (now (table .entry)) n i r (equationAt (now (table .entry)) i .c))) ⌝ }
+    ensures { λ r. ⌜ r ≡ (operandFits (now (table .entry)) n i a (equationAt (now (table .entry)) i .a)
+        && (operandFits (now (table .entry)) n i b (equationAt (now (table .entry)) i .b)
+        && operandFits (now (table .entry)) n i c (equationAt (now (table .entry)) i .c))) ⌝ }
 {
-    let a = operand_fits(table, n, i, p, table[4 * i + 1]);
-    let b = operand_fits(table, n, i, q, table[4 * i + 2]);
-    let c = operand_fits(table, n, i, r, table[4 * i + 3]);
-    all_three(a, b, c)
+    let first = operand_fits(table, n, i, a, table[4 * i + 1]);
+    let second = operand_fits(table, n, i, b, table[4 * i + 2]);
+    let third = operand_fits(table, n, i, c, table[4 * i + 3]);
+    all_three(first, second, third)
 }
 
 // Whether equation i of n keeps the rules of its kind. In each arm the row is known as the program is compiled.

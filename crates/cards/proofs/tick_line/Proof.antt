@@ -92,7 +92,7 @@ loop-holds c =
           (c .if6 .left);
       low = omega arith;
       high = omega arith;
-      twenty = length;
+      whole = length;
       below = omega arith;
     }
 
@@ -136,7 +136,7 @@ tick-line-spec =
     start-below
     start-above
     loop-holds
-    (λ c. omega (arith, c .before .before .loop .inv .twenty))
+    (λ c. omega (arith, c .before .before .loop .inv .whole))
     (λ c κs. search needs)
     no-digit
     mul-x
