@@ -3,11 +3,10 @@
 -- of any table (flows). Over a number m of signals that is left open (scheme, proofs/Parts.antt). Assumes nothing.
 use mathlib.Core.Bool.{true}
 use mathlib.Core.List.{List, _++_}
-use mathlib.Core.Path.{_≡_, sym, ap, _∙_}
+use mathlib.Core.Path.{_≡_, sym, ap, _∙_, subst}
 use Prim.Native.Nat.{ℕ, _-_, _≤_, _<_}
 use native.Mathlib.Omega.{arith}
 use lib.ListN.{length}
-use borrow.Author.Tests.{le-leb}
 use Rattle.traces.specs.declared.Tick.{Tick}
 use Rattle.traces.specs.Trace.{Trace, tickOf, truth}
 use Rattle.formulas.specs.Formula.{Formula}
@@ -17,29 +16,21 @@ use Rattle.formulas.specs.Bounds.{bounded}
 use Rattle.formulas.specs.Raw.{raw}
 use Rattle.limits.specs.Limits.{equationLimit, literalCount, signalCount}
 use Rattle.tables.specs.Table.{checked}
-use Rattle.flows.specs.Flow.{freshState}
-use Rattle.flows.specs.Step.{AfterFresh, afterFresh, freshChecked, freshened}
-use Rattle.flows.specs.Run.{Call, flowAt, verdictAt, answers, ticks, expected}
+use Rattle.flows.specs.Step.{AfterStep, afterTick}
+use Rattle.flows.specs.Run.{Call, Taken, fromFresh, answered, ticks, EachTick}
 use Rattle.flows.specs.Lustre.{Lustre}
 use Rattle.tables.specs.declared.Checked.the-variants.{Passed}
-use Rattle.flows.specs.declared.Fresh.the-variants.{Made}
-use Rattle.tables.proofs.Checks.{passed-both}
-use Rattle.flows.proofs.Runs.{lustre, calls}
+use Rattle.flows.specs.declared.Stepped.the-variants.{Verdict}
+use Rattle.flows.proofs.Runs.{flowAt, verdictAt, lustre}
+use Rattle.flows.proofs.Lists.{each-map, Ran, ran}
+use Rattle.flows.proofs.Expected.{admitted, expected, decided-ticks, each-expected}
 use Rattle.scheme.specs.Emit.{namedBy, numbersOf}
-use Rattle.agreement.specs.Agreement.{SameParameters, traceOfTicks}
+use Rattle.agreement.specs.Agreement.{SameParameters, traceOfTicks, Means, Observes}
 use Rattle.scheme.proofs.Parts.{observerOver}
 use Rattle.scheme.proofs.Formed.{formed-over, last-over, last-boolean}
 use Rattle.scheme.proofs.Local.{on, boolean-number}
 use Rattle.agreement.proofs.Verdicts.{verdict-over}
-use Rattle.agreement.proofs.Calls.{Small, same-at, same-answers}
-
--- Where a table passes its check and there is room, the fresh state is made.
-pub made : (t : List ℕ) (n : ℕ) (old : List ℕ) → checked t n ≡ Passed → n ≤ length old
-    → freshened t n old ≡ afterFresh Made (freshState t n old)
-unfolding freshened freshChecked
-made t n old passed room =
-    let both = passed-both t n passed in
-    rw (both .0, both .1, le-leb n (length old) room)
+use Rattle.agreement.proofs.Calls.{Small, same-at, admitted-small}
 
 module _ (cap : ℕ) (low : cap ≤ literalCount) (m : ℕ) (few : m ≤ signalCount) (f : Formula)
     (led : leads (raw f) ≡ true) (bound : bounded cap (raw f) ≡ true)
@@ -69,14 +60,33 @@ module _ (cap : ℕ) (low : cap ≤ literalCount) (m : ℕ) (few : m ≤ signalC
         (λ i j. same-at same i ∙ sym (same-at same j)) (λ k j h. rw (same-at same k) (small j h))
         m f led bound below junk run e
 
-    -- and so the answers to any list of calls are.
-    pub answered : (xs : List Call) → SameParameters ps (ticks cap n xs)
-        → answers cap t n (freshened t n old .state) xs
-        ≡ expected cap n (verdict (traceOfTicks ps (ticks cap n xs)) f) 0 xs
-    answered xs same =
-        let beyond : Tick = tickOf 0 0 ps in
-        let trace : Trace = traceOfTicks ps (ticks cap n xs) in
-        ap (λ (y : AfterFresh). answers cap t n (y .state) xs) (made t n old passes room)
-        ∙ calls cap t n passes old room beyond xs
-        ∙ same-answers cap n ps (verdictAt cap t n old trace) (verdict trace f) (verdicts (ticks cap n xs) same)
-        xs 0 same
+    -- and so the answer of each tick's step is, over any list of calls.
+    module _ (ks : List Tick) (same : SameParameters ps ks) where
+      tick-means : (k : ℕ) (s : Taken) → Ran cap t n passes old room (traceOfTicks ps ks) k s
+          → Means f (traceOfTicks ps ks) k s
+      unfolding afterTick flowAt
+      tick-means k s r =
+          let here : s .call .tick .parameters ≡ ps = ap (λ (x : Tick). x .parameters) (sym (r .now)) ∙ same-at same k in
+          let small = admitted-small cap n (s .call .values) (s .call .tick) (r .admitted) in
+          ap (λ (z : AfterStep). z .answer) (r .left)
+          ∙ ap Verdict (verdicts ks same (subst (Small cap) here small) k)
+
+  pub answers-mean : (old : List ℕ) → n ≤ length old → (calls : List Call) (ps : List ℕ)
+      → SameParameters ps (ticks (fromFresh cap t n old calls))
+      → EachTick (Means f (traceOfTicks ps (ticks (fromFresh cap t n old calls)))) 0 (fromFresh cap t n old calls)
+  answers-mean old room calls ps same =
+      each-map (tick-means old room ps (ticks (fromFresh cap t n old calls)) same)
+      (ran cap t n passes old room calls (tickOf 0 0 ps))
+
+-- The answers as a list, of any table that observes a formula.
+pub answers-are : {cap : ℕ} {t : List ℕ} {n : ℕ} {f : Formula} {m : ℕ} → Observes cap t n f m
+    → (old : List ℕ) → n ≤ length old → (calls : List Call) (ps : List ℕ) → SameParameters ps (admitted cap n calls)
+    → answered (fromFresh cap t n old calls)
+    ≡ expected cap n (verdict (traceOfTicks ps (admitted cap n calls)) f) 0 calls
+answers-are {cap} {t} {n} {f} o old room calls ps same =
+    let ss = fromFresh cap t n old calls in
+    let decides = o .decides old room calls in
+    let ks : ticks ss ≡ admitted cap n calls = decided-ticks cap t n calls _ decides in
+    each-expected cap n (verdict (traceOfTicks ps (admitted cap n calls)) f) calls ss 0 decides
+    (subst (λ (l : List Tick). EachTick (Means f (traceOfTicks ps l)) 0 ss) ks
+    (o .agrees old room calls ps (subst (SameParameters ps) (sym ks) same)))

@@ -17,10 +17,11 @@ use Rattle.flows.specs.Step.{AfterFresh}
 use Rattle.tables.specs.declared.Checked.the-variants.{Passed}
 use Rattle.scheme.specs.Emit.{namedBy, observer, numbersOf}
 use Rattle.agreement.specs.Agreement.{Observes}
+use Rattle.flows.proofs.Lists.{made, calls-decide}
 use Rattle.scheme.proofs.Header.{names-below}
 use Rattle.scheme.proofs.Sizes.{observer-size}
 use Rattle.scheme.proofs.Memories.{memories-few}
-use Rattle.agreement.proofs.Answers.{made, passes, answered}
+use Rattle.agreement.proofs.Answers.{passes, answers-mean}
 
 -- For every cap up to a million, every formula f whose `then`s have leads on their left, whose signals, parameters and
 -- literals are in range, and whose tree has no more records than reading makes, and whatever numbers stand after its
@@ -32,7 +33,8 @@ observes cap low f led bound size junk =
     record {
       formed = formed;
       fresh = λ old room. ap (λ (y : AfterFresh). y .answer) (made t n old formed room);
-      agrees = answered cap low signalCount few f led bound below junk short;
+      agrees = answers-mean cap low signalCount few f led bound below junk short;
+      decides = λ old room calls. calls-decide cap t n formed old room calls;
       few = memories-few f junk;
     }
   where

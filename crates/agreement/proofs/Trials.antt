@@ -18,14 +18,14 @@ use Rattle.limits.specs.Limits.{arenaLimit, standardCap}
 use Rattle.flows.specs.Flow.{increased, valueOf, flows, memoriesSet, initial, inRange}
 use Rattle.tables.specs.Table.{isMemory}
 use Rattle.flows.specs.Step.{parameterFits, cellFits, freshChecked, stepChecked, freshened, afterTick, stepped}
-use Rattle.flows.specs.Run.{answers}
+use Rattle.flows.specs.Run.{steps}
 use Rattle.flows.specs.declared.Stepped.the-variants.{Verdict}
 use Rattle.agreement.specs.Trials.{ran}
 
 pub trials-ran : map ran trials ≡ map (λ (r : Trial). map Verdict (r .verdicts)) trials
 unfolding all kindOf shapeOf sameSort isFlow operandFits shapeFits lengthFits equationsFit
     increased valueOf flows isMemory memoriesSet initial inRange
-    parameterFits cellFits freshChecked stepChecked freshened afterTick stepped answers
+    parameterFits cellFits freshChecked stepChecked freshened afterTick stepped steps
 trials-ran = refl
 
 -- What Theorem asks of a formula.

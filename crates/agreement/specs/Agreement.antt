@@ -9,10 +9,11 @@ use Rattle.traces.specs.Trace.{Trace, traceOf, tickOf}
 use Rattle.formulas.specs.Formula.{Formula}
 use Rattle.formulas.specs.Meaning.{verdict}
 use Rattle.tables.specs.Table.{checked}
-use Rattle.flows.specs.Step.{freshened}
-use Rattle.flows.specs.Run.{Call, answers, ticks, expected}
+use Rattle.flows.specs.Step.{AfterFresh, freshened, AfterStep}
+use Rattle.flows.specs.Run.{Call, Taken, fromFresh, ticks, EachTick, CallsDecide}
 use Rattle.tables.specs.declared.Checked.the-variants.{Passed}
 use Rattle.flows.specs.declared.Fresh.the-variants.{Made}
+use Rattle.flows.specs.declared.Stepped.the-variants.{Verdict}
 use Rattle.tables.specs.Table.{memories}
 
 -- "only the eight parameters are the same at all steps that are not refused"
@@ -24,18 +25,22 @@ pub data SameParameters (ps : List ℕ) : List Tick → Type 0 where
 abbrev pub traceOfTicks : List ℕ → List Tick → Trace
 traceOfTicks ps ks = traceOf (tickOf 0 0 ps) ks
 
+-- The step of the tick numbered k answers the verdict that the meaning of f has there.
+abbrev pub Means : Formula → Trace → ℕ → Taken → Type 0
+Means f trace k s = s .left .answer ≡ Verdict (verdict trace f k)
+
 -- The n equations of the table are an observer of the formula f, which has that many nodes.
 pub record Observes (cap : ℕ) (t : List ℕ) (n : ℕ) (f : Formula) (nodes : ℕ) : Type 0 where
   -- "Making the fresh state refuses a compiled table by neither 10 nor 11"
   pub formed : checked t n ≡ Passed
   pub fresh : (old : List ℕ) → n ≤ length old → freshened t n old .answer ≡ Made
   -- "At every tick of the list the step's verdict is 1 if the rule holds on b to e and 0 if it doesn't; before the
-  -- first start it is 1. This is a single statement about the list": from the fresh state over any old cells, every
-  -- list of calls, refused ones included, is answered as `expected`, where "the calls alone decide which steps are
-  -- refused".
-  pub agrees : (old : List ℕ) → n ≤ length old → (ps : List ℕ) (calls : List Call)
-      → SameParameters ps (ticks cap n calls)
-      → answers cap t n (freshened t n old .state) calls
-      ≡ expected cap n (verdict (traceOfTicks ps (ticks cap n calls)) f) 0 calls
+  -- first start it is 1. This is a single statement about the list": from the fresh state over any old cells, over
+  -- every list of calls, refused ones included, if the ticks have the same parameters.
+  pub agrees : (old : List ℕ) → n ≤ length old → (calls : List Call) (ps : List ℕ)
+      → SameParameters ps (ticks (fromFresh cap t n old calls))
+      → EachTick (Means f (traceOfTicks ps (ticks (fromFresh cap t n old calls)))) 0 (fromFresh cap t n old calls)
+  pub decides : (old : List ℕ) → n ≤ length old → (calls : List Call)
+      → CallsDecide cap n calls (fromFresh cap t n old calls)
   -- "The number of memories in the table is at most two for each node that reading the rule counts and one more"
   pub few : memories t n ≤ 2 * nodes + 1

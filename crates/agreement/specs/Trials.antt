@@ -6,16 +6,14 @@ use lib.ListN.{length, replicate}
 use Rattle.limits.specs.Limits.{standardCap}
 use Rattle.traces.specs.declared.Tick.{Tick}
 use Rattle.formulas.specs.Trials.{Trial, ticksIn}
-use Rattle.flows.specs.Step.{freshened}
-use Rattle.flows.specs.Run.{answers}
+use Rattle.flows.specs.Run.{fromFresh, answered}
 use Rattle.flows.specs.declared.Stepped.{Stepped}
 use Rattle.scheme.specs.Emit.{observer, numbersOf}
 
 -- What the n equations of the table answer at the ticks, from the fresh state over cells that are all 7.
-abbrev pub answered : List ℕ → ℕ → List Tick → List Stepped
-answered t n ks =
-    answers standardCap t n (freshened t n (replicate n 7) .state)
-    (map (λ k. record { tick = k; values = replicate n 7 }) ks)
+abbrev pub answersAt : List ℕ → ℕ → List Tick → List Stepped
+answersAt t n ks =
+    answered (fromFresh standardCap t n (replicate n 7) (map (λ k. record { tick = k; values = replicate n 7 }) ks))
 
 abbrev pub ran : Trial → List Stepped
-ran r = answered (numbersOf (observer (r .formula))) (length (observer (r .formula))) (ticksIn r)
+ran r = answersAt (numbersOf (observer (r .formula))) (length (observer (r .formula))) (ticksIn r)

@@ -1,6 +1,6 @@
 -- Compiled and loaded tables have at most 4,096 equations, and a table's text is short: C's answer has room for each
 -- number. Assumes nothing.
-use mathlib.Core.List.{List}
+use mathlib.Core.List.{List, []}
 use mathlib.Core.Path.{_≡_, sym, ap}
 use Prim.Native.Nat.{ℕ, _<_}
 use lib.ListN.{getD}
@@ -15,12 +15,12 @@ use Rattle.lustre.proofs.Sizes.{written-few}
 use Rattle.observers.specs.Demand.{Compiles}
 use Rattle.observers.specs.Demand.Compiles.{not-read, no-room, observed}
 use Rattle.observers.specs.declared.Compiled.{Compiled}
-use Rattle.firmware.specs.Face.{small, short, few}
+use Rattle.firmware.specs.Sizes.{small, short, few}
 
 pub few-equations : {text before : List ℕ} {r : Compiled} {after : List ℕ} → Compiles text before r after → small r
 few-equations (not-read e) = tt
 few-equations (no-room e h) = tt
-few-equations (observed {n} {after} e f room same rest h) = checked-fitting after n (h .formed) .few
+few-equations (observed {n} {after} e f room same rest h) = checked-fitting _ n (h [] .formed) .few
 
 pub few-loaded : {text before : List ℕ} {r : Loaded} {after : List ℕ} → AfterRead text before r after → few r
 few-loaded (unread h) = tt

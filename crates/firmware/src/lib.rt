@@ -7,16 +7,17 @@ use observers::Compiled;
 use rules::Same;
 ghost use mathlib.Core.Path.{_≡_};
 ghost use Rattle.limits.specs.Limits.{standardCap};
-ghost use Rattle.flows.specs.Step.{freshened, stepped, freshReply, stepReply};
-ghost use Rattle.rules.specs.Reading.{ruleOf};
-ghost use Rattle.rules.specs.Contract.{answerOf};
-ghost use Rattle.observers.specs.Compile.{compiled};
-ghost use Rattle.firmware.specs.Face.{answer, left, fresh, leftValues, tick};
 ghost use Rattle.traces.specs.Trace.{tickOf};
-ghost use Rattle.lustre.specs.Write.{writeEffect};
-ghost use Rattle.firmware.specs.Face.{writeAnswer, write, loadAnswer, LoadTold, short, few};
-ghost use Rattle.firmware.specs.Face.{readAnswer, sameAnswer, compiledAnswer, compile, SameTold};
-ghost use Rattle.firmware.specs.Face.{small};
+ghost use Rattle.flows.specs.Step.{afterFresh, freshened, freshReply, afterStep, stepped, stepReply};
+ghost use Rattle.rules.specs.Computed.{ruleOf, sameOf};
+ghost use Rattle.rules.specs.Contract.{answerOf, Told, readReply};
+ghost use Rattle.rules.specs.Same.{SameAnswer, sameReply};
+ghost use Rattle.observers.specs.Compile.{afterCompile, compiled};
+ghost use Rattle.observers.specs.Demand.{Compiles, compileReply};
+ghost use Rattle.lustre.specs.Write.{afterWrite, writeEffect, writeReply};
+ghost use Rattle.lustre.specs.Read.{AfterRead, loadReply};
+ghost use Rattle.firmware.specs.Face.{answer, Given};
+ghost use Rattle.firmware.specs.Sizes.{small, short, few};
 
 // An answer as C gets it: the refusal's number, 0 for none, and the result, 0 where there is none.
 #[repr(C)]
@@ -60,7 +61,8 @@ fn step_answer(s: Stepped) -> Answer
 // Make a fresh state of the table's n equations.
 #[no_mangle]
 pub extern "C" fn towerwatch_fresh_state(table: &[u32], n: usize, state: &mut [u32]) -> Answer
-    ensures { λ r. ⌜ left r (now (state .exit)) ≡ fresh (freshened (now (table .entry)) n (now (state .entry))) ⌝ }
+    ensures { λ r. ⌜ Given freshReply (λ x. afterFresh x (now (state .exit))
+        ≡ freshened (now (table .entry)) n (now (state .entry))) r ⌝ }
 {
     fresh_answer(flows::fresh_state(table, n, state))
 }
@@ -76,9 +78,9 @@ pub extern "C" fn towerwatch_step(
     signals: u64,
     parameters: &[u32; limits::PARAMETERS],
 ) -> Answer
-    ensures { λ r. ⌜ leftValues r (now (state .exit)) (now (values .exit))
-        ≡ tick (stepped standardCap (now (table .entry)) n (now (state .entry)) (now (values .entry))
-        (tickOf start signals (now (parameters .entry)))) ⌝ }
+    ensures { λ r. ⌜ Given stepReply (λ x. afterStep x (now (state .exit)) (now (values .exit))
+        ≡ stepped standardCap (now (table .entry)) n (now (state .entry)) (now (values .entry))
+        (tickOf start signals (now (parameters .entry)))) r ⌝ }
 {
     let now = traces::tick_of(start, signals, *parameters);
     step_answer(flows::step(table, n, state, values, now))
@@ -86,7 +88,7 @@ pub extern "C" fn towerwatch_step(
 
 // The answer of reading a rule.
 fn read_answer(a: rules::Read) -> Answer
-    ensures { λ r. ⌜ r ≡ readAnswer a ⌝ }
+    ensures { λ r. ⌜ r ≡ answer (readReply a) ⌝ }
 {
     match a {
         rules::Read::Rule(nodes) => Answer {
@@ -103,7 +105,7 @@ fn read_answer(a: rules::Read) -> Answer
 // The answer of compiling.
 fn compiled_answer(c: Compiled) -> Answer
     requires { ⌜ small c ⌝ }
-    ensures { λ r. ⌜ r ≡ compiledAnswer c ⌝ }
+    ensures { λ r. ⌜ r ≡ answer (compileReply c) ⌝ }
 {
     match c {
         Compiled::Equations(n) => Answer {
@@ -119,7 +121,7 @@ fn compiled_answer(c: Compiled) -> Answer
 
 // The answer of comparing two rules.
 fn same_answer(s: Same) -> Answer
-    ensures { λ r. ⌜ r ≡ sameAnswer s ⌝ }
+    ensures { λ r. ⌜ r ≡ answer (sameReply s) ⌝ }
 {
     match s {
         Same::Yes => Answer {
@@ -140,7 +142,8 @@ fn same_answer(s: Same) -> Answer
 // Read a rule: its node count.
 #[no_mangle]
 pub extern "C" fn towerwatch_read_rule(text: &[u8]) -> Answer
-    ensures { λ r. ⌜ r ≡ readAnswer (answerOf (ruleOf (now (text .entry)))) ⌝ }
+    ensures { λ r. ⌜ Given readReply (λ x. x ≡ answerOf (ruleOf (now (text .entry)))) r ⌝ }
+    ensures { λ r. ⌜ Given readReply (Told (now (text .entry))) r ⌝ }
 {
     read_answer(rules::read_rule(text))
 }
@@ -148,7 +151,10 @@ pub extern "C" fn towerwatch_read_rule(text: &[u8]) -> Answer
 // Compile a rule into a table: how many equations.
 #[no_mangle]
 pub extern "C" fn towerwatch_compile(text: &[u8], table: &mut [u32]) -> Answer
-    ensures { λ r. ⌜ left r (now (table .exit)) ≡ compile (compiled (now (text .entry)) (now (table .entry))) ⌝ }
+    ensures { λ r. ⌜ Given compileReply (λ x. afterCompile x (now (table .exit))
+        ≡ compiled (now (text .entry)) (now (table .entry))) r ⌝ }
+    ensures { λ r. ⌜ Given compileReply (λ x. Compiles (now (text .entry)) (now (table .entry)) x
+        (now (table .exit))) r ⌝ }
 {
     compiled_answer(observers::compile_rule(text, table))
 }
@@ -156,7 +162,8 @@ pub extern "C" fn towerwatch_compile(text: &[u8], table: &mut [u32]) -> Answer
 // Same rule, two texts: 1 for yes, 0 for no.
 #[no_mangle]
 pub extern "C" fn towerwatch_same_rule(first: &[u8], second: &[u8]) -> Answer
-    ensures { λ r. ⌜ SameTold (now (first .entry)) (now (second .entry)) r ⌝ }
+    ensures { λ r. ⌜ Given sameReply (λ x. x ≡ sameOf (ruleOf (now (first .entry))) (ruleOf (now (second .entry)))) r ⌝ }
+    ensures { λ r. ⌜ Given sameReply (SameAnswer (now (first .entry)) (now (second .entry))) r ⌝ }
 {
     same_answer(rules::same_rule(first, second))
 }
@@ -164,7 +171,7 @@ pub extern "C" fn towerwatch_same_rule(first: &[u8], second: &[u8]) -> Answer
 // The answer of writing Lustre text.
 fn written_answer(w: Written) -> Answer
     requires { ⌜ short w ⌝ }
-    ensures { λ r. ⌜ r ≡ writeAnswer w ⌝ }
+    ensures { λ r. ⌜ r ≡ answer (writeReply w) ⌝ }
 {
     match w {
         Written::Length(length) => Answer {
@@ -181,7 +188,7 @@ fn written_answer(w: Written) -> Answer
 // The answer of reading Lustre text.
 fn loaded_answer(l: Loaded) -> Answer
     requires { ⌜ few l ⌝ }
-    ensures { λ r. ⌜ r ≡ loadAnswer l ⌝ }
+    ensures { λ r. ⌜ r ≡ answer (loadReply l) ⌝ }
 {
     match l {
         Loaded::Equations(n) => Answer {
@@ -198,7 +205,8 @@ fn loaded_answer(l: Loaded) -> Answer
 // Write the table's n equations as Lustre text: the length in bytes.
 #[no_mangle]
 pub extern "C" fn towerwatch_write_lustre(table: &[u32], n: usize, text: &mut [u8]) -> Answer
-    ensures { λ r. ⌜ left r (now (text .exit)) ≡ write (writeEffect (now (table .entry)) n (now (text .entry))) ⌝ }
+    ensures { λ r. ⌜ Given writeReply (λ x. afterWrite x (now (text .exit))
+        ≡ writeEffect (now (table .entry)) n (now (text .entry))) r ⌝ }
 {
     written_answer(lustre_write::write_lustre(table, n, text))
 }
@@ -206,7 +214,8 @@ pub extern "C" fn towerwatch_write_lustre(table: &[u32], n: usize, text: &mut [u
 // Read Lustre text into a table: how many equations.
 #[no_mangle]
 pub extern "C" fn towerwatch_read_lustre(text: &[u8], table: &mut [u32]) -> Answer
-    ensures { λ r. ⌜ LoadTold (now (text .entry)) (now (table .entry)) r (now (table .exit)) ⌝ }
+    ensures { λ r. ⌜ Given loadReply (λ x. AfterRead (now (text .entry)) (now (table .entry)) x
+        (now (table .exit))) r ⌝ }
 {
     loaded_answer(lustre_read::read_lustre(text, table))
 }

@@ -4,4 +4,6 @@ pub mod Buffers
 pub mod Checks
 pub mod Ranges
 pub mod Runs
+pub mod Lists
+pub mod Expected
 mod Rows

@@ -10,13 +10,14 @@ use Rattle.traces.specs.declared.Tick.{Tick}
 use Rattle.tables.specs.Table.{all, kindOf, shapeOf, sameSort, isFlow, operandFits, shapeFits, lengthFits}
 use Rattle.tables.specs.Table.{equationsFit, checked}
 use Rattle.limits.specs.Limits.{parameterCount, standardCap}
-use Rattle.tables.specs.Reply.{Reply, gives, refused, checkedReply}
+use Rattle.limits.specs.Reply.{Reply, gives, refused}
+use Rattle.tables.specs.Reply.{checkedReply}
 use Rattle.flows.specs.Flow.{increased, valueOf, flows, memoriesSet, initial, inRange}
 use Rattle.tables.specs.Table.{isMemory}
 use Rattle.flows.specs.Step.{freshReply, stepReply, parameterFits}
 use Rattle.flows.specs.Step.{cellFits, freshChecked, stepChecked, freshened, afterStep, afterTick}
 use Rattle.flows.specs.Step.{stepped}
-use Rattle.flows.specs.Run.{Call, answers}
+use Rattle.flows.specs.Run.{Call, Taken, steps, answered}
 use Rattle.flows.specs.declared.Stepped.the-variants.{Verdict}
 
 -- f0=s5; f1=b; f2=true; f3=not f0; f4=f0 and f1; f5=f0 or f1; f6=true->pre(f0); f7=0->pre(f8); f8=cap(f7,f0);
@@ -41,8 +42,8 @@ abbrev call : ℕ → ℕ → ℕ → ℕ → Call
 call s g x room = record { tick = tick s g x; values = replicate room 7 }
 
 -- What a list of calls answers, as document 01 has it.
-abbrev answered : List Call → List Reply
-answered xs = map stepReply (answers standardCap table 12 fresh xs)
+abbrev told : List Call → List Reply
+told xs = map stepReply (answered (steps standardCap table 12 fresh xs))
 
 check-rows : map checkedReply
     (checked table 12 ∷ checked table 0 ∷ checked table 13 ∷ checked table 4097 ∷ checked table 10
@@ -61,10 +62,10 @@ unfolding freshened freshChecked lengthFits equationsFit all shapeFits shapeOf k
 fresh-short = refl
 
 -- Three ticks, with refused calls among them: too few values, and a parameter above 999,999.
-step-rows : answered
+step-rows : told
     (call 1 32 1 12 ∷ call 1 32 1 11 ∷ call 0 32 1 13 ∷ call 0 0 1000000 12 ∷ call 0 0 1 12 ∷ [])
     ≡ gives 1 ∷ refused 12 ∷ gives 0 ∷ refused 13 ∷ gives 0 ∷ []
-unfolding answers stepped stepChecked lengthFits equationsFit all shapeFits shapeOf kindOf operandFits isFlow sameSort
+unfolding steps stepped stepChecked lengthFits equationsFit all shapeFits shapeOf kindOf operandFits isFlow sameSort
     memoriesSet isMemory afterTick flows valueOf increased parameterFits cellFits inRange
 step-rows = refl
 

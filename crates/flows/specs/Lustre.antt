@@ -1,11 +1,17 @@
--- What it is for flows to satisfy the equations of a table, as Lustre reads them. Definitions only.
+-- What it is for flows to satisfy the equations of a table, as Lustre reads them, and demand 2 of a run: what its steps
+-- leave are these flows. Definitions only; the theorem is in proofs/Runs.antt.
 use mathlib.Core.Bool.{true}
-use mathlib.Core.List.{List}
+use mathlib.Core.List.{List, [], _∷_, _++_}
 use mathlib.Core.Path.{_≡_}
-use Prim.Native.Nat.{ℕ, zero, suc, _<_}
-use Rattle.traces.specs.Trace.{Trace}
+use Prim.Native.Nat.{ℕ, zero, suc, _-_, _≤_, _<_}
+use lib.ListN.{length, drop}
+use Rattle.traces.specs.declared.Tick.{Tick}
+use Rattle.traces.specs.Trace.{Trace, traceOf}
 use Rattle.tables.specs.Table.{equationAt, kindAt, sortOf}
 use Rattle.flows.specs.Flow.{valueOf, initialAt, inRange}
+use Rattle.flows.specs.Step.{AfterStep}
+use Rattle.flows.specs.Run.{Call, Taken, fromFresh, ticks, EachTick, CallsDecide}
+use Rattle.flows.specs.declared.Stepped.the-variants.{Verdict}
 
 -- Lustre's `x -> pre(y)`: x at the first tick, then y one tick ago.
 abbrev pub arrowPre : ℕ → (ℕ → ℕ) → ℕ → ℕ
@@ -26,3 +32,32 @@ pub record Satisfied (cap : ℕ) (t : List ℕ) (trace : Trace) (flow : ℕ → 
 -- Each of the n flows does, at every tick.
 abbrev pub Lustre : ℕ → List ℕ → ℕ → Trace → (ℕ → ℕ → ℕ) → Type 0
 Lustre cap t n trace flow = (i k : ℕ) → i < n → Satisfied cap t trace flow i k
+
+-- The first n of them.
+unfoldable pub firsts : (ℕ → ℕ) → ℕ → List ℕ
+firsts f zero = []
+firsts f (suc n) = firsts f n ++ (f n ∷ [])
+
+-- The step of the tick numbered k leaves the n flows in the lent values and answers the last: "a second buffer that it
+-- fills with the n flow values", "Cells and values after equation n−1 are kept", "The last equation is boolean: the
+-- verdict".
+pub record Leaves (n : ℕ) (flow : ℕ → ℕ → ℕ) (k : ℕ) (s : Taken) : Type 0 where
+  pub values : s .left .values ≡ firsts (flow k) n ++ drop n (s .call .values)
+  pub verdict : s .left .answer ≡ Verdict (flow k (n - 1))
+
+-- "Running a table gives each equation, tick by tick, the value Lustre gives it, with counts held at" the cap (demand
+-- 2), of a table of n equations:
+pub record RunsAsLustre (cap : ℕ) (t : List ℕ) (n : ℕ) : Type 0 where
+  -- On every trace there are flows that satisfy the equations,
+  pub flow : Trace → ℕ → ℕ → ℕ
+  pub solves : (trace : Trace) → Lustre cap t n trace (flow trace)
+  -- and no others.
+  pub one : (trace : Trace) (f g : ℕ → ℕ → ℕ) → Lustre cap t n trace f → Lustre cap t n trace g
+      → (k i : ℕ) → i < n → f k i ≡ g k i
+  -- From the fresh state over any old cells, over every list of calls, refused ones included, each tick's step leaves
+  -- the flows that Lustre gives at that tick. Past the last tick, where no step looks, the trace is as d.
+  pub leaves : (old : List ℕ) → n ≤ length old → (calls : List Call) (d : Tick) (f : ℕ → ℕ → ℕ)
+      → Lustre cap t n (traceOf d (ticks (fromFresh cap t n old calls))) f
+      → EachTick (Leaves n f) 0 (fromFresh cap t n old calls)
+  pub decides : (old : List ℕ) → n ≤ length old → (calls : List Call)
+      → CallsDecide cap n calls (fromFresh cap t n old calls)

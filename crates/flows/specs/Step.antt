@@ -13,7 +13,7 @@ use Rattle.limits.specs.Limits.{parameterCount}
 use Rattle.tables.specs.Table.{Test, test, firstFailed, tableTests}
 use Rattle.flows.specs.Flow.{flows, inRange, freshState, nextState}
 use Rattle.tables.specs.Table.{isMemory}
-use Rattle.tables.specs.Reply.{Reply, gives, refused}
+use Rattle.limits.specs.Reply.{Reply, gives, refused}
 use Rattle.tables.specs.declared.Checked.{Checked}
 use Rattle.tables.specs.declared.Checked.the-variants.{Passed, Refused as Failed}
 use Rattle.flows.specs.declared.Fresh.{Fresh}

@@ -1,2 +1,3 @@
--- The numbers that several crates name.
+-- The numbers that several crates name, and the reply that all operations give.
 pub mod Limits
+pub mod Reply

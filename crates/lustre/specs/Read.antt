@@ -6,7 +6,7 @@ use Prim.Native.Nat.{ℕ, _*_, _≤_, _<_}
 use lib.ListN.{length, take, drop}
 use Rattle.limits.specs.Limits.{tableRoom}
 use Rattle.tables.specs.Table.{checked}
-use Rattle.tables.specs.Reply.{Reply, refused, gives}
+use Rattle.limits.specs.Reply.{Reply, refused, gives}
 use Rattle.tables.specs.declared.Checked.the-variants.{Passed}
 use Rattle.lustre.specs.Text.{textOf}
 use Rattle.lustre.specs.declared.Loaded.{Loaded}

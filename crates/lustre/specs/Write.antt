@@ -6,7 +6,7 @@ use lib.Dec.{leb}
 use lib.ListN.{length, drop}
 use Rattle.limits.specs.Limits.{equationLimit}
 use Rattle.tables.specs.Table.{Test, test, firstFailed, tableTests}
-use Rattle.tables.specs.Reply.{Reply, refused, gives}
+use Rattle.limits.specs.Reply.{Reply, refused, gives}
 use Rattle.tables.specs.declared.Checked.{Checked}
 use Rattle.tables.specs.declared.Checked.the-variants.{Passed, Refused as Failed}
 use Rattle.lustre.specs.Text.{textOf}

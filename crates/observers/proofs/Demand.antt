@@ -6,8 +6,8 @@ use mathlib.Core.Option.{Option, some}
 use mathlib.Core.Path.{_≡_, refl, sym, ap, ap₂, _∙_, subst, subst₂}
 use Prim.Native.Nat.{ℕ, _+_, _*_, _≤_, _<_}
 use native.Mathlib.Omega.{arith}
-use lib.ListN.{length, drop}
-use lib.Seq.{sets, length-sets, drop-at}
+use lib.ListN.{length, take, drop}
+use lib.Seq.{sets, length-sets, take-at, drop-at}
 use borrow.Author.Tests.{lt-ltb, le-ltb}
 use Rattle.words.proofs.Bounds.{word-bound, words-few}
 use Rattle.formulas.specs.Formula.{Formula}
@@ -26,9 +26,10 @@ use Rattle.emitter.specs.Contract.{Emitted}
 use Rattle.scheme.proofs.Sizes.{observer-size}
 use Rattle.emitter.proofs.Size.{observer-front}
 use Rattle.scheme.proofs.Places.{length-numbers}
-use Rattle.rules.specs.Reading.{Outcome, ruleOf}
+use Rattle.rules.specs.Reading.{Outcome, HasOutcome}
 use Rattle.rules.specs.Reading.Outcome.{refused, rule}
-use Rattle.rules.proofs.Theorems.{accepted, has-formula}
+use Rattle.rules.specs.Computed.{ruleOf}
+use Rattle.rules.proofs.Theorems.{has-outcome, accepted, has-formula}
 use Rattle.observers.specs.Compile.{afterCompile, compiled, ofOutcome, observerOf, stored}
 use Rattle.observers.specs.Demand.{Compiles}
 use Rattle.observers.specs.Demand.Compiles.{observed}
@@ -79,6 +80,10 @@ module _ {t : Tree} (k : Known t) where
 
 -- ---- the effect of compiling
 
+-- The outcome that is computed is the text's.
+pub has-rule : {text : List ℕ} {x : Outcome} → ruleOf text ≡ x → HasOutcome text x
+has-rule {text} e = subst (HasOutcome text) e (has-outcome text)
+
 module _ (text before : List ℕ) where
   -- A text that is refused.
   pub refused-compiled : (n : ℕ) → ruleOf text ≡ refused n → afterCompile (Refused n) before ≡ compiled text before
@@ -107,14 +112,17 @@ module _ (text before : List ℕ) where
 
       pub room-compiles : (es : List Equation) → sets before 0 (numbersOf es) ≡ numbersOf es ++ drop (4 * length es)
           before
-          → Observes standardCap (numbersOf es ++ drop (4 * length es) before) (length es) f (nodes t)
+          → ((rest : List ℕ) → Observes standardCap (numbersOf es ++ rest) (length es) f (nodes t))
           → Compiles text before (Equations (length es)) (sets before 0 (numbersOf es))
       room-compiles es front h =
-          observed {n = length es} {after = sets before 0 (numbersOf es)} {t = t} {f = f} e is room
+          let size = 4 * length es in
+          let others = drop size before in
+          let taken : take size (sets before 0 (numbersOf es)) ≡ numbersOf es =
+          ap (take size) front ∙ take-at (numbersOf es) others size (length-numbers es) in
+          observed {n = length es} {after = sets before 0 (numbersOf es)} {t = t} {f = f} (has-rule e) is room
           (length-sets before 0 (numbersOf es))
-          (ap (drop (4 * length es)) front
-          ∙ drop-at (numbersOf es) (drop (4 * length es) before) (4 * length es) (length-numbers es))
-          (subst (λ (l : List ℕ). Observes standardCap l (length es) f (nodes t)) (sym front) h)
+          (ap (drop size) front ∙ drop-at (numbersOf es) others size (length-numbers es))
+          (λ rest. subst (λ (l : List ℕ). Observes standardCap (l ++ rest) (length es) f (nodes t)) (sym taken) (h rest))
 
 -- What the pass over the tree's records left is what compiling is to leave.
 pub emitted-rule : (text before : List ℕ) (t : Tree) → ruleOf text ≡ rule t → tableRoom ≤ length before
@@ -131,5 +139,5 @@ emitted-rule text before t e room arena r after same h =
       subst₂ (λ (n : ℕ) (l : List ℕ). Compiles text before (Equations n) l) (sym many) (sym written)
           (room-compiles text before t e f (k .is) room (observer f)
           (observer-front f before (observer-size f (small-raw k)) room)
-          (observes-rule k (drop (4 * length (observer f)) before))),
+          (observes-rule k)),
     )

@@ -16,12 +16,13 @@ use Rattle.tables.specs.Table.{Equation, kindOf, shapeOf, sameSort, isFlow, ope
 use Rattle.tables.specs.Table.{equationsFit, all, checked, isMemory}
 use Rattle.flows.specs.Flow.{increased, valueOf, flows, memoriesSet, initial, inRange}
 use Rattle.flows.specs.Step.{freshened, freshChecked, stepped, stepChecked, afterTick, parameterFits, cellFits}
-use Rattle.flows.specs.Run.{Call, answers}
+use Rattle.flows.specs.Run.{Call, steps, fromFresh, answered}
 use Rattle.flows.specs.declared.Stepped.{Stepped}
 use Rattle.flows.specs.declared.Stepped.the-variants.{Verdict}
 use Rattle.scheme.specs.Emit.{numbersOf}
-use Rattle.rules.specs.Reading.{Outcome, ruleOf}
+use Rattle.rules.specs.Reading.{Outcome}
 use Rattle.rules.specs.Reading.Outcome.{refused, rule}
+use Rattle.rules.specs.Computed.{ruleOf}
 use Rattle.rules.proofs.Runs.{trials-read}
 use Rattle.observers.specs.Compile.{observerOf}
 
@@ -39,12 +40,12 @@ abbrev answersOf : List Equation → Trial → List Stepped
 answersOf es r =
     let n : ℕ = length es in
     let t : List ℕ = numbersOf es in
-    answers standardCap t n (freshened t n (replicate n 7) .state) (callsOf n (ticksIn r))
+    answered (fromFresh standardCap t n (replicate n 7) (callsOf n (ticksIn r)))
 
 -- The tables of the rows' formulas.
 tables-ran : map (λ (r : Trial). answersOf (observerOf (formulaOf (raw (r .formula)))) r) trials
     ≡ map (λ (r : Trial). map Verdict (r .verdicts)) trials
-unfolding answers freshened freshChecked stepped stepChecked afterTick parameterFits cellFits increased valueOf flows
+unfolding steps freshened freshChecked stepped stepChecked afterTick parameterFits cellFits increased valueOf flows
     isMemory memoriesSet initial inRange kindOf shapeOf sameSort isFlow operandFits shapeFits lengthFits
     equationsFit all
     checked

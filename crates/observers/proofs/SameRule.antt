@@ -1,20 +1,22 @@
 -- Two texts that are the same rule compile to tables that answer alike on every list of calls. Assumes nothing.
-use mathlib.Core.List.{List}
-use mathlib.Core.Option.{some}
+use mathlib.Core.List.{List, _++_}
+use mathlib.Core.Option.{Option, some}
 use mathlib.Core.Path.{_≡_, refl, sym, ap, _∙_, subst, subst₂}
-use Prim.Native.Nat.{ℕ, _≤_}
+use Prim.Native.Nat.{ℕ, _*_, _≤_}
 use native.Mathlib.Omega.{arith}
-use lib.ListN.{length}
+use lib.ListN.{length, take}
 use Rattle.formulas.specs.Formula.{Formula}
 use Rattle.formulas.specs.Tree.{Tree, nodes, formulaOf}
 use Rattle.limits.specs.Limits.{standardCap, tableRoom}
-use Rattle.flows.specs.Step.{freshened}
-use Rattle.flows.specs.Run.{Call, answers, ticks}
+use Rattle.flows.specs.Run.{Call, fromFresh, answered}
+use Rattle.flows.proofs.Expected.{admitted}
 use Rattle.agreement.specs.Agreement.{SameParameters, Observes}
+use Rattle.agreement.proofs.Answers.{answers-are}
 use Rattle.scheme.specs.Emit.{observer}
-use Rattle.rules.specs.Reading.{ruleOf}
+use Rattle.rules.specs.Reading.{HasOutcome}
 use Rattle.rules.specs.Reading.Outcome.{rule}
-use Rattle.rules.proofs.SameRule.{SameRule, yes-tree}
+use Rattle.rules.proofs.Theorems.{computed}
+use Rattle.rules.proofs.SameRule.{SameRule, same-formula}
 use Rattle.observers.specs.Compile.{AfterCompile, afterCompile, compiled}
 use Rattle.observers.proofs.Demand.{room-compiled}
 use Rattle.observers.specs.Demand.{Compiles}
@@ -24,35 +26,38 @@ use Rattle.observers.specs.declared.Compiled.the-variants.{Equations, Re
 
 -- Two tables of as many equations that observe one formula answer alike.
 pub alike : (n : ℕ) (t u : List ℕ) (f : Formula) (k m : ℕ) → Observes standardCap t n f k → Observes standardCap u n f m
-    → (old old′ : List ℕ) → n ≤ length old → n ≤ length old′ → (ps : List ℕ) (calls : List Call)
-    → SameParameters ps (ticks standardCap n calls)
-    → answers standardCap t n (freshened t n old .state) calls ≡ answers standardCap u n (freshened u n old′ .state)
-    calls
-alike n t u f k m h h′ old old′ room room′ ps calls same =
-    h .agrees old room ps calls same ∙ sym (h′ .agrees old′ room′ ps calls same)
+    → (old old′ : List ℕ) → n ≤ length old → n ≤ length old′ → (calls : List Call) (ps : List ℕ)
+    → SameParameters ps (admitted standardCap n calls)
+    → answered (fromFresh standardCap t n old calls) ≡ answered (fromFresh standardCap u n old′ calls)
+alike n t u f k m h h′ old old′ room room′ calls ps same =
+    answers-are h old room calls ps same ∙ sym (answers-are h′ old′ room′ calls ps same)
+
+-- The n equations at the front of a table observe the formula.
+abbrev Fronts : List ℕ → ℕ → Formula → ℕ → Type 0
+Fronts t n f k = (rest : List ℕ) → Observes standardCap (take (4 * n) t ++ rest) n f k
 
 -- What compiling a text into a table left.
 record Left (text : List ℕ) (n : ℕ) (after : List ℕ) : Type 0 where
   pub tree : Tree
   pub formula : Formula
-  pub is-read : ruleOf text ≡ rule tree
+  pub is-read : HasOutcome text (rule tree)
   pub is-formula : formulaOf tree ≡ some formula
   pub many : n ≡ length (observer formula)
-  pub observes : Observes standardCap after n formula (nodes tree)
+  pub observes : Fronts after n formula (nodes tree)
 
-of-observed : (text before : List ℕ) (n m : ℕ) (after : List ℕ) (t : Tree) (f : Formula) → ruleOf text ≡ rule t
-    → formulaOf t ≡ some f → tableRoom ≤ length before → Observes standardCap after m f (nodes t) → m ≡ n
+of-observed : (text before : List ℕ) (n m : ℕ) (after : List ℕ) (t : Tree) (f : Formula) → HasOutcome text (rule t)
+    → formulaOf t ≡ some f → tableRoom ≤ length before → Fronts after m f (nodes t) → m ≡ n
     → afterCompile (Equations n) after ≡ compiled text before → Left text n after
-of-observed text before n m after t f e is room h number c =
-    let whole = c ∙ sym (room-compiled text before t e f is room (observer f) refl) in
+of-observed text before n m after t f h is room o number c =
+    let whole = c ∙ sym (room-compiled text before t (computed text h) f is room (observer f) refl) in
     let told : Equations n ≡ Equations (length (observer f)) = ap (λ (x : AfterCompile). x .answer) whole in
     record {
       tree = t;
       formula = f;
-      is-read = e;
+      is-read = h;
       is-formula = is;
       many = number-of told;
-      observes = subst (λ (x : ℕ). Observes standardCap after x f (nodes t)) number h;
+      observes = subst (λ (x : ℕ). Fronts after x f (nodes t)) number o;
     }
   where
     number-of : {x y : ℕ} → Equations x ≡ Equations y → x ≡ y
@@ -73,27 +78,24 @@ left text before n after r (observed {n = m} {after = l} {t} {f} e is room same 
 pub same-answers : (a b : List ℕ) → SameRule a b → (before before′ : List ℕ) (n m : ℕ) (t u : List ℕ)
     → afterCompile (Equations n) t ≡ compiled a before → Compiles a before (Equations n) t
     → afterCompile (Equations m) u ≡ compiled b before′ → Compiles b before′ (Equations m) u
-    → (n ≡ m) × ((old old′ : List ℕ) → n ≤ length old → m ≤ length old′ → (ps : List ℕ) (calls : List Call)
-    → SameParameters ps (ticks standardCap n calls)
-    → answers standardCap t n (freshened t n old .state) calls ≡ answers standardCap u m (freshened u m old′ .state)
-    calls)
+    → (n ≡ m) × ((rest rest′ old old′ : List ℕ) → n ≤ length old → m ≤ length old′ → (calls : List Call) (ps : List ℕ)
+    → SameParameters ps (admitted standardCap n calls)
+    → answered (fromFresh standardCap (take (4 * n) t ++ rest) n old calls)
+    ≡ answered (fromFresh standardCap (take (4 * m) u ++ rest′) m old′ calls))
 same-answers a b same before before′ n m t u c h c′ h′ =
     let x = left a before n t (Equations n) h refl c in
     let y = left b before′ m u (Equations m) h′ refl c′ in
-    let one = yes-tree same refl in
     let f = x .formula in
     let formulas : x .formula ≡ y .formula =
-    equal (x .is-formula) (y .is-formula) (x .is-read) (y .is-read) (one .1) (one .2) in
+    equal (x .is-formula) (y .is-formula) (same-formula a b same (x .tree) (y .tree) (x .is-read) (y .is-read)) in
     let numbers : n ≡ m = x .many ∙ ap (λ (g : Formula). length (observer g)) formulas ∙ sym (y .many) in
-    let observes : Observes standardCap u n f (nodes (y .tree)) =
-    subst₂ (λ (i : ℕ) (g : Formula). Observes standardCap u i g (nodes (y .tree))) (sym numbers) (sym formulas)
-    (y .observes) in (
+    let observes : Fronts u n f (nodes (y .tree)) =
+    subst₂ (λ (i : ℕ) (g : Formula). Fronts u i g (nodes (y .tree))) (sym numbers) (sym formulas) (y .observes) in (
       numbers,
-      λ old old′ room room′ ps calls params.
-          alike n t u f _ _ (x .observes) observes old old′ room (omega arith) ps calls params
-          ∙ ap (λ (i : ℕ). answers standardCap u i (freshened u i old′ .state) calls) numbers,
+      λ rest rest′ old old′ room room′ calls ps params.
+          alike n _ _ f _ _ (x .observes rest) (observes rest′) old old′ room (omega arith) calls ps params
+          ∙ ap (λ (i : ℕ). answered (fromFresh standardCap (take (4 * i) u ++ rest′) i old′ calls)) numbers,
     )
   where
-    equal : {p q r : Tree} {f g : Formula} → formulaOf p ≡ some f → formulaOf q ≡ some g
-        → ruleOf a ≡ rule p → ruleOf b ≡ rule q → ruleOf a ≡ rule r → ruleOf b ≡ rule r → f ≡ g
-    equal e e′ i i′ o o′ = cc
+    equal : {p q : Option Formula} {f g : Formula} → p ≡ some f → q ≡ some g → p ≡ q → f ≡ g
+    equal e e′ same = cc

@@ -13,8 +13,9 @@ use Rattle.formulas.specs.Tree.{formulaOf}
 use Rattle.limits.specs.Limits.{tableRoom}
 use Rattle.tables.specs.Table.{Equation}
 use Rattle.scheme.specs.Emit.{observer, numbersOf}
-use Rattle.rules.specs.Reading.{Outcome, ruleOf}
+use Rattle.rules.specs.Reading.{Outcome}
 use Rattle.rules.specs.Reading.Outcome.{refused, rule}
+use Rattle.rules.specs.Computed.{ruleOf}
 use Rattle.observers.specs.declared.Compiled.{Compiled}
 use Rattle.observers.specs.declared.Compiled.the-variants.{Equations, Refused}
 
@@ -44,12 +45,3 @@ ofOutcome (rule t) table =
 -- The whole effect of compiling a text into a lent table.
 unfoldable pub compiled : List ℕ → List ℕ → AfterCompile
 compiled text table = ofOutcome (ruleOf text) table
-
--- Document 01's numbers for an answer: "compiling .. gives n", "A refusal gives its number and no other result".
-abbrev pub refusalOf : Compiled → ℕ
-refusalOf (Equations n) = 0
-refusalOf (Refused k) = k
-
-abbrev pub resultOf : Compiled → ℕ
-resultOf (Equations n) = n
-resultOf (Refused k) = 0

@@ -2,16 +2,18 @@
 -- list of steps on its table from the fresh state, refused ones included, the number of ticks at which the step's
 -- verdict and document 01's interval meaning disagree is nought". `Observes` (crates/agreement/specs/Agreement.antt)
 -- is the statement about the list of steps. Definitions only.
-use mathlib.Core.List.{List}
+use mathlib.Core.List.{List, _++_}
 use mathlib.Core.Option.{some}
 use mathlib.Core.Path.{_≡_}
 use Prim.Native.Nat.{ℕ, _*_, _≤_, _<_}
-use lib.ListN.{length, drop}
+use lib.ListN.{length, take, drop}
+use Rattle.limits.specs.Reply as Reply
+use Rattle.limits.specs.Reply.{Reply, gives}
 use Rattle.formulas.specs.Formula.{Formula}
 use Rattle.formulas.specs.Tree.{Tree, nodes, formulaOf}
 use Rattle.limits.specs.Limits.{standardCap, tableRoom}
 use Rattle.agreement.specs.Agreement.{Observes}
-use Rattle.rules.specs.Reading.{ruleOf}
+use Rattle.rules.specs.Reading.{HasOutcome}
 use Rattle.rules.specs.Reading.Outcome.{refused, rule}
 use Rattle.observers.specs.declared.Compiled.{Compiled}
 use Rattle.observers.specs.declared.Compiled.the-variants.{Equations, Refused}
@@ -20,10 +22,17 @@ use Rattle.observers.specs.declared.Compiled.the-variants.{Equations, Re
 -- chosen.
 pub data Compiles (text before : List ℕ) : Compiled → List ℕ → Type 0 where
   -- "1 to 8 as above", the table unchanged
-  not-read : {k : ℕ} → ruleOf text ≡ refused k → Compiles text before (Refused k) before
+  not-read : {k : ℕ} → HasOutcome text (refused k) → Compiles text before (Refused k) before
   -- "9: the lent table has under 16,384 numbers", the table unchanged
-  no-room : {t : Tree} → ruleOf text ≡ rule t → length before < tableRoom → Compiles text before (Refused 9) before
-  -- Else the table's n equations observe the rule's formula, and all numbers after them are kept.
-  observed : {n : ℕ} {after : List ℕ} {t : Tree} {f : Formula} → ruleOf text ≡ rule t → formulaOf t ≡ some f
+  no-room : {t : Tree} → HasOutcome text (rule t) → length before < tableRoom → Compiles text before (Refused 9) before
+  -- Else the first n equations of the table observe the rule's formula, whatever numbers or none stand after them where
+  -- they are used, and all other numbers of the lent table are kept.
+  observed : {n : ℕ} {after : List ℕ} {t : Tree} {f : Formula} → HasOutcome text (rule t) → formulaOf t ≡ some f
       → tableRoom ≤ length before → length after ≡ length before → drop (4 * n) after ≡ drop (4 * n) before
-      → Observes standardCap after n f (nodes t) → Compiles text before (Equations n) after
+      → ((rest : List ℕ) → Observes standardCap (take (4 * n) after ++ rest) n f (nodes t))
+      → Compiles text before (Equations n) after
+
+-- "compiling and reading Lustre text give n"
+abbrev pub compileReply : Compiled → Reply
+compileReply (Equations n) = gives n
+compileReply (Refused k) = Reply.refused k

@@ -10,7 +10,7 @@ use Rattle.formulas.specs.Tree.{Tree, leads}
 use Rattle.grammar.specs.Fragment.{beyond}
 use Rattle.grammar.specs.Parse.{treeOf}
 use Rattle.rules.specs.Limits.{beyondLimits}
-use Rattle.rules.specs.Reading.{ofWords, ofTree}
+use Rattle.rules.specs.Computed.{ofWords, ofTree}
 use Rattle.rules.specs.Reading.Outcome.{refused, rule}
 
 -- A refusal is no rule.

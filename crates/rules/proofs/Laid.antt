@@ -11,7 +11,8 @@ use Rattle.formulas.specs.Tree.{Tree, nodes}
 use Rattle.formulas.specs.Arena.{flat}
 use Rattle.rules.specs.Reading.{Outcome}
 use Rattle.rules.specs.Reading.Outcome.{refused, rule}
-use Rattle.rules.specs.Contract.{Laid, answerOf, recordsOf, recordsRefusal}
+use Rattle.rules.specs.Contract.{answerOf}
+use Rattle.rules.specs.Laid.{Laid, recordsOf, recordsRefusal}
 use Rattle.rules.specs.declared.Read.the-variants.{Rule, Refused}
 use Rattle.rules.specs.declared.Records.{Records}
 use Rattle.rules.specs.declared.Records.the-variants.{Rule as Tree-records, Refused as No-records}

@@ -25,9 +25,9 @@ use Rattle.grammar.proofs.Theorems.{tree-rule, rule-size}
 use Rattle.facts.specs.declared.Facts.{Facts}
 use Rattle.parser.proofs.Stored.{Took}
 use Rattle.rules.specs.Limits.{beyondLimits}
-use Rattle.rules.specs.Reading.{ruleOf, ofWords}
+use Rattle.rules.specs.Computed.{ruleOf, ofWords}
 use Rattle.rules.specs.Reading.Outcome.{refused, rule}
-use Rattle.rules.specs.Contract.{Laid, recordsOf, splitRefusal}
+use Rattle.rules.specs.Laid.{Laid, recordsOf, splitRefusal}
 use Rattle.rules.specs.declared.Records.the-variants.{Rule as Tree-records}
 use Rattle.rules.proofs.Decided
 

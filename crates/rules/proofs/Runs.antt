@@ -15,7 +15,7 @@ use Rattle.words.specs.Word.{isOp, isSignal, isNum, isBit, isTest, isCount}
 use Rattle.grammar.specs.Fragment.{hasWord}
 use Rattle.grammar.specs.Parse.{parse, read, treeOf}
 use Rattle.rules.specs.Limits.{deep, counted, operatorCount}
-use Rattle.rules.specs.Reading.{ruleOf}
+use Rattle.rules.specs.Computed.{ruleOf}
 use Rattle.rules.specs.Reading.Outcome.{rule}
 use Rattle.rules.specs.Runs.{RowHolds}
 

@@ -1,6 +1,6 @@
 -- What "the same rule" means: it is settled for any two texts, an equivalence on readable texts, and such texts have
 -- the same meaning on every interval. Assumes nothing.
-use mathlib.Core.Path.{_≡_, refl, sym, ap, _∙_}
+use mathlib.Core.Path.{_≡_, refl, sym, ap, _∙_, subst}
 use mathlib.Core.List.{List}
 use mathlib.Core.Option.{some}
 use Prim.Native.Nat.{ℕ}
@@ -9,12 +9,15 @@ use Rattle.traces.specs.Trace.{Trace}
 use Rattle.formulas.specs.Formula.{Formula}
 use Rattle.formulas.specs.Tree.{Tree, formulaOf}
 use Rattle.formulas.specs.Meaning.{meaning, verdict}
-use Rattle.rules.specs.Reading.{Outcome, ruleOf}
-use Rattle.rules.specs.Reading.Outcome.{rule}
+use Rattle.rules.specs.Reading.{HasOutcome}
+use Rattle.rules.specs.Reading.Outcome.{refused, rule}
 use Rattle.rules.specs.Same.{SameAnswer}
 use Rattle.rules.specs.Same.SameAnswer.{first-refused, second-refused, one-tree, two-trees}
 use Rattle.rules.specs.declared.Same.{Same}
 use Rattle.rules.specs.declared.Same.the-variants.{Yes, No, Refused}
+use Rattle.rules.proofs.Decided.{refused-rule}
+use Rattle.rules.proofs.Theorems.{one-outcome}
+use Rattle.rules.proofs.Sameness.{computed-answer}
 
 -- The other answers are not yes.
 refused-yes : {n : ℕ} → Refused n ≡ Yes → ⊥
@@ -23,25 +26,38 @@ refused-yes q = let z : _≡_ {A = ℕ} 0 1 = cc in omega arith
 no-yes : No ≡ Yes → ⊥
 no-yes q = let z : _≡_ {A = ℕ} 0 1 = cc in omega arith
 
--- The two outcomes are one tree, "exactly if" in both directions.
-pub yes-tree : {x y : Outcome} {r : Same} → SameAnswer x y r → r ≡ Yes → (t : Tree) × (x ≡ rule t) × (y ≡ rule t)
+-- Both texts read to one tree, "exactly if" in both directions.
+pub yes-tree : {a b : List ℕ} {r : Same} → SameAnswer a b r → r ≡ Yes
+    → (t : Tree) × HasOutcome a (rule t) × HasOutcome b (rule t)
 yes-tree (first-refused e) q = absurd (refused-yes q)
 yes-tree (second-refused e f) q = absurd (refused-yes q)
 yes-tree (one-tree {t} e f) q = (t, e, f)
 yes-tree (two-trees e f n) q = absurd (no-yes q)
 
-pub tree-yes : {x y : Outcome} {r : Same} (t : Tree) → x ≡ rule t → y ≡ rule t → SameAnswer x y r → r ≡ Yes
-tree-yes t p q (first-refused e) = cc
-tree-yes t p q (second-refused e f) = cc
+-- A text that is a rule is not refused, and has one tree.
+not-refused : {a : List ℕ} {t : Tree} {n : ℕ} → HasOutcome a (rule t) → HasOutcome a (refused n) → ⊥
+not-refused {a} h k = refused-rule (one-outcome a _ _ k h)
+
+same-tree : {a : List ℕ} {t u : Tree} → HasOutcome a (rule t) → HasOutcome a (rule u) → t ≡ u
+same-tree {a} {t} {u} h k = let e : rule t ≡ rule u = one-outcome a _ _ h k in cc
+
+pub tree-yes : {a b : List ℕ} {r : Same} (t : Tree) → HasOutcome a (rule t) → HasOutcome b (rule t) → SameAnswer a b r
+    → r ≡ Yes
+tree-yes t p q (first-refused e) = absurd (not-refused p e)
+tree-yes t p q (second-refused e f) = absurd (not-refused q f)
 tree-yes t p q (one-tree e f) = refl
-tree-yes t p q (two-trees {t = u} {u = v} e f n) = absurd (n (let same : u ≡ v = cc in same))
+tree-yes t p q (two-trees e f n) = absurd (n (same-tree e p ∙ same-tree q f))
+
+-- Two texts have one answer.
+pub one-answer : {a b : List ℕ} {r r′ : Same} → SameAnswer a b r → SameAnswer a b r′ → r ≡ r′
+one-answer {a} {b} h k = computed-answer a b h ∙ sym (computed-answer a b k)
 
 -- ---- an equivalence on texts that are rules
 
 abbrev pub SameRule : List ℕ → List ℕ → Type 0
-SameRule a b = SameAnswer (ruleOf a) (ruleOf b) Yes
+SameRule a b = SameAnswer a b Yes
 
-pub reflexive : (a : List ℕ) (t : Tree) → ruleOf a ≡ rule t → SameRule a a
+pub reflexive : (a : List ℕ) (t : Tree) → HasOutcome a (rule t) → SameRule a a
 reflexive a t e = one-tree e e
 
 pub symmetric : (a b : List ℕ) → SameRule a b → SameRule b a
@@ -51,23 +67,19 @@ pub transitive : (a b c : List ℕ) → SameRule a b → SameRule b c → SameRu
 transitive a b c h k =
     let s = yes-tree h refl in
     let u = yes-tree k refl in
-    let same : s .0 ≡ u .0 = let e = s .2 in let f = u .1 in cc in
-    one-tree (s .1) (u .2 ∙ ap rule (sym same))
+    one-tree (s .1) (subst (λ (t : Tree). HasOutcome c (rule t)) (sym (same-tree (s .2) (u .1))) (u .2))
 
 -- ---- one meaning
 
 -- Texts that are the same rule have one formula,
-pub same-formula : (a b : List ℕ) → SameRule a b → (t u : Tree) → ruleOf a ≡ rule t → ruleOf b ≡ rule u
+pub same-formula : (a b : List ℕ) → SameRule a b → (t u : Tree) → HasOutcome a (rule t) → HasOutcome b (rule u)
     → formulaOf t ≡ formulaOf u
 same-formula a b h t u e f =
     let s = yes-tree h refl in
-    let p = s .1 in
-    let q = s .2 in
-    let same : t ≡ u = cc in
-    ap formulaOf same
+    ap formulaOf (same-tree e (s .1) ∙ same-tree (s .2) f)
 
 -- and so one meaning on every interval and one verdict at every tick.
-pub same-meaning : (a b : List ℕ) → SameRule a b → (t u : Tree) → ruleOf a ≡ rule t → ruleOf b ≡ rule u
+pub same-meaning : (a b : List ℕ) → SameRule a b → (t u : Tree) → HasOutcome a (rule t) → HasOutcome b (rule u)
     → (f g : Formula) → formulaOf t ≡ some f → formulaOf u ≡ some g → (trace : Trace) (i j : ℕ)
     → (meaning trace f i j ≡ meaning trace g i j) × (verdict trace f j ≡ verdict trace g j)
 same-meaning a b h t u e k f g p q trace i j =

@@ -1,6 +1,6 @@
--- Two trees compared by their records. Assumes nothing.
-use mathlib.Core.Bool.{true, false, true≢false}
-use mathlib.Core.Path.{_≡_, sym, ap, _∙_, subst}
+-- The answer for two texts as it is computed, from their trees' records, is document 01's. Assumes nothing.
+use mathlib.Core.Bool.{Bool, true, false, true≢false, cond}
+use mathlib.Core.Path.{_≡_, refl, sym, ap, ap₂, _∙_, subst}
 use mathlib.Core.List.{List}
 use Prim.Native.Nat.{ℕ}
 use lib.Dec.{T}
@@ -10,27 +10,57 @@ use Rattle.lists.proofs.Same.{same→eq, same-refl}
 use Rattle.formulas.specs.Tree.{Tree}
 use Rattle.formulas.specs.Arena.{flat}
 use Rattle.formulas.proofs.Arena.{flat-one}
-use Rattle.rules.specs.Reading.{Outcome}
-use Rattle.rules.specs.Reading.Outcome.{rule}
+use Rattle.rules.specs.Reading.{Outcome, HasOutcome}
+use Rattle.rules.specs.Reading.Outcome.{refused, rule}
+use Rattle.rules.specs.Computed.{ruleOf, sameOf}
 use Rattle.rules.specs.Same.{SameAnswer}
-use Rattle.rules.specs.Same.SameAnswer.{one-tree, two-trees}
+use Rattle.rules.specs.Same.SameAnswer.{first-refused, second-refused, one-tree, two-trees}
+use Rattle.rules.specs.declared.Same.{Same}
 use Rattle.rules.specs.declared.Same.the-variants.{Yes, No}
 use Rattle.rules.proofs.Laid.{Front}
+use Rattle.rules.proofs.Theorems.{has-outcome, computed}
 
--- Equal records come from one tree, different ones from two.
+-- Trees with equal records are one, with different records two.
+one-of : (t u : Tree) → same (flat t) (flat u) ≡ true → t ≡ u
+one-of t u e = flat-one t u (same→eq _ _ (subst T (sym e) tt))
+
+two-of : (t u : Tree) → same (flat t) (flat u) ≡ false → t ≡ u → ⊥
+two-of t u e equal =
+    true≢false (sym (same-refl (flat t)) ∙ ap (λ (v : Tree). same (flat t) (flat v)) equal ∙ e)
+
+differ : (t u : Tree) → (t ≡ u → ⊥) → same (flat t) (flat u) ≡ false
+differ t u n = go (same (flat t) (flat u)) refl
+  where
+    go : (x : Bool) → same (flat t) (flat u) ≡ x → x ≡ false
+    go true e = absurd (n (one-of t u e))
+    go false e = refl
+
+module _ (a b : List ℕ) where
+  of-trees : (t u : Tree) → HasOutcome a (rule t) → HasOutcome b (rule u) → (x : Bool) → same (flat t) (flat u) ≡ x
+      → SameAnswer a b (cond x Yes No)
+  of-trees t u h k true e = one-tree h (subst (λ (v : Tree). HasOutcome b (rule v)) (sym (one-of t u e)) k)
+  of-trees t u h k false e = two-trees h k (two-of t u e)
+
+  of-outcomes : (x y : Outcome) → HasOutcome a x → HasOutcome b y → SameAnswer a b (sameOf x y)
+  of-outcomes (refused n) y h k = first-refused h
+  of-outcomes (rule t) (refused n) h k = second-refused h k
+  of-outcomes (rule t) (rule u) h k = of-trees t u h k (same (flat t) (flat u)) refl
+
+  pub same-answer : (r : Same) → r ≡ sameOf (ruleOf a) (ruleOf b) → SameAnswer a b r
+  same-answer r e =
+      subst (SameAnswer a b) (sym e) (of-outcomes (ruleOf a) (ruleOf b) (has-outcome a) (has-outcome b))
+
+  -- And the answer that document 01 has is the computed one.
+  pub computed-answer : {r : Same} → SameAnswer a b r → r ≡ sameOf (ruleOf a) (ruleOf b)
+  computed-answer (first-refused e) = sym (ap (λ (o : Outcome). sameOf o (ruleOf b)) (computed a e))
+  computed-answer (second-refused e f) = sym (ap₂ sameOf (computed a e) (computed b f))
+  computed-answer (one-tree {t} e f) =
+      ap (λ (x : Bool). cond x Yes No) (sym (same-refl (flat t))) ∙ sym (ap₂ sameOf (computed a e) (computed b f))
+  computed-answer (two-trees {t} {u} e f n) =
+      ap (λ (x : Bool). cond x Yes No) (sym (differ t u n)) ∙ sym (ap₂ sameOf (computed a e) (computed b f))
+
+-- What the comparison of the records in two arenas tells of the outcomes.
 module _ {x y : Outcome} {n m : ℕ} {a b : List ℕ} (h : Front x n a) (h′ : Front y m b) where
-  same-fronts : same (flat (h .tree)) (flat (h′ .tree)) ≡ same (take n a) (take m b)
-  same-fronts = ap (λ (l : List ℕ). same l (flat (h′ .tree))) (sym (h .front)) ∙ ap (same (take n a)) (sym (h′ .front))
-
-  pub are-one : same (take n a) (take m b) ≡ true → SameAnswer x y Yes
-  are-one e =
-      let equal : h .tree ≡ h′ .tree =
-      flat-one (h .tree) (h′ .tree) (same→eq _ _ (subst T (sym (same-fronts ∙ e)) tt)) in
-      one-tree (h .is) (h′ .is ∙ ap rule (sym equal))
-
-  pub are-two : same (take n a) (take m b) ≡ false → SameAnswer x y No
-  are-two e =
-      two-trees (h .is) (h′ .is) (λ equal.
-      let still : same (flat (h .tree)) (flat (h′ .tree)) ≡ true =
-      ap (λ (u : Tree). same (flat (h .tree)) (flat u)) (sym equal) ∙ same-refl (flat (h .tree)) in
-      true≢false (sym still ∙ same-fronts ∙ e))
+  pub compared : (z : Bool) → same (take n a) (take m b) ≡ z → cond z Yes No ≡ sameOf x y
+  compared z e =
+      ap (λ (w : Bool). cond w Yes No) (sym e ∙ ap₂ same (h .front) (h′ .front)) ∙ sym (ap₂ sameOf (h .is) (h′ .is))

@@ -1,5 +1,5 @@
--- Reading a rule as document 01 states it (specs/Reading.antt: `HasOutcome`) and as it is computed (`ruleOf`) are the
--- same: every text has an outcome, it has one, and it is a rule exactly if limits, grammar and fragment have it.
+-- Reading a rule as document 01 states it (specs/Reading.antt: `HasOutcome`) and as it is computed (specs/Computed.antt:
+-- `ruleOf`) are the same: every text has an outcome, it has one, and it is a rule exactly if limits, grammar and fragment have it.
 -- Assumes nothing.
 use mathlib.Core.Bool.{Bool, true, false, cond}
 use mathlib.Core.Path.{_≡_, refl, sym, ap, _∙_, subst}
@@ -16,10 +16,10 @@ use Rattle.grammar.specs.Fragment.{beyond}
 use Rattle.grammar.specs.Parse.{treeOf}
 use Rattle.grammar.proofs.Theorems.{tree-rule, rule-tree, no-tree, rule-formula}
 use Rattle.rules.specs.Limits.{beyondLimits}
-use Rattle.rules.specs.Reading.{Outcome, HasOutcome, ruleOf, ofWords, ofTree}
+use Rattle.rules.specs.Reading.{Admitted, Outcome, HasOutcome}
+use Rattle.rules.specs.Computed.{ruleOf, ofWords, ofTree}
 use Rattle.rules.specs.Reading.Outcome.{refused, rule}
 use Rattle.rules.specs.Reading.HasOutcome.{no-words, over-limits, no-grammar, outside, no-lead, is-rule}
-use Rattle.rules.specs.Admitted.{Admitted}
 use Rattle.rules.specs.Contract.{Told, answerOf}
 use Rattle.rules.specs.declared.Read.{Read}
 use Rattle.rules.proofs.Decided.{refused-rule, limits-words, tree-words, beyond-words, lead-words}
@@ -29,7 +29,8 @@ use Rattle.rules.proofs.Decided.{refused-rule, limits-words, tree-words
 module _ {text : List ℕ} where
   of-lead : {ws : List ℕ} {t : Tree} → splitOf text ≡ made ws → beyondLimits ws ≡ false → Rule ws t → beyond ws ≡ false
       → (b : Bool) → leads t ≡ b → HasOutcome text (cond b (rule t) (refused 8))
-  of-lead e o r f true l = is-rule e o r f l
+  of-lead {ws} e o r f true l =
+      is-rule (record { ws = ws; words = e; limits = o; grammar = r; fragment = f; lead = l })
   of-lead e o r f false l = no-lead e o r f l
 
   of-fragment : {ws : List ℕ} {t : Tree} → splitOf text ≡ made ws → beyondLimits ws ≡ false → Rule ws t
@@ -73,7 +74,9 @@ module _ (text : List ℕ) where
   computed (no-grammar {ws} e o h) = ap ofWords e ∙ tree-words ws o (none-of ws h)
   computed (outside {ws} {t} e o r f) = ap ofWords e ∙ beyond-words ws o (rule-tree ws t r) f
   computed (no-lead {ws} {t} e o r f l) = ap ofWords e ∙ lead-words ws o (rule-tree ws t r) f l
-  computed (is-rule {ws} {t} e o r f l) = ap ofWords e ∙ lead-words ws o (rule-tree ws t r) f l
+  computed (is-rule {t} a) =
+      let ws = a .ws in
+      ap ofWords (a .words) ∙ lead-words ws (a .limits) (rule-tree ws t (a .grammar)) (a .fragment) (a .lead)
 
 -- A text has one outcome.
 pub one-outcome : (text : List ℕ) (x y : Outcome) → HasOutcome text x → HasOutcome text y → x ≡ y
@@ -92,21 +95,12 @@ rule-parts text x t (over-limits e o) q = absurd (refused-rule q)
 rule-parts text x t (no-grammar e o h) q = absurd (refused-rule q)
 rule-parts text x t (outside e o r f) q = absurd (refused-rule q)
 rule-parts text x t (no-lead e o r f l) q = absurd (refused-rule q)
-rule-parts text x t (is-rule {ws} {t = u} e o r f l) q =
-    let same : u ≡ t = cc in
-    record {
-      ws = ws;
-      words = e;
-      limits = o;
-      grammar = subst (λ (y : Tree). Rule ws y) same r;
-      fragment = f;
-      lead = subst (λ (y : Tree). leads y ≡ true) same l;
-    }
+rule-parts text x t (is-rule {t = u} a) q = let same : u ≡ t = cc in subst (Admitted text) same a
 
 pub accepted : (text : List ℕ) (t : Tree) → (ruleOf text ≡ rule t) ↔ Admitted text t
 accepted text t = (
   λ e. rule-parts text (ruleOf text) t (has-outcome text) e,
-  λ a. computed text (is-rule (a .words) (a .limits) (a .grammar) (a .fragment) (a .lead)),
+  λ a. computed text (is-rule a),
 )
 
 -- It has one reading: one tree.

@@ -2,6 +2,8 @@
 pub mod Limits
 pub mod Reading
 pub mod Contract
-pub mod Runs
-pub mod Admitted
 pub mod Same
+-- The same as computations, what inner functions leave, and the trial runs.
+pub mod Computed
+pub mod Laid
+pub mod Runs

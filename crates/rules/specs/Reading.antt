@@ -1,23 +1,36 @@
--- What reading a rule text gives (document 01, "Read a rule": "The first that applies counts"). Definitions only.
-use mathlib.Core.Bool.{true, false, cond}
+-- What reading a rule text gives (document 01, "Read a rule": "The first that applies counts"), with the grammar as a
+-- relation. Definitions only. The same as a computation is in Computed.antt.
+use mathlib.Core.Bool.{true, false}
 use mathlib.Core.Path.{_≡_}
 use mathlib.Core.List.{List}
-use mathlib.Core.Option.{Option, none, some}
 use Prim.Native.Nat.{ℕ}
 use Rattle.words.specs.Split.{Out, splitOf}
 use Rattle.words.specs.Split.Out.{made}
 use Rattle.formulas.specs.Tree.{Tree, leads}
 use Rattle.grammar.specs.Grammar.{Rule}
 use Rattle.grammar.specs.Fragment.{beyond}
-use Rattle.grammar.specs.Parse.{treeOf}
 use Rattle.rules.specs.Limits.{beyondLimits}
+
+-- The text is a rule with that tree (demand 2: "A text is a rule exactly when document 01's limits, grammar and
+-- fragment have it").
+pub record Admitted (text : List ℕ) (t : Tree) : Type 0 where
+  pub ws : List ℕ
+  -- refusals 1 to 4: it is split into words
+  pub words : splitOf text ≡ made ws
+  -- refusal 5: within the limits
+  pub limits : beyondLimits ws ≡ false
+  -- refusal 6: of the grammar
+  pub grammar : Rule ws t
+  -- refusals 7 and 8: of the fragment
+  pub fragment : beyond ws ≡ false
+  pub lead : leads t ≡ true
 
 -- A refusal's number, or the rule's tree.
 pub data Outcome : Type 0 where
   refused : ℕ → Outcome
   rule : Tree → Outcome
 
--- The outcome that a text has by document 01, with its grammar as a relation.
+-- The outcome that a text has.
 pub data HasOutcome (text : List ℕ) : Outcome → Type 0 where
   -- "1: the text is empty or over 2,048 bytes. Then word by word, whichever word is earliest: 4 ..; 2 ..; 3 .."
   no-words : {n : ℕ} → splitOf text ≡ Out.refused n → HasOutcome text (refused n)
@@ -33,17 +46,4 @@ pub data HasOutcome (text : List ℕ) : Outcome → Type 0 where
   no-lead : {ws : List ℕ} {t : Tree} → splitOf text ≡ made ws
       → beyondLimits ws ≡ false → Rule ws t → beyond ws ≡ false → leads t ≡ false → HasOutcome text (refused 8)
   -- Else the text is a rule.
-  is-rule : {ws : List ℕ} {t : Tree} → splitOf text ≡ made ws
-      → beyondLimits ws ≡ false → Rule ws t → beyond ws ≡ false → leads t ≡ true → HasOutcome text (rule t)
-
--- The same as a computation, by the parser that `grammar` defines. That the two agree is shown in proofs/Theorems.antt.
-abbrev pub ofTree : List ℕ → Option Tree → Outcome
-ofTree ws none = refused 6
-ofTree ws (some t) = cond (beyond ws) (refused 7) (cond (leads t) (rule t) (refused 8))
-
-abbrev pub ofWords : Out → Outcome
-ofWords (Out.refused n) = refused n
-ofWords (made ws) = cond (beyondLimits ws) (refused 5) (ofTree ws (treeOf ws))
-
-unfoldable pub ruleOf : List ℕ → Outcome
-ruleOf text = ofWords (splitOf text)
+  is-rule : {t : Tree} → Admitted text t → HasOutcome text (rule t)

@@ -4,7 +4,7 @@ use mathlib.Core.Option.{some}
 use Rattle.lists.specs.Text.{bytes}
 use Rattle.formulas.specs.Tree.{Tree, nodes, formulaOf}
 use Rattle.formulas.specs.Trials.{Trial, meant}
-use Rattle.rules.specs.Reading.{ruleOf}
+use Rattle.rules.specs.Computed.{ruleOf}
 use Rattle.rules.specs.Reading.Outcome.{rule}
 
 -- A row holds: its text is read as a rule with that many nodes, whose formula is the row's, and the meaning of the

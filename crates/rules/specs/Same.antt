@@ -1,29 +1,29 @@
 -- Same rule, two texts (document 01: "1 to 8 for the first, then for the second; otherwise yes exactly if both read to
 -- one tree"). Definitions only.
+use mathlib.Core.List.{List}
 use mathlib.Core.Path.{_≡_}
 use Prim.Native.Nat.{ℕ}
+use Rattle.limits.specs.Reply as Reply
+use Rattle.limits.specs.Reply.{Reply, gives}
 use Rattle.formulas.specs.Tree.{Tree}
-use Rattle.rules.specs.Reading.{Outcome}
+use Rattle.rules.specs.Reading.{HasOutcome}
 use Rattle.rules.specs.Reading.Outcome.{refused, rule}
 use Rattle.rules.specs.declared.Same.{Same}
 use Rattle.rules.specs.declared.Same.the-variants.{Yes, No, Refused}
 
--- The answer for two texts that read to the outcomes x and y.
-pub data SameAnswer (x y : Outcome) : Same → Type 0 where
+-- The answer for two texts.
+pub data SameAnswer (first second : List ℕ) : Same → Type 0 where
   -- "1 to 8 for the first, then for the second"
-  first-refused : {n : ℕ} → x ≡ refused n → SameAnswer x y (Refused n)
-  second-refused : {t : Tree} {n : ℕ} → x ≡ rule t → y ≡ refused n → SameAnswer x y (Refused n)
+  first-refused : {n : ℕ} → HasOutcome first (refused n) → SameAnswer first second (Refused n)
+  second-refused : {t : Tree} {n : ℕ} → HasOutcome first (rule t) → HasOutcome second (refused n)
+      → SameAnswer first second (Refused n)
   -- "otherwise yes exactly if both read to one tree"
-  one-tree : {t : Tree} → x ≡ rule t → y ≡ rule t → SameAnswer x y Yes
-  two-trees : {t u : Tree} → x ≡ rule t → y ≡ rule u → (t ≡ u → ⊥) → SameAnswer x y No
+  one-tree : {t : Tree} → HasOutcome first (rule t) → HasOutcome second (rule t) → SameAnswer first second Yes
+  two-trees : {t u : Tree} → HasOutcome first (rule t) → HasOutcome second (rule u) → (t ≡ u → ⊥)
+      → SameAnswer first second No
 
--- Document 01's numbers for an answer: 1 for yes and 0 for no; "A refusal gives its number and no other result".
-abbrev pub refusalOf : Same → ℕ
-refusalOf Yes = 0
-refusalOf No = 0
-refusalOf (Refused n) = n
-
-abbrev pub resultOf : Same → ℕ
-resultOf Yes = 1
-resultOf No = 0
-resultOf (Refused n) = 0
+-- 1 for yes and 0 for no.
+abbrev pub sameReply : Same → Reply
+sameReply Yes = gives 1
+sameReply No = gives 0
+sameReply (Refused n) = Reply.refused n

@@ -11,9 +11,10 @@ ghost use Rattle.grammar.specs.Fragment.{beyond};
 ghost use Rattle.words.specs.Word.{CHOP, EXISTS};
 ghost use Rattle.words.specs.Split.Out.{made};
 ghost use Rattle.rules.specs.Limits.{bracketLimit, opened, deep, counted, beyondLimits};
-ghost use Rattle.rules.specs.Reading.{ruleOf, ofWords};
+ghost use Rattle.rules.specs.Computed.{ruleOf, ofWords, sameOf};
 ghost use Rattle.rules.specs.Same.{SameAnswer};
-ghost use Rattle.rules.specs.Contract.{answerOf, Told, Laid, splitRefusal, recordsRefusal};
+ghost use Rattle.rules.specs.Contract.{answerOf, Told};
+ghost use Rattle.rules.specs.Laid.{Laid, splitRefusal, recordsRefusal};
 
 // What reading a rule answers: its node count, or the refusal's number.
 pub enum Read {
@@ -197,7 +198,8 @@ pub fn read_rule(text: &[u8]) -> Read
 // Same rule, two texts: refusals 1 to 8 of the first, then of the second; otherwise yes exactly if both read to one
 // tree.
 pub fn same_rule(first: &[u8], second: &[u8]) -> Same
-    ensures { λ r. ⌜ SameAnswer (ruleOf (now (first .entry))) (ruleOf (now (second .entry))) r ⌝ }
+    ensures { λ r. ⌜ r ≡ sameOf (ruleOf (now (first .entry))) (ruleOf (now (second .entry))) ⌝ }
+    ensures { λ r. ⌜ SameAnswer (now (first .entry)) (now (second .entry)) r ⌝ }
 {
     let mut arena = [0u32; limits::ARENA];
     let records = read_tree(first, &mut arena);

@@ -1,20 +1,9 @@
--- An operation's reply as document 01 has it. Definitions only.
-use Prim.Native.Nat.{ℕ}
+-- The reply of a table's check. Definitions only.
+use Rattle.limits.specs.Reply.{Reply, refused, gives}
 use Rattle.tables.specs.declared.Checked.{Checked}
 use Rattle.tables.specs.declared.Checked.the-variants.{Passed, Refused}
 
--- "A refusal gives its number and no other result (0 elsewhere)"
-pub record Reply : Type 0 where
-  pub refusal : ℕ
-  pub result : ℕ
-
-abbrev pub refused : ℕ → Reply
-refused r = record { refusal = r; result = 0 }
-
-abbrev pub gives : ℕ → Reply
-gives x = record { refusal = 0; result = x }
-
--- The check of a table gives no number.
+-- It gives no number.
 abbrev pub checkedReply : Checked → Reply
 checkedReply Passed = gives 0
 checkedReply (Refused r) = refused r

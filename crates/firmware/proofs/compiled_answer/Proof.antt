@@ -3,7 +3,10 @@ use mathlib.Core.Path.{sym, ap, subst}
 use Prim.Native.Nat.{_≤_}
 use native.Mathlib.Omega.{arith}
 use Rattle.limits.specs.Limits.{equationLimit}
-use Rattle.firmware.specs.Face.{compiledAnswer, small}
+use Rattle.observers.specs.Demand.{compileReply}
+use Rattle.observers.specs.declared.Compiled.{Compiled}
+use Rattle.firmware.specs.Face.{answer}
+use Rattle.firmware.specs.Sizes.{small}
 use borrow.Author.Needs.{needs}
 use Rattle.firmware.proofs.compiled_answer.Statement.{statement}
 use Rattle.firmware.proofs.compiled_answer.Tie as tie
@@ -21,10 +24,10 @@ known-refused : tie.Need-enum-known-c-2
 known-refused c = search needs
 
 equations : tie.Need-returns
-equations c = ap compiledAnswer (sym (c .before .c .given .1))
+equations c = ap (λ (x : Compiled). answer (compileReply x)) (sym (c .before .c .given .1))
 
 refused : tie.Need-returns-2
-refused c = ap compiledAnswer (sym (c .before .c2 .given .1))
+refused c = ap (λ (x : Compiled). answer (compileReply x)) (sym (c .before .c2 .given .1))
 
 pub compiled-answer-spec : {M : Type 1} → statement M
 compiled-answer-spec = tie.close (tie.spec known-equations number-fits known-refused equations refused)

@@ -1,7 +1,5 @@
 -- `firmware::towerwatch_step` meets its contract: it is `flows::step`, its answer as C gets it. Assumes nothing.
 use mathlib.Core.Path.{ap, _∙_}
-use Rattle.firmware.specs.declared.Answer.{Answer}
-use Rattle.firmware.specs.Face.{leftValues, tick}
 use borrow.Author.Needs.{needs}
 use Rattle.limits.specs.Limits.{standardCap}
 use Rattle.flows.specs.Step.{stepped}
@@ -23,8 +21,11 @@ returns c =
     let call = called c .step in
     let args = start (called c) .args in
     let run = stepped standardCap (args .table .now) (args .n) (args .state .now) (args .values .now) in
-    ap (λ (r : Answer). leftValues r (call .last .1 .1 .0) (call .last .1 .1 .1 .0)) (c .step-answer .ensures)
-    ∙ ap tick (call .ensures ∙ ap run (built (called c) .tick-of .ensures))
+    record {
+      told = call .result;
+      promised = call .ensures ∙ ap run (built (called c) .tick-of .ensures);
+      answered = c .step-answer .ensures;
+    }
 
 pub towerwatch-step-spec : {M : Type 1} → statement M
 towerwatch-step-spec =

@@ -1,9 +1,6 @@
 -- `firmware::towerwatch_write_lustre` meets its contract: it is `lustre_write::write_lustre`, its answer as C gets it.
 -- Assumes nothing.
-use mathlib.Core.Path.{ap, _∙_}
 use native.Mathlib.Omega.{arith}
-use Rattle.firmware.specs.declared.Answer.{Answer}
-use Rattle.firmware.specs.Face.{left, write}
 use Rattle.firmware.proofs.Sizes.{short-text}
 use borrow.Author.Needs.{needs}
 use Rattle.firmware.proofs.towerwatch_write_lustre.Statement.{statement}
@@ -22,8 +19,8 @@ written-answer-requires c κs =
 
 returns : tie.Need-returns
 returns c =
-    let call = c .before .before .before .write-lustre in
-    ap (λ (r : Answer). left r (call .last .1 .1 .0)) (c .written-answer .ensures) ∙ ap write (call .ensures)
+    let written = c .before .before .before .write-lustre in
+    record { told = written .result; promised = written .ensures; answered = c .written-answer .ensures }
 
 pub towerwatch-write-lustre-spec : {M : Type 1} → statement M
 towerwatch-write-lustre-spec =

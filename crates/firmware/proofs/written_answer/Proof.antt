@@ -3,7 +3,10 @@ use mathlib.Core.Path.{sym, ap, subst}
 use Prim.Native.Nat.{_≤_}
 use native.Mathlib.Omega.{arith}
 use Rattle.lustre.specs.Write.{lengthLimit}
-use Rattle.firmware.specs.Face.{writeAnswer, short}
+use Rattle.lustre.specs.Write.{writeReply}
+use Rattle.lustre.specs.declared.Written.{Written}
+use Rattle.firmware.specs.Face.{answer}
+use Rattle.firmware.specs.Sizes.{short}
 use borrow.Author.Needs.{needs}
 use Rattle.firmware.proofs.written_answer.Statement.{statement}
 use Rattle.firmware.proofs.written_answer.Tie as tie
@@ -21,10 +24,10 @@ known-refused : tie.Need-enum-known-w-2
 known-refused c = search needs
 
 written : tie.Need-returns
-written c = ap writeAnswer (sym (c .before .w .given .1))
+written c = ap (λ (x : Written). answer (writeReply x)) (sym (c .before .w .given .1))
 
 refused : tie.Need-returns-2
-refused c = ap writeAnswer (sym (c .before .w2 .given .1))
+refused c = ap (λ (x : Written). answer (writeReply x)) (sym (c .before .w2 .given .1))
 
 pub written-answer-spec : {M : Type 1} → statement M
 written-answer-spec = tie.close (tie.spec known-written length-fits known-refused written refused)

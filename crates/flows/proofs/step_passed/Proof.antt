@@ -1,7 +1,7 @@
 -- `flows::step_passed` meets its contract: what is run where the check is passed is the step. Assumes nothing.
 use mathlib.Core.Path.{sym, _∙_}
 use Rattle.flows.proofs.Checks.{step-passed}
-use Rattle.flows.proofs.Runs.{step-ticks}
+use Rattle.flows.proofs.Lists.{step-ticks}
 use borrow.Author.Needs.{needs}
 use Rattle.flows.proofs.step_passed.Statement.{statement}
 use Rattle.flows.proofs.step_passed.Tie as tie

@@ -3,10 +3,10 @@ use mathlib.Core.Path.{sym}
 use native.Mathlib.Omega.{arith}
 use borrow.Author.Needs.{needs}
 use lib.Seq.{length-take-le}
-use Rattle.rules.specs.Reading.{ruleOf}
+use Rattle.rules.specs.Computed.{ruleOf}
 use Rattle.rules.proofs.Laid.{Front, front-of, refused-as}
 use Rattle.observers.specs.Demand.Compiles.{not-read, no-room}
-use Rattle.observers.proofs.Demand.{refused-compiled, short-compiled, emitted-rule}
+use Rattle.observers.proofs.Demand.{has-rule, refused-compiled, short-compiled, emitted-rule}
 use Rattle.observers.proofs.compile_rule.Statement.{statement}
 use Rattle.observers.proofs.compile_rule.Tie as tie
 
@@ -27,7 +27,7 @@ no-rule c =
     let told = c .before .enum-told .given in
     let call = c .before .before .before .before in
     let e = refused-as (call .read-tree .ensures) (told .0 .0) _ (told .1) (c .records-refusal .ensures) in
-    (refused-compiled (start call .args .text .now) _ _ e, not-read e)
+    (refused-compiled (start call .args .text .now) _ _ e, not-read (has-rule e))
 
 -- The tree that was read, its numbers at the front of the arena.
 tree : (c : tie.After-known-told) →
@@ -42,7 +42,7 @@ short-table : tie.Need-returns-2
 short-table c =
     let h = tree (c .before) in
     let text = start (reading (c .before)) .args .text .now in
-    (short-compiled text _ (h .tree) (h .is) (c .if1 .taken), no-room (h .is) (c .if1 .taken))
+    (short-compiled text _ (h .tree) (h .is) (c .if1 .taken), no-room (has-rule (h .is)) (c .if1 .taken))
 
 array-share-prefix-arena : tie.Need-array-share-prefix-arena
 array-share-prefix-arena c = let h = tree (c .before) in omega (arith, h .fits)

@@ -9,7 +9,7 @@ use lib.ListN.{length, take, replicate}
 use lib.Seq.{length-take-le}
 use Rattle.limits.specs.Limits.{wordLimit}
 use Rattle.rules.specs.Reading.{Outcome}
-use Rattle.rules.specs.Contract.{Laid}
+use Rattle.rules.specs.Laid.{Laid}
 use Rattle.rules.proofs.Laid.{laid-refused}
 use Rattle.rules.proofs.Outcomes.{Made, made-of, refused-of, long, of-front}
 use Rattle.rules.proofs.read_tree.Statement.{statement}

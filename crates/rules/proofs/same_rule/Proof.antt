@@ -1,17 +1,19 @@
--- `rules::same_rule` meets its contract, by cases: the first text refused, the second refused, or two trees. Equal
--- records come from one tree and different ones from two (Sameness). Assumes nothing.
+-- `rules::same_rule` meets its contract, by cases: the first text refused, the second refused, or two trees, whose
+-- records are compared. From the answer as it is computed follows the answer as document 01 has it (Sameness). Assumes
+-- nothing.
 use mathlib.Core.List.{List}
-use mathlib.Core.Path.{_≡_, sym, _∙_}
+use mathlib.Core.Bool.{true, false}
+use mathlib.Core.Path.{_≡_, sym, ap, ap₂, _∙_}
 use Prim.Native.Nat.{ℕ, _≤_}
 use native.Mathlib.Omega.{arith}
 use borrow.Author.Needs.{needs}
 use lib.ListN.{length, take}
 use lib.Seq.{length-take-le}
 use Rattle.limits.specs.Limits.{arenaLimit}
-use Rattle.rules.specs.Reading.{ruleOf}
-use Rattle.rules.specs.Same.SameAnswer.{first-refused, second-refused}
+use Rattle.rules.specs.Reading.{Outcome}
+use Rattle.rules.specs.Computed.{ruleOf, sameOf}
 use Rattle.rules.proofs.Laid.{Front, front-of, refused-as}
-use Rattle.rules.proofs.Sameness.{are-one, are-two}
+use Rattle.rules.proofs.Sameness.{same-answer, compared}
 use Rattle.rules.proofs.same_rule.Statement.{statement}
 use Rattle.rules.proofs.same_rule.Tie as tie
 
@@ -47,14 +49,19 @@ refuses-first : tie.Need-returns
 refuses-first c =
     let told = c .before .enum-told .given in
     let call = c .before .before .before .before in
-    first-refused (refused-as (call .read-tree .ensures) (told .0 .0) _ (told .1) (c .records-refusal .ensures))
+    let args = start call .args in
+    let x = refused-as (call .read-tree .ensures) (told .0 .0) _ (told .1) (c .records-refusal .ensures) in
+    let e = sym (ap (λ (o : Outcome). sameOf o (ruleOf (args .second .now))) x) in
+    (e, same-answer (args .first .now) (args .second .now) _ e)
 
 refuses-second : tie.Need-returns-2
 refuses-second c =
     let told = c .before .enum-told2 .given in
     let call = c .before .before .before .before in
-    second-refused (first-tree (first call) .is)
-    (refused-as (call .read-tree2 .ensures) (told .0 .0) _ (told .1) (c .records-refusal2 .ensures))
+    let args = start (first-call (first call)) .args in
+    let y = refused-as (call .read-tree2 .ensures) (told .0 .0) _ (told .1) (c .records-refusal2 .ensures) in
+    let e = sym (ap₂ sameOf (first-tree (first call) .is) y) in
+    (e, same-answer (args .first .now) (args .second .now) _ e)
 
 -- The parts of the arenas that are lent have the trees' numbers.
 part-length : (n : ℕ) (arena : List ℕ) → n ≤ arenaLimit → arenaLimit ≡ length arena → n ≡ length (take n arena)
@@ -80,14 +87,18 @@ second-part-length c =
 one-tree : tie.Need-returns-3
 one-tree c =
     let trees = second (c .before) in
-    are-one (first-tree (first (second-call trees))) (second-tree trees)
-    (sym (c .before .same-numbers .ensures) ∙ c .if1 .taken)
+    let both = first (second-call trees) in
+    let args = start (first-call both) .args in
+    let e = compared (first-tree both) (second-tree trees) true (sym (c .before .same-numbers .ensures) ∙ c .if1 .taken) in
+    (e, same-answer (args .first .now) (args .second .now) _ e)
 
 two-trees : tie.Need-returns-4
 two-trees c =
     let trees = second (c .before) in
-    are-two (first-tree (first (second-call trees))) (second-tree trees)
-    (sym (c .before .same-numbers .ensures) ∙ c .if1 .left)
+    let both = first (second-call trees) in
+    let args = start (first-call both) .args in
+    let e = compared (first-tree both) (second-tree trees) false (sym (c .before .same-numbers .ensures) ∙ c .if1 .left) in
+    (e, same-answer (args .first .now) (args .second .now) _ e)
 
 pub same-rule-spec : {M : Type 1} → statement M
 same-rule-spec =

@@ -1,0 +1,22 @@
+-- Numbers of equations and lengths that C's answer has room for. Definitions only.
+use Prim.Native.Nat.{_≤_}
+use Rattle.limits.specs.Limits.{equationLimit}
+use Rattle.observers.specs.declared.Compiled.{Compiled}
+use Rattle.observers.specs.declared.Compiled.the-variants.{Equations, Refused}
+use Rattle.lustre.specs.Write.{lengthLimit}
+use Rattle.lustre.specs.declared.Written.{Written}
+use Rattle.lustre.specs.declared.Written.the-variants.{Length, Refused as No-text}
+use Rattle.lustre.specs.declared.Loaded.{Loaded}
+use Rattle.lustre.specs.declared.Loaded.the-variants.{Equations as Loads, Refused as No-table}
+
+abbrev pub small : Compiled → Type 0
+small (Equations n) = n ≤ equationLimit
+small (Refused k) = Unit {0}
+
+abbrev pub short : Written → Type 0
+short (Length l) = l ≤ lengthLimit
+short (No-text k) = Unit {0}
+
+abbrev pub few : Loaded → Type 0
+few (Loads n) = n ≤ equationLimit
+few (No-table k) = Unit {0}
