@@ -1,6 +1,6 @@
--- P1 to P13, by computation: of every row the formula has as many nodes as said, and the interval meaning gives the
--- verdicts. `row` and `through` take what is computed of all rows to one of them, and to what is made of it.
--- Assumes nothing.
+-- P1 to P13 and the further rows, by computation: of every row the formula has as many nodes as said, and the interval
+-- meaning gives the verdicts. `row` and `through` take what is computed of all rows to one of them, and to what is made
+-- of it. Assumes nothing.
 use mathlib.Core.Path.{_≡_, refl, ap₂}
 use mathlib.Core.List.{List, [], _∷_, map}
 use Prim.Native.Nat.{ℕ, zero, suc, _<_}
@@ -8,13 +8,20 @@ use native.Mathlib.Omega.{arith}
 use lib.ListN.{length, getD}
 use Rattle.formulas.specs.Tree.{nodes}
 use Rattle.formulas.specs.Raw.{raw}
-use Rattle.formulas.specs.Trials.{Trial, trials, meant}
+use Rattle.formulas.specs.Trials.{Trial, trials, furtherTrials, meant}
 
 pub trials-counted : map (λ (r : Trial). nodes (raw (r .formula))) trials ≡ map (λ (r : Trial). r .nodes) trials
 trials-counted = refl
 
 pub trials-meant : map meant trials ≡ map (λ (r : Trial). r .verdicts) trials
 trials-meant = refl
+
+pub further-counted :
+    map (λ (r : Trial). nodes (raw (r .formula))) furtherTrials ≡ map (λ (r : Trial). r .nodes) furtherTrials
+further-counted = refl
+
+pub further-meant : map meant furtherTrials ≡ map (λ (r : Trial). r .verdicts) furtherTrials
+further-meant = refl
 
 -- What is equal of all rows is equal of each.
 pub row : {B : Type 0} (f g : Trial → B) (rs : List Trial) (d : Trial) → map f rs ≡ map g rs → (i : ℕ) → i < length rs →

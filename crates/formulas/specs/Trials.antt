@@ -1,6 +1,7 @@
--- The trial runs P1 to P13 (document 01, "Trial runs") as rows of one table, and the verdicts that the meaning gives
--- for a row. Every crate that shows something of the trial runs cites these rows. Definitions only.
-use mathlib.Core.Bool.{true}
+-- The trial runs P1 to P13 (document 01, "Trial runs") as rows of one table, further rows for what those leave out, and
+-- the verdicts that the meaning gives for a row. Every crate that shows something of the trial runs cites these rows.
+-- Definitions only.
+use mathlib.Core.Bool.{true, false}
 use mathlib.Core.List.{List, [], _∷_}
 use Prim.Native.Nat.{ℕ, zero, suc}
 use Prim.Native.String.{String}
@@ -11,10 +12,10 @@ use Rattle.traces.specs.Trace.{Trace, tickOf, traceOf}
 use Rattle.traces.specs.Compare.Op.{le, lt, eq, gt, ge}
 use Rattle.formulas.specs.Formula.{Prop, Formula}
 use Rattle.formulas.specs.Formula.Num.{literal, parameter}
-use Rattle.formulas.specs.Formula.Prop.{constant, signal}
+use Rattle.formulas.specs.Formula.Prop.{constant, signal, negP, andP, orP}
 use Rattle.formulas.specs.Formula.Test.{begin, end, point, held, kept}
 use Rattle.formulas.specs.Formula.Count.{sum, age}
-use Rattle.formulas.specs.Formula.Formula.{test, len, count, neg, then}
+use Rattle.formulas.specs.Formula.Formula.{test, len, count, neg, and, or, then}
 use Rattle.formulas.specs.Meaning.{verdict}
 
 -- A rule's text, its formula and its node count, and the start and the verdict at each of the five ticks.
@@ -60,6 +61,30 @@ trials =
     ∷ trial "sum[s0] > k0" (count sum s0 gt (parameter 0)) 1 first (five 0 1 1 1 1)
     ∷ trial "len <= 0 then end[1]" (then (len le (literal 0)) (test end (constant true))) 3 (five 1 0 0 1 0)
     (five 0 1 1 0 1)
+    ∷ []
+
+-- Further rows on the same signals, their verdicts worked out by hand from document 01, "Interval meaning": `!`, `&`,
+-- `|` and `0` in P; `!`, `&` and `|` of formulas; a second start, and none at tick 0; an age that breaks off, and one
+-- that a start cuts; a lead that falls late; a `then` in a `then`.
+abbrev pub furtherTrials : List Trial
+furtherTrials =
+    trial "end[!s0]" (test end (negP s0)) 1 first (five 0 0 1 0 0)
+    ∷ trial "end[s0 & s1]" (test end (andP s0 s1)) 1 first (five 0 0 0 0 1)
+    ∷ trial "end[s0 | s1]" (test end (orP s0 s1)) 1 first (five 1 1 1 1 1)
+    ∷ trial "end[0]" (test end (constant false)) 1 first (five 0 0 0 0 0)
+    ∷ trial "end[!(s0 & s1) | 0]" (test end (orP (negP (andP s0 s1)) (constant false))) 1 first (five 1 1 1 1 0)
+    ∷ trial "!kept[s0]" (neg (test kept s0)) 2 first (five 0 0 0 1 1)
+    ∷ trial "kept[s0] & end[s1]" (and (test kept s0) (test end s1)) 3 first (five 0 0 1 0 0)
+    ∷ trial "end[s1] | point[s0]" (or (test end s1) (test point s0)) 3 first (five 1 0 1 0 1)
+    ∷ trial "begin[s1]" (test begin s1) 1 (five 1 0 1 0 0) (five 0 0 1 1 1)
+    ∷ trial "held[s0]" (test held s0) 1 (five 1 0 0 1 0) (five 0 1 1 0 1)
+    ∷ trial "len = 1" (len eq (literal 1)) 1 (five 0 0 1 0 0) (five 1 1 0 1 0)
+    ∷ trial "sum[!s0] >= 1" (count sum (negP s0) ge (literal 1)) 1 first (five 0 0 0 1 1)
+    ∷ trial "age[s0] = 1" (count age s0 eq (literal 1)) 1 first (five 1 0 0 1 0)
+    ∷ trial "age[s0] >= 2" (count age s0 ge (literal 2)) 1 (five 1 0 0 0 1) (five 0 1 0 0 0)
+    ∷ trial "kept[s0] then len = 0" (then (test kept s0) (len eq (literal 0))) 3 first (five 0 0 0 1 0)
+    ∷ trial "len <= 0 then len <= 0 then end[1]"
+    (then (len le (literal 0)) (then (len le (literal 0)) (test end (constant true)))) 5 first (five 0 0 1 1 1)
     ∷ []
 
 -- No row: what stands past the last one.
