@@ -53,19 +53,15 @@ pub rows : (k : ℕ) (d : Shape) → k < kindCount → getD (map shapeOf kinds) 
 unfolding kindOf
 rows k d h = within (map shapeOf kinds) k d (shapeOf unknown) h ∙ List·getD-map shapeOf kinds k unknown
 
+-- The number k, where it is j: its flow has the sort that the row of j gives.
+pub row-gives : (k j : ℕ) {s : Sort} → k ≡ j → s ≡ sortOf (kindOf j) → s ≡ sortOf (kindOf k)
+row-gives k j e h = rw e h
+
 -- A flow is a boolean if it is no count.
 pub boolean-or-count : (s : Sort) → sameSort s Boolean ≡ not (sameSort s Count)
 unfolding sameSort
 boolean-or-count Boolean = refl
 boolean-or-count Count = refl
-
--- Kinds 7 to 9 give counts.
-pub counts : (k : ℕ) → sameSort (sortOf (kindOf k)) Count ≡ (leb COUNT-PRE k && leb k IF)
-unfolding kindOf shapeOf sameSort all
-counts k = elim (decLt k kindCount) [
-  | yes h ↦ agrees (λ j. sameSort (sortOf (kindOf j)) Count) (λ j. leb COUNT-PRE j && leb j IF) kindCount refl k h
-  | no h ↦ rw (kind-beyond k (omega arith), le-leb COUNT-PRE k (omega arith), lt-leb k IF (omega arith))
-]
 
 -- Kinds 6 and 7 are the memories.
 pub memories : (k : ℕ) → isMemory (kindOf k) ≡ (leb BOOLEAN-PRE k && leb k COUNT-PRE)

@@ -192,13 +192,45 @@ fn c(k: u32) -> Operand
     shape.c
 }
 
+// The sort of the flow of an equation of kind k.
+fn gives(k: u32) -> Sort
+    requires { ⌜ k < kindCount ⌝ }
+    ensures { λ r. ⌜ r ≡ sortOf (kindOf k) ⌝ }
+{
+    let shape = shape_at(k);
+    shape.gives
+}
+
+// The same for every number: one that is no kind's has a boolean flow. In each arm the row is known as the program is
+// compiled.
+fn sort_of(k: u32) -> Sort
+    ensures { λ r. ⌜ r ≡ sortOf (kindOf k) ⌝ }
+{
+    match k {
+        SIGNAL => gives(SIGNAL),
+        START => gives(START),
+        CONSTANT => gives(CONSTANT),
+        NOT => gives(NOT),
+        AND => gives(AND),
+        OR => gives(OR),
+        BOOLEAN_PRE => gives(BOOLEAN_PRE),
+        COUNT_PRE => gives(COUNT_PRE),
+        CAPPED => gives(CAPPED),
+        IF => gives(IF),
+        COMPARE_LITERAL => gives(COMPARE_LITERAL),
+        COMPARE_PARAMETER => gives(COMPARE_PARAMETER),
+        _ => Sort::Boolean,
+    }
+}
+
 // Whether the flow of a kind is a count.
 pub fn is_count(k: u32) -> bool
     ensures { λ r. ⌜ r ≡ sameSort (sortOf (kindOf k)) Sort.Count ⌝ }
 {
-    match k {
-        COUNT_PRE..=IF => true,
-        _ => false,
+    let sort = sort_of(k);
+    match sort {
+        Sort::Boolean => false,
+        Sort::Count => true,
     }
 }
 

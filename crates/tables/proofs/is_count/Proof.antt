@@ -1,18 +1,16 @@
--- `tables::is_count` meets its contract: the kinds of counts are 7 to 9. Assumes nothing.
-use native.Mathlib.Omega.{arith}
-use borrow.Author.Tests.{le-leb, lt-leb}
-use Rattle.tables.proofs.Numbers.{counts}
+-- `tables::is_count` meets its contract: by cases on the sort of the kind's flow. Assumes nothing.
+use Rattle.tables.specs.Table.{sameSort}
+use borrow.Author.Needs.{needs}
 use Rattle.tables.proofs.is_count.Statement.{statement}
 use Rattle.tables.proofs.is_count.Tie as tie
 
-a-count : tie.Need-returns
-a-count c = let k = c .before .before .args .k in rw (counts k, le-leb 7 k (omega arith), le-leb k 9 (omega arith))
+of-boolean : tie.Need-returns
+unfolding sameSort
+of-boolean c = rw (← c .before .before .sort-of .ensures, c .enum-told .given .1)
 
-below : tie.Need-returns-2
-below c = let k = c .before .args .k in rw (counts k, lt-leb 7 k (omega arith))
-
-above : tie.Need-returns-3
-above c = let k = c .before .before .args .k in rw (counts k, le-leb 7 k (omega arith), lt-leb k 9 (omega arith))
+of-count : tie.Need-returns-2
+unfolding sameSort
+of-count c = rw (← c .before .before .sort-of .ensures, c .enum-told2 .given .1)
 
 pub is-count-spec : {M : Type 1} → statement M
-is-count-spec = tie.close (tie.spec a-count below above)
+is-count-spec = tie.close (tie.spec (λ c κs. search needs) (λ c. search needs) (λ c. search needs) of-boolean of-count)
