@@ -25,7 +25,7 @@ use Rattle.flows.proofs.Runs.{flowAt, verdictAt, lustre}
 use Rattle.flows.proofs.Lists.{each-map, Ran, ran}
 use Rattle.flows.proofs.Expected.{admitted, expected, decided-ticks, each-expected}
 use Rattle.scheme.specs.Emit.{namedBy, numbersOf}
-use Rattle.agreement.specs.Agreement.{SameParameters, traceOfTicks, Means, Observes}
+use Rattle.agreement.specs.Agreement.{SameParameters, traceOfTicks, AsMeant, Observes}
 use Rattle.scheme.proofs.Parts.{observerOver}
 use Rattle.scheme.proofs.Formed.{formed-over, last-over, last-boolean}
 use Rattle.scheme.proofs.Local.{on, boolean-number}
@@ -63,7 +63,7 @@ module _ (cap : ℕ) (low : cap ≤ literalCount) (m : ℕ) (few : m ≤ signalC
     -- and so the answer of each tick's step is, over any list of calls.
     module _ (ks : List Tick) (same : SameParameters ps ks) where
       tick-means : (k : ℕ) (s : Taken) → Ran cap t n passes old room (traceOfTicks ps ks) k s
-          → Means f (traceOfTicks ps ks) k s
+          → AsMeant f (traceOfTicks ps ks) k s
       unfolding afterTick flowAt
       tick-means k s r =
           let here : s .call .tick .parameters ≡ ps = ap (λ (x : Tick). x .parameters) (sym (r .now)) ∙ same-at same k in
@@ -73,7 +73,7 @@ module _ (cap : ℕ) (low : cap ≤ literalCount) (m : ℕ) (few : m ≤ signalC
 
   pub answers-mean : (old : List ℕ) → n ≤ length old → (calls : List Call) (ps : List ℕ)
       → SameParameters ps (ticks (fromFresh cap t n old calls))
-      → EachTick (Means f (traceOfTicks ps (ticks (fromFresh cap t n old calls)))) 0 (fromFresh cap t n old calls)
+      → EachTick (AsMeant f (traceOfTicks ps (ticks (fromFresh cap t n old calls)))) 0 (fromFresh cap t n old calls)
   answers-mean old room calls ps same =
       each-map (tick-means old room ps (ticks (fromFresh cap t n old calls)) same)
       (ran cap t n passes old room calls (tickOf 0 0 ps))
@@ -88,5 +88,5 @@ answers-are {cap} {t} {n} {f} o old room calls ps same =
     let decides = o .decides old room calls in
     let ks : ticks ss ≡ admitted cap n calls = decided-ticks cap t n calls _ decides in
     each-expected cap n (verdict (traceOfTicks ps (admitted cap n calls)) f) calls ss 0 decides
-    (subst (λ (l : List Tick). EachTick (Means f (traceOfTicks ps l)) 0 ss) ks
+    (subst (λ (l : List Tick). EachTick (AsMeant f (traceOfTicks ps l)) 0 ss) ks
     (o .agrees old room calls ps (subst (SameParameters ps) (sym ks) same)))

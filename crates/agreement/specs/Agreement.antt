@@ -26,8 +26,8 @@ abbrev pub traceOfTicks : List ℕ → List Tick → Trace
 traceOfTicks ps ks = traceOf (tickOf 0 0 ps) ks
 
 -- The step of the tick numbered k answers the verdict that the meaning of f has there.
-abbrev pub Means : Formula → Trace → ℕ → Taken → Type 0
-Means f trace k s = s .left .answer ≡ Verdict (verdict trace f k)
+abbrev pub AsMeant : Formula → Trace → ℕ → Taken → Type 0
+AsMeant f trace k s = s .left .answer ≡ Verdict (verdict trace f k)
 
 -- The n equations of the table are an observer of the formula f, which has that many nodes.
 pub record Observes (cap : ℕ) (t : List ℕ) (n : ℕ) (f : Formula) (nodes : ℕ) : Type 0 where
@@ -39,7 +39,7 @@ pub record Observes (cap : ℕ) (t : List ℕ) (n : ℕ) (f : Formula) (nodes : 
   -- every list of calls, refused ones included, if the ticks have the same parameters.
   pub agrees : (old : List ℕ) → n ≤ length old → (calls : List Call) (ps : List ℕ)
       → SameParameters ps (ticks (fromFresh cap t n old calls))
-      → EachTick (Means f (traceOfTicks ps (ticks (fromFresh cap t n old calls)))) 0 (fromFresh cap t n old calls)
+      → EachTick (AsMeant f (traceOfTicks ps (ticks (fromFresh cap t n old calls)))) 0 (fromFresh cap t n old calls)
   pub decides : (old : List ℕ) → n ≤ length old → (calls : List Call)
       → CallsDecide cap n calls (fromFresh cap t n old calls)
   -- "The number of memories in the table is at most two for each node that reading the rule counts and one more"

@@ -35,10 +35,10 @@ yes-tree (one-tree {t} e f) q = (t, e, f)
 yes-tree (two-trees e f n) q = absurd (no-yes q)
 
 -- A text that is a rule is not refused, and has one tree.
-not-refused : {a : List ℕ} {t : Tree} {n : ℕ} → HasOutcome a (rule t) → HasOutcome a (refused n) → ⊥
+pub not-refused : {a : List ℕ} {t : Tree} {n : ℕ} → HasOutcome a (rule t) → HasOutcome a (refused n) → ⊥
 not-refused {a} h k = refused-rule (one-outcome a _ _ k h)
 
-same-tree : {a : List ℕ} {t u : Tree} → HasOutcome a (rule t) → HasOutcome a (rule u) → t ≡ u
+pub same-tree : {a : List ℕ} {t u : Tree} → HasOutcome a (rule t) → HasOutcome a (rule u) → t ≡ u
 same-tree {a} {t} {u} h k = let e : rule t ≡ rule u = one-outcome a _ _ h k in cc
 
 pub tree-yes : {a b : List ℕ} {r : Same} (t : Tree) → HasOutcome a (rule t) → HasOutcome b (rule t) → SameAnswer a b r

@@ -1,0 +1,71 @@
+-- The promises of specs/Promises.antt, from the theorems of the crates. Assumes nothing.
+use mathlib.Core.List.{List, _++_}
+use mathlib.Core.Option.{Option, some}
+use mathlib.Core.Path.{_≡_, refl, sym, ap, subst, _∙_}
+use Prim.Native.Nat.{ℕ, _*_, _≤_, _<_}
+use native.Mathlib.Omega.{arith}
+use lib.ListN.{length, take}
+use Rattle.limits.specs.Limits.{standardCap, tableRoom}
+use Rattle.formulas.specs.Formula.{Formula}
+use Rattle.formulas.specs.Tree.{Tree, nodes, formulaOf}
+use Rattle.formulas.proofs.Laws.{means}
+use Rattle.formulas.proofs.Only.{only-verdict}
+use Rattle.rules.specs.Reading.{Outcome, HasOutcome}
+use Rattle.rules.specs.Reading.Outcome.{rule}
+use Rattle.rules.specs.Reading.HasOutcome.{is-rule}
+use Rattle.rules.specs.Computed.{ruleOf}
+use Rattle.rules.specs.Contract.{answerOf}
+use Rattle.rules.proofs.Theorems.{has-outcome, computed, one-outcome, accepted, has-formula}
+use Rattle.rules.proofs.SameRule.{one-answer, same-tree, not-refused}
+use Rattle.flows.proofs.Lists.{runs-as-lustre}
+use Rattle.agreement.specs.Agreement.{Observes}
+use Rattle.observers.specs.Demand.{Compiles}
+use Rattle.observers.specs.Demand.Compiles.{not-read, no-room, observed}
+use Rattle.observers.specs.declared.Compiled.{Compiled}
+use Rattle.observers.specs.declared.Compiled.the-variants.{Equations, Refused}
+use Rattle.lustre.proofs.Theorems as lustre
+use Rattle.promises.specs.Promises.{Reading, Meaning, Compiling, RoundTrips, Promises}
+
+reading : Reading
+reading =
+    record {
+      exactly = λ text t. (λ h. accepted text t .0 (computed text h), is-rule);
+      some-outcome = λ text. (ruleOf text, has-outcome text);
+      one-outcome = λ text x y. one-outcome text x y;
+      formula = λ text t h. has-formula text t (computed text h);
+      one-answer = λ text r r′ h k.
+          h .answer ∙ ap answerOf (one-outcome text (h .outcome) (k .outcome) (h .has) (k .has)) ∙ sym (k .answer);
+      one-comparison = λ a b r r′ h k. one-answer h k;
+    }
+
+-- What compiling a rule gives, where there is room.
+compiled-rule : {text before after : List ℕ} {r : Compiled} {t : Tree} → Compiles text before r after
+    → HasOutcome text (rule t) → tableRoom ≤ length before → (n : ℕ) × (r ≡ Equations n)
+compiled-rule (not-read e) h room = absurd (not-refused h e)
+compiled-rule (no-room e l) h room = absurd (omega arith)
+compiled-rule (observed {n} e is l same kept o) h room = (n, refl)
+
+-- One text has one tree, and it has one formula.
+one-formula : {x y : Option Formula} {f g : Formula} → x ≡ some f → y ≡ some g → x ≡ y → f ≡ g
+one-formula p q e = cc
+
+observed-rule : {text before after : List ℕ} {r : Compiled} {n : ℕ} {t : Tree} {f : Formula} → Compiles text before r after
+    → r ≡ Equations n → HasOutcome text (rule t) → formulaOf t ≡ some f
+    → (rest : List ℕ) → Observes standardCap (take (4 * n) after ++ rest) n f (nodes t)
+observed-rule (not-read e) q h is rest = ?
+observed-rule (no-room e l) q h is rest = ?
+observed-rule {after = after} {n = n} {t} {f} (observed {n = m} {t = u} {f = g} e is-g l same kept o) q h is rest = ?
+
+pub kept : Promises
+kept =
+    record {
+      reading = reading;
+      meaning = λ trace. record { clauses = means trace; only = λ At On v laws. only-verdict trace At On v laws };
+      running = λ t n e. runs-as-lustre standardCap t n e;
+      compiling = record { compiles = compiled-rule; observes = λ c h is rest. observed-rule c refl h is rest };
+      round-trips = record {
+        table = λ t n l buffer before after r. lustre.read-of-written t n l buffer before r after;
+        text = λ text before after buffer n. lustre.written-of-read text before buffer n after;
+        one-answer = λ text before after after′ r r′. lustre.one-answer text before r r′ after after′;
+      };
+    }

@@ -1,0 +1,2 @@
+-- What is promised is so.
+pub mod Kept

@@ -1,0 +1,2 @@
+-- What towerwatch promises.
+pub mod Promises

@@ -1,0 +1,97 @@
+-- What towerwatch promises, from the top. Each operation's contract says that what it was given, what it answers and
+-- what it leaves stand in one of the relations named below; the records say what is proved of these relations. Nothing
+-- that is named here, and no file that this one builds on, has a parser, the choice of equations, or an inner function
+-- of the code in it. Definitions only; proofs/Kept.antt proves all of it.
+--
+--   read_rule      Told           rules/specs/Contract.antt         a text and the answer
+--   same_rule      SameAnswer     rules/specs/Same.antt             two texts and the answer
+--   compile_rule   Compiles       observers/specs/Demand.antt       a text, the answer, the table before and after
+--   fresh_state    freshened      flows/specs/Step.antt             all of it as one equation
+--   step           stepped        flows/specs/Step.antt             all of it as one equation
+--   write_lustre   writeEffect    lustre/specs/Write.antt           all of it as one equation
+--   read_lustre    AfterRead      lustre/specs/Read.antt            a text, the answer, the table before and after
+--   towerwatch     Shows          player/specs/Shows.antt           a card and what is printed
+use mathlib.Core.Bool.{true}
+use mathlib.Core.List.{List, _++_}
+use mathlib.Core.Logic.{_↔_}
+use mathlib.Core.Option.{some}
+use mathlib.Core.Path.{_≡_}
+use Prim.Native.Nat.{ℕ, _*_, _≤_}
+use lib.ListN.{length, take, drop}
+use Rattle.limits.specs.Limits.{standardCap, tableRoom}
+use Rattle.traces.specs.Trace.{Trace}
+use Rattle.formulas.specs.Formula.{Formula, Prop}
+use Rattle.formulas.specs.Tree.{Tree, nodes, formulaOf}
+use Rattle.formulas.specs.Meaning.{at, meaning, verdict}
+use Rattle.formulas.specs.Laws.{Means}
+use Rattle.rules.specs.Reading.{Admitted, Outcome, HasOutcome}
+use Rattle.rules.specs.Reading.Outcome.{rule}
+use Rattle.rules.specs.Contract.{Told}
+use Rattle.rules.specs.Same.{SameAnswer}
+use Rattle.rules.specs.declared.Read.{Read}
+use Rattle.rules.specs.declared.Same.{Same}
+use Rattle.tables.specs.Table.{checked}
+use Rattle.tables.specs.declared.Checked.the-variants.{Passed}
+use Rattle.flows.specs.Lustre.{RunsAsLustre}
+use Rattle.agreement.specs.Agreement.{Observes}
+use Rattle.observers.specs.Demand.{Compiles}
+use Rattle.observers.specs.declared.Compiled.{Compiled}
+use Rattle.observers.specs.declared.Compiled.the-variants.{Equations}
+use Rattle.lustre.specs.Write.{AfterWrite, afterWrite, writeEffect}
+use Rattle.lustre.specs.Read.{AfterRead}
+use Rattle.lustre.specs.declared.Written.the-variants.{Length}
+use Rattle.lustre.specs.declared.Loaded.{Loaded}
+use Rattle.lustre.specs.declared.Loaded.the-variants.{Equations as Loads}
+
+-- Demand 2: "A text is a rule exactly when document 01's limits, grammar and fragment have it, and it has one reading."
+pub record Reading : Type 0 where
+  pub exactly : (text : List ℕ) (t : Tree) → HasOutcome text (rule t) ↔ Admitted text t
+  -- Every text is a rule or has a refusal (demand 1), and one of them.
+  pub some-outcome : (text : List ℕ) → (x : Outcome) × HasOutcome text x
+  pub one-outcome : (text : List ℕ) (x y : Outcome) → HasOutcome text x → HasOutcome text y → x ≡ y
+  -- What is read has a formula, and so a meaning.
+  pub formula : (text : List ℕ) (t : Tree) → HasOutcome text (rule t) → (f : Formula) × (formulaOf t ≡ some f)
+  -- The contracts of reading and comparing settle the answers.
+  pub one-answer : (text : List ℕ) (r r′ : Read) → Told text r → Told text r′ → r ≡ r′
+  pub one-comparison : (a b : List ℕ) (r r′ : Same) → SameAnswer a b r → SameAnswer a b r′ → r ≡ r′
+
+-- The interval meaning has document 01's clauses, each as a law, and what has these laws is the meaning.
+pub record Meaning (trace : Trace) : Type 0 where
+  pub clauses : Means trace (λ p i. at trace p i ≡ true) (λ f b e. meaning trace f b e ≡ true) (verdict trace)
+  pub only : (At : Prop → ℕ → Type 0) (On : Formula → ℕ → ℕ → Type 0) (v : Formula → ℕ → ℕ) → Means trace At On v
+      → (f : Formula) (e : ℕ) → v f e ≡ verdict trace f e
+
+-- Demand 2: "Running a table gives each equation, tick by tick, the value Lustre gives it, with counts held at one
+-- million."
+abbrev pub Running : Type 0
+Running = (t : List ℕ) (n : ℕ) → checked t n ≡ Passed → RunsAsLustre standardCap t n
+
+-- Demand 3. A rule is compiled where there is room, and then the n equations at the front of the table, whatever stands
+-- after them, observe its formula.
+pub record Compiling : Type 0 where
+  pub compiles : {text before after : List ℕ} {r : Compiled} {t : Tree} → Compiles text before r after
+      → HasOutcome text (rule t) → tableRoom ≤ length before → (n : ℕ) × (r ≡ Equations n)
+  pub observes : {text before after : List ℕ} {n : ℕ} {t : Tree} {f : Formula}
+      → Compiles text before (Equations n) after → HasOutcome text (rule t) → formulaOf t ≡ some f
+      → (rest : List ℕ) → Observes standardCap (take (4 * n) after ++ rest) n f (nodes t)
+
+-- Demand 2: "A table written as Lustre text and read back is that table, and a text that is read and written back is
+-- that text."
+pub record RoundTrips : Type 0 where
+  pub table : (t : List ℕ) (n l : ℕ) (buffer before after : List ℕ) (r : Loaded)
+      → writeEffect t n buffer .answer ≡ Length l → tableRoom ≤ length before
+      → AfterRead (take l (writeEffect t n buffer .buffer)) before r after
+      → (r ≡ Loads n) × (after ≡ take (4 * n) t ++ drop (4 * n) before)
+  pub text : (text before after buffer : List ℕ) (n : ℕ) → AfterRead text before (Loads n) after
+      → length text ≤ length buffer
+      → writeEffect after n buffer ≡ afterWrite (Length (length text)) (text ++ drop (length text) buffer)
+  -- The contract of reading settles the answer and the table.
+  pub one-answer : (text before after after′ : List ℕ) (r r′ : Loaded) → AfterRead text before r after
+      → AfterRead text before r′ after′ → (r ≡ r′) × (after ≡ after′)
+
+pub record Promises : Type 0 where
+  pub reading : Reading
+  pub meaning : (trace : Trace) → Meaning trace
+  pub running : Running
+  pub compiling : Compiling
+  pub round-trips : RoundTrips

@@ -1,0 +1,1 @@
+// What all operations promise, in one place: definitions and theorems. No code.
