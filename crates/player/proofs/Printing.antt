@@ -1,5 +1,5 @@
--- What is owed for the lines and the bytes that are left (`owed`, `prints`): nothing once the card is over, and a
--- refusal where the first line is over-long. Assumes nothing.
+-- What is owed for the lines and the bytes that are left (`owed`, `prints`): nothing once the card is over, the output
+-- of a line that ends the card, and a refusal where the first line is over-long. Assumes nothing.
 use mathlib.Core.Path.{_≡_, refl, ap}
 use mathlib.Core.List.{List, [], _∷_}
 use Prim.Native.Nat.{ℕ, _≤_}
@@ -12,7 +12,9 @@ use Rattle.cards.specs.declared.Phase.{Phase}
 use Rattle.cards.specs.declared.Phase.the-variants as P
 use Rattle.cards.proofs.Lines.{append-nil, firstOf}
 use Rattle.cards.proofs.Stages.{end-broken}
-use Rattle.player.specs.Card.{World, overWorld, lastOutput, outputBytes, brokenBytes, owed, prints}
+use Rattle.player.specs.Card.{World, overWorld, effectOf, lined}
+use Rattle.player.specs.Card.{lastOutput, outputBytes, brokenBytes, owed, prints}
+use Rattle.player.specs.declared.Output.{Output}
 use Rattle.player.proofs.Playing.{over-lined, long-lined}
 
 -- Nothing is printed once the card is over,
@@ -25,13 +27,19 @@ pub over-prints : (w : World) (s : List ℕ) → w .watch .stage .phase ≡ P.Ov
 unfolding prints
 over-prints w s e = over-owed w (cut s .whole) (cut s .tail) e
 
+-- so a line that ends the card prints the last of it,
+pub last-owed : (w w' : World) (l : List ℕ) (ls : List (List ℕ)) (t : List ℕ) (o : Output)
+    → lined w l ≡ effectOf o w' → w' .watch .stage .phase ≡ P.Over → owed w (l ∷ ls) t ≡ outputBytes o
+unfolding owed
+last-owed w w' l ls t o e p = rw (e, over-owed w' ls t p) (append-nil _)
+
 -- and an over-long line, whole or not, is broken.
 long-owed : (w : World) (ls : List (List ℕ)) (t : List ℕ) → lineLimit ≤ firstOf ls t
     → owed w ls t ≡ brokenBytes (w .watch .stage .phase)
 unfolding owed
 long-owed w [] t h =
     ap (λ (s : Says). outputBytes (lastOutput s)) (end-broken (w .watch .stage) (length t) (omega arith))
-long-owed w (l ∷ ls) t h = rw (long-lined w l h, over-owed (overWorld w) ls t refl) (append-nil _)
+long-owed w (l ∷ ls) t h = last-owed w (overWorld w) l ls t _ (long-lined w l h) refl
 
 pub long-prints : (w : World) (s : List ℕ) → lineLimit ≤ firstOf (cut s .whole) (cut s .tail)
     → prints w s ≡ brokenBytes (w .watch .stage .phase)
