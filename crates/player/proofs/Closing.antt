@@ -94,6 +94,7 @@ no-rule : (l : List ℕ) (b : Bool) → hasPrefix ruleHead l ≡ b → NoRule l 
 no-rule l true e h = absurd (h (afterHead ruleHead l) (rule-is l e))
 no-rule l false e h = refl
 
+-- Each sort of line at its stage.
 pub edition-refuses : Refuses (stageAt P.Edition 0) headRefusal NoEdition
 edition-refuses =
     record { long = refl; end = λ n. refl; bad = λ l h. rw (no-edition l (editionOf l) refl h) }
@@ -108,6 +109,7 @@ rule-refuses =
 pub count-refuses : Refuses (stageAt P.Count 0) headRefusal NoCount
 count-refuses = record { long = refl; end = λ n. refl; bad = λ l h. ap countSays h }
 
+-- Something is left.
 not-done : (left : ℕ) → eqb (suc left) 0 ≡ false
 not-done left = ne-eqb (suc left) 0 (λ z. omega arith)
 

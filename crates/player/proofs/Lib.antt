@@ -1,4 +1,4 @@
--- Laws behind the functions' proofs, and the theorem on the verdicts that a card prints.
+-- Laws behind the functions' proofs, and the theorem on what every card prints.
 pub mod Playing
 pub mod Printing
 pub mod Reaching

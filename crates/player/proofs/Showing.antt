@@ -46,7 +46,7 @@ record Ticking (ps : List ℕ) (m : ℕ) (all : List (List ℕ)) (tail : List �
   pub these : ls ++ rest ≡ all
 
 module _ (ps tail : List ℕ) where
-  -- Not a line more.
+  -- No tick line more, and one more.
   closing : {m : ℕ} {rest : List (List ℕ)} {o : Output} → Closes m rest tail o → Ticking ps m rest tail
   closing {m} {rest} {o} h =
       record {
@@ -93,6 +93,7 @@ module _ (ps tail : List ℕ) where
 
 -- ---- the four first lines
 
+-- There is something that these lines show.
 abbrev pub Something : List ℕ → List (List ℕ) → Type 0
 Something tail ls = (out : List ℕ) × LinesShow tail ls out
 

@@ -154,5 +154,6 @@ shown card =
     let h = lines-show (cut card .tail) (cut card .whole) in
     subst (λ (out : List ℕ). Shows card out) (sym (shown-printed card (h .1))) (h .1)
 
+-- The statement of specs/Meant.antt.
 pub meant : (card : List ℕ) → Meant card
 meant card = record { shown = shown card; only = λ out h. sym (shown-printed card h) }
