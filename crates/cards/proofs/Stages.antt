@@ -14,7 +14,7 @@ use Rattle.cards.specs.Numbers.{hasPrefix, Listed, parametersOf, countOf
 use Rattle.cards.specs.Numbers.Listed.{are, broken}
 use Rattle.cards.specs.Ticks.{tickLine}
 use Rattle.cards.specs.Lines.{overLong}
-use Rattle.cards.specs.Says.{headRefusal, tickRefusal}
+use Rattle.cards.specs.Heads.{headRefusal, tickRefusal}
 use Rattle.cards.specs.Says.{Says, stageAt, isOver, brokenBy, editionOf, parametersSay, countSays, tickSays}
 use Rattle.cards.specs.Says.{saysIn, lineSays, stageAfter, endIn, endSays}
 use Rattle.cards.specs.Says.Says.{edition, parameters, rule, count, tick, refused, nothing}

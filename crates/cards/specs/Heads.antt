@@ -20,3 +20,10 @@ countHead = bytes "ticks="
 -- What stands after the head of a line.
 abbrev pub afterHead : List ℕ → List ℕ → List ℕ
 afterHead head l = drop (length head) l
+
+-- "A broken, missing or over-long line is 17 in the four first lines, 18 later"
+abbrev pub headRefusal : ℕ
+headRefusal = 17
+
+abbrev pub tickRefusal : ℕ
+tickRefusal = 18

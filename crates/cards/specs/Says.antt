@@ -6,7 +6,7 @@ use mathlib.Core.List.{List}
 use Prim.Native.Nat.{ℕ, _-_}
 use lib.Dec.{eqb}
 use Rattle.lists.specs.Same.{same}
-use Rattle.cards.specs.Heads.{editionLine, ruleHead, afterHead}
+use Rattle.cards.specs.Heads.{editionLine, ruleHead, afterHead, headRefusal, tickRefusal}
 use Rattle.cards.specs.Numbers.{hasPrefix, Listed, parametersOf, countOf}
 use Rattle.cards.specs.Numbers.Listed.{are, broken}
 use Rattle.cards.specs.Ticks.{tickLine}
@@ -57,13 +57,6 @@ isOver P.Rule = false
 isOver P.Count = false
 isOver P.Ticks = false
 isOver P.Over = true
-
--- "A broken, missing or over-long line is 17 in the four first lines, 18 later"
-abbrev pub headRefusal : ℕ
-headRefusal = 17
-
-abbrev pub tickRefusal : ℕ
-tickRefusal = 18
 
 abbrev pub brokenBy : Phase → Says
 brokenBy P.Edition = refused headRefusal

@@ -16,7 +16,8 @@ use Rattle.cards.specs.declared.Phase.the-variants as P
 use Rattle.lists.proofs.Lines.{line-short}
 use Rattle.cards.proofs.Lines.{one-line}
 use Rattle.player.specs.Card.{World, worldOf, overWatch, overWorld, Effect, lined}
-use Rattle.player.specs.Card.{outputBytes, brokenBytes, longestOutput}
+use Rattle.player.specs.Card.{brokenBytes, longestOutput}
+use Rattle.player.specs.Output.{outputBytes}
 use Rattle.feeder.specs.Feed.{Goes, Short, Room, fedTo, Runs, Feeds, fedWorld, leftOver, placed}
 use Rattle.feeder.specs.Feed.{tailBytes, tailFed}
 use Rattle.feeder.specs.declared.Fed.{Fed}

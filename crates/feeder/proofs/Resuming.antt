@@ -11,7 +11,8 @@ use Rattle.lists.specs.Line.{line}
 use Rattle.cards.specs.Says.{endSays}
 use Rattle.cards.specs.declared.Phase.{Phase}
 use Rattle.cards.proofs.Lines.{append-nil, cut-first, cut-one, cut-whole, first-long}
-use Rattle.player.specs.Card.{World, overWatch, overWorld, lined, lastOutput, outputBytes, brokenBytes, owed, prints}
+use Rattle.player.specs.Card.{World, overWatch, overWorld, lined, lastOutput, brokenBytes, owed, prints}
+use Rattle.player.specs.Output.{outputBytes}
 use Rattle.player.proofs.Printing.{over-prints, long-prints}
 use Rattle.player.specs.declared.Watch.{Watch}
 use Rattle.feeder.specs.Feed.{Goes, Short, afterLines, afterTail, fedWorld, leftOver, fedTo, tailBytes, tailFed}

@@ -17,7 +17,8 @@ use Rattle.cards.proofs.Front.{First, first-tick}
 use Rattle.cards.proofs.Hex.{tick-length}
 use Rattle.traces.specs.Trace.{tickOf}
 use Rattle.traces.specs.declared.Tick.{Tick}
-use Rattle.player.specs.Card.{World, worldOf, lined, outputBytes}
+use Rattle.player.specs.Card.{World, worldOf, lined}
+use Rattle.player.specs.Output.{outputBytes}
 use Rattle.player.specs.declared.Output.the-variants as O
 use Rattle.player.specs.declared.Watch.{Watch}
 use Rattle.player.proofs.Playing.{saying, oneLess, tick-lined}

@@ -3,7 +3,8 @@ use mathlib.Core.List.{List, [], _∷_, _++_}
 use mathlib.Core.Path.{_≡_}
 use Prim.Native.Nat.{ℕ}
 use lib.ListN.{length}
-use Rattle.player.specs.Card.{World, lastOutput, outputBytes, startWorld, printed}
+use Rattle.player.specs.Card.{World, lastOutput, startWorld, printed}
+use Rattle.player.specs.Output.{outputBytes}
 use Rattle.feeder.specs.Feed.{Goes, Short}
 use Rattle.cards.specs.Says.{endSays}
 use Rattle.cards.specs.declared.Phase.the-variants as P

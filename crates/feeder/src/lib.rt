@@ -11,7 +11,8 @@ ghost use mathlib.Core.Path.{_≡_};
 ghost use Prim.Native.Nat.{_+_, _-_, _≤_};
 ghost use lib.ListN.{length, take, drop};
 ghost use Rattle.cards.specs.Says.{stageAt};
-ghost use Rattle.player.specs.Card.{brought, entering, leaving, watchOf, outputBytes, longestOutput};
+ghost use Rattle.player.specs.Card.{brought, entering, leaving, watchOf, longestOutput};
+ghost use Rattle.player.specs.Output.{outputBytes};
 ghost use Rattle.feeder.specs.Feed.{Room, Stops, Admitted, fedTo, Runs, tailBytes, tailFed, Feeds};
 ghost use Rattle.feeder.specs.Feed.{shifted, Turns, Short, Finishes, placed};
 

@@ -64,7 +64,7 @@ of-observed text before n m after t f h is room o number c =
     number-of e = cc
 
 -- A refusal has no equations.
-refused-equations : {r n : ℕ} → Refused r ≡ Equations n → ⊥
+pub refused-equations : {r n : ℕ} → Refused r ≡ Equations n → ⊥
 refused-equations e = let z : _≡_ {A = ℕ} 0 1 = cc in omega arith
 
 left : (text before : List ℕ) (n : ℕ) (after : List ℕ) (r : Compiled) → Compiles text before r after → r ≡ Equations n

@@ -12,15 +12,16 @@ use Rattle.lists.proofs.Same.{same→eq, same-refl}
 use Rattle.cards.specs.Heads.{editionLine, ruleHead, afterHead}
 use Rattle.cards.specs.Numbers.{hasPrefix}
 use Rattle.cards.specs.Lines.{overLong}
-use Rattle.cards.specs.Says.{headRefusal, tickRefusal}
+use Rattle.cards.specs.Heads.{headRefusal, tickRefusal}
 use Rattle.cards.specs.Says.{Says, stageAt, editionOf, parametersSay, countSays, brokenBy, saysIn, lineSays, endSays}
 use Rattle.cards.specs.Says.Says.{refused}
 use Rattle.cards.specs.declared.Phase.the-variants as P
 use Rattle.cards.specs.declared.Stage.{Stage}
-use Rattle.player.specs.Card.{World, worldOf, watchOf, overWorld, played, lined, lastOutput, outputBytes, owed}
-use Rattle.player.specs.Meant.{NoEdition, NoParameters, NoRule, NoCount, NoTick, Fails, Closes}
-use Rattle.player.specs.Meant.Fails.{broken, missing, over-long}
-use Rattle.player.specs.Meant.Closes.{whole, line-after, bytes-after, tick-fails}
+use Rattle.player.specs.Card.{World, worldOf, watchOf, overWorld, played, lined, lastOutput, owed}
+use Rattle.player.specs.Output.{outputBytes}
+use Rattle.player.specs.Shows.{NoEdition, NoParameters, NoRule, NoCount, NoTick, Fails, Closes}
+use Rattle.player.specs.Shows.Fails.{broken, missing, over-long}
+use Rattle.player.specs.Shows.Closes.{whole, line-after, bytes-after, tick-fails}
 use Rattle.player.specs.declared.Output.{Output}
 use Rattle.player.specs.declared.Output.the-variants as O
 use Rattle.player.proofs.Printing.{last-owed}

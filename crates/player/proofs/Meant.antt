@@ -21,7 +21,8 @@ use Rattle.tables.specs.Table.{Equation, all}
 use Rattle.limits.specs.Limits.{parameterCount, standardCap, textLimit, equationLimit, tableRoom}
 use Rattle.flows.specs.Step.{AfterStep, freshened, stepped, stepChecked, steppedIf, afterTick as tickAfter}
 use Rattle.flows.specs.Step.{parameterFits}
-use Rattle.flows.specs.Run.{Call, answers, callChecked, ticks, expected}
+use Rattle.flows.specs.Run.{Call, Taken, steps, answered, callChecked}
+use Rattle.flows.proofs.Expected.{admitted as admittedTicks, expected}
 use Rattle.tables.specs.declared.Checked.{Checked}
 use Rattle.tables.specs.declared.Checked.the-variants.{Passed, Refused as Failed}
 use Rattle.flows.specs.declared.Stepped.{Stepped}
@@ -29,11 +30,12 @@ use Rattle.flows.specs.declared.Stepped.the-variants as S
 use Rattle.tables.proofs.Tests.{all-of}
 use Rattle.flows.proofs.Buffers.{length-flows}
 use Rattle.scheme.specs.Emit.{observer, numbersOf}
+use Rattle.agreement.proofs.Answers.{answers-are}
 use Rattle.agreement.specs.Agreement.{Observes, SameParameters, traceOfTicks}
 use Rattle.agreement.specs.Agreement.SameParameters.{none as same-none, more as same-more}
 use Rattle.scheme.proofs.Sizes.{observer-size}
 use Rattle.emitter.proofs.Size.{observer-front}
-use Rattle.rules.specs.Reading.{ruleOf}
+use Rattle.rules.specs.Computed.{ruleOf}
 use Rattle.rules.specs.Reading.Outcome.{rule}
 use Rattle.rules.proofs.Theorems.{accepted}
 use Rattle.observers.specs.Compile.{afterCompile, compiled}
@@ -42,9 +44,10 @@ use Rattle.observers.proofs.Demand.{Known, known, small-raw, observes-rule, roo
 use Rattle.cards.specs.Says.{stageAt}
 use Rattle.cards.specs.declared.Phase.the-variants as P
 use Rattle.traces.specs.Trace.{tickOf}
-use Rattle.player.specs.Card.{worldOf, watchOf, Effect, outputBytes, owed}
-use Rattle.player.specs.Meant.{TickLines, Closes, verdictLines}
-use Rattle.player.specs.Meant.TickLines.{none as no-lines, more as more-lines}
+use Rattle.player.specs.Card.{worldOf, watchOf, Effect, owed}
+use Rattle.player.specs.Output.{outputBytes}
+use Rattle.player.specs.Shows.{TickLines, Closes, verdictLines}
+use Rattle.player.specs.Shows.TickLines.{none as no-lines, more as more-lines}
 use Rattle.player.specs.declared.Output.{Output}
 use Rattle.player.specs.declared.Output.the-variants as O
 use Rattle.player.proofs.Playing.{saying, tick-lined}
@@ -85,8 +88,8 @@ module _ (cap : ℕ) (t : List ℕ) (n : ℕ) where
 
     -- So all of these calls are: their ticks are ks, and a verdict is expected of each.
     calls-ticks : (ks : List Tick) (c v : List ℕ) → n ≤ length v → SameParameters ps ks
-        → ticks cap n (callsOf c v ks) ≡ ks
-    unfolding ticks callsOf
+        → admittedTicks cap n (callsOf c v ks) ≡ ks
+    unfolding admittedTicks callsOf
     calls-ticks [] c v h s = refl
     calls-ticks (k ∷ ks) c v h (same-more e s) =
         rw (admitted v k h e, calls-ticks ks (stepped cap t n c v k .state) _ (step-room c v k h) s)
@@ -101,12 +104,12 @@ module _ (cap : ℕ) (t : List ℕ) (n : ℕ) where
     -- The answers to them are the verdicts of a formula that the table observes.
     module _ {f : Formula} {m : ℕ} (o : Observes cap t n f m) (old : List ℕ) (room : n ≤ length old) where
       calls-meant : (ks : List Tick) (v : List ℕ) → n ≤ length v → SameParameters ps ks
-          → answers cap t n (freshened t n old .state) (callsOf (freshened t n old .state) v ks)
+          → answered (steps cap t n (freshened t n old .state) (callsOf (freshened t n old .state) v ks))
           ≡ verdictsFrom (verdict (traceOfTicks ps ks) f) 0 ks
       calls-meant ks v h s =
           let c = freshened t n old .state in
           let same = calls-ticks ks c v h s in
-          o .agrees old room ps (callsOf c v ks) (rw same s)
+          answers-are o old room (callsOf c v ks) ps (rw same s)
           ∙ ap (λ (l : List Tick). expected cap n (verdict (traceOfTicks ps l) f) 0 (callsOf c v ks)) same
           ∙ calls-expected (verdict (traceOfTicks ps ks) f) 0 ks c v h s
 
@@ -125,23 +128,23 @@ tails e = cc
 module _ (ps t : List ℕ) (n : ℕ) where
   -- What the first call of a list answers, and the others.
   module _ (c v : List ℕ) (k : Tick) (ks : List Tick) (vd : ℕ → ℕ) (i : ℕ)
-      (e : answers standardCap t n c (callsOf standardCap t n c v (k ∷ ks)) ≡ verdictsFrom vd i (k ∷ ks)) where
+      (e : answered (steps standardCap t n c (callsOf standardCap t n c v (k ∷ ks))) ≡ verdictsFrom vd i (k ∷ ks)) where
     abbrev one : AfterStep
     one = stepped standardCap t n c v k
 
     first-answer : one .answer ≡ S.Verdict (vd i)
-    unfolding answers callsOf verdictsFrom
+    unfolding steps callsOf verdictsFrom
     first-answer = heads e
 
-    other-answers : answers standardCap t n (one .state) (callsOf standardCap t n (one .state) (one .values) ks)
+    other-answers : answered (steps standardCap t n (one .state) (callsOf standardCap t n (one .state) (one .values) ks))
         ≡ verdictsFrom vd (suc i) ks
-    unfolding answers callsOf verdictsFrom
+    unfolding steps callsOf verdictsFrom
     other-answers = tails e
 
   -- The tick lines print what the calls answer, where these answers are verdicts, and then the card ends.
   ticks-owed : {ls rest : List (List ℕ)} {ks : List Tick} {left : ℕ} {tail : List ℕ} {o : Output}
       → TickLines ps ls ks → Closes left rest tail o → (vd : ℕ → ℕ) (i : ℕ) (c v : List ℕ)
-      → answers standardCap t n c (callsOf standardCap t n c v ks) ≡ verdictsFrom vd i ks
+      → answered (steps standardCap t n c (callsOf standardCap t n c v ks)) ≡ verdictsFrom vd i ks
       → owed (worldOf (watchOf (stageAt P.Ticks (length ks + left)) n) ps t c v) (ls ++ rest) tail
       ≡ verdictLines vd i ks ++ outputBytes o
   unfolding owed verdictLines

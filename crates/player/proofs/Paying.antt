@@ -19,7 +19,8 @@ use Rattle.cards.specs.declared.Stage.{Stage}
 use Rattle.cards.proofs.Stages.{Follows, says-follows}
 use Rattle.player.specs.Card.{World, Effect, endedBy, withRule, withStep, playedTo, played, lined}
 use Rattle.player.specs.Card.{ruleMade, ruledWorld, stepOf, steppedWorld}
-use Rattle.player.specs.Card.{refusalDigits, outputBytes, brokenBytes, longestOutput}
+use Rattle.player.specs.Card.{brokenBytes, longestOutput}
+use Rattle.player.specs.Output.{refusalDigits, outputBytes}
 use Rattle.player.specs.declared.Output.{Output}
 use Rattle.player.specs.declared.Output.the-variants as O
 

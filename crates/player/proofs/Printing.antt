@@ -13,7 +13,8 @@ use Rattle.cards.specs.declared.Phase.the-variants as P
 use Rattle.cards.proofs.Lines.{append-nil, firstOf}
 use Rattle.cards.proofs.Stages.{end-broken}
 use Rattle.player.specs.Card.{World, overWorld, effectOf, lined}
-use Rattle.player.specs.Card.{lastOutput, outputBytes, brokenBytes, owed, prints}
+use Rattle.player.specs.Card.{lastOutput, brokenBytes, owed, prints}
+use Rattle.player.specs.Output.{outputBytes}
 use Rattle.player.specs.declared.Output.{Output}
 use Rattle.player.proofs.Playing.{over-lined, long-lined}
 

@@ -4,7 +4,8 @@ use mathlib.Core.List.{[], _∷_, _++_}
 use Rattle.lists.specs.Text.{bytes}
 use Rattle.cards.specs.Lines.{cut}
 use Rattle.cards.specs.Says.{lineSays}
-use Rattle.player.specs.Card.{played, lined, refusalDigits, outputBytes, owed, prints, printed}
+use Rattle.player.specs.Card.{played, lined, owed, prints, printed}
+use Rattle.player.specs.Output.{refusalDigits, outputBytes}
 use Rattle.player.specs.declared.Output.the-variants as O
 
 -- "A refusal prints `refused=` and its number": one digit and two.

@@ -9,7 +9,8 @@ use lib.ListN.{length}
 use Rattle.traces.specs.declared.Tick.{Tick}
 use Rattle.traces.specs.Trace.{tickOf}
 use Rattle.formulas.specs.Tree.{Tree}
-use Rattle.rules.specs.Reading.{Outcome, HasOutcome, ruleOf}
+use Rattle.rules.specs.Reading.{Outcome, HasOutcome}
+use Rattle.rules.specs.Computed.{ruleOf}
 use Rattle.rules.specs.Reading.Outcome.{rule, refused}
 use Rattle.rules.proofs.Theorems.{has-outcome, computed, has-formula}
 use Rattle.cards.specs.Heads.{editionLine, ruleHead, afterHead}
@@ -22,12 +23,12 @@ use Rattle.cards.specs.declared.Count.{Count}
 use Rattle.cards.specs.declared.Count.the-variants as K
 use Rattle.cards.specs.declared.TickLine.{TickLine}
 use Rattle.cards.specs.declared.TickLine.the-variants as T
-use Rattle.player.specs.Meant.{TickLines, Closes, LinesShow}
-use Rattle.player.specs.Meant.Fails.{broken, missing, over-long}
-use Rattle.player.specs.Meant.TickLines.{none as no-lines, more as more-lines}
-use Rattle.player.specs.Meant.Closes.{whole, line-after, bytes-after, tick-fails}
-use Rattle.player.specs.Meant.LinesShow.{edition-fails, parameters-fail, rule-fails, count-fails}
-use Rattle.player.specs.Meant.LinesShow.{rule-refused, verdicts}
+use Rattle.player.specs.Shows.{TickLines, Closes, LinesShow}
+use Rattle.player.specs.Shows.Fails.{broken, missing, over-long}
+use Rattle.player.specs.Shows.TickLines.{none as no-lines, more as more-lines}
+use Rattle.player.specs.Shows.Closes.{whole, line-after, bytes-after, tick-fails}
+use Rattle.player.specs.Shows.LinesShow.{edition-fails, parameters-fail, rule-fails, count-fails}
+use Rattle.player.specs.Shows.LinesShow.{rule-refused, verdicts}
 use Rattle.player.specs.declared.Output.{Output}
 use Rattle.player.proofs.Closing.{edition-is, edition-not, rule-is, rule-not}
 

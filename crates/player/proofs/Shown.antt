@@ -11,7 +11,8 @@ use Rattle.formulas.specs.Formula.{Formula}
 use Rattle.formulas.specs.Tree.{Tree}
 use Rattle.limits.specs.Limits.{parameterCount, textLimit, lineLimit, equationLimit, tableRoom}
 use Rattle.flows.specs.Step.{freshened}
-use Rattle.rules.specs.Reading.{HasOutcome, ruleOf}
+use Rattle.rules.specs.Reading.{HasOutcome}
+use Rattle.rules.specs.Computed.{ruleOf}
 use Rattle.rules.specs.Reading.Outcome.{rule, refused}
 use Rattle.rules.proofs.Theorems.{computed, has-formula}
 use Rattle.observers.proofs.Demand.{refused-compiled}
@@ -26,10 +27,12 @@ use Rattle.cards.specs.declared.Phase.the-variants as P
 use Rattle.cards.specs.declared.Stage.{Stage}
 use Rattle.cards.proofs.Sized.{parameters-low, parameters-short, count-short}
 use Rattle.player.specs.Card.{World, worldOf, watchOf, Effect, effectOf, overWorld, ruleMade, played, lined}
-use Rattle.player.specs.Card.{outputBytes, owed, prints, printed}
-use Rattle.player.specs.Meant.{LinesShow, Shows, Meant}
-use Rattle.player.specs.Meant.LinesShow.{edition-fails, parameters-fail, rule-fails, count-fails}
-use Rattle.player.specs.Meant.LinesShow.{rule-refused, verdicts}
+use Rattle.player.specs.Card.{owed, prints, printed}
+use Rattle.player.specs.Output.{outputBytes}
+use Rattle.player.specs.Meant.{Meant}
+use Rattle.player.specs.Shows.{LinesShow, Shows}
+use Rattle.player.specs.Shows.LinesShow.{edition-fails, parameters-fail, rule-fails, count-fails}
+use Rattle.player.specs.Shows.LinesShow.{rule-refused, verdicts}
 use Rattle.player.specs.declared.Output.the-variants as O
 use Rattle.player.proofs.Printing.{last-owed}
 use Rattle.player.proofs.Closing.{fails-owed, edition-refuses, parameters-refuse, rule-refuses, count-refuses}

@@ -1,18 +1,14 @@
 -- What the program prints for a card, as a definition on the card's bytes: `printed`. What a line says is
 -- `lineSays` of the crate cards; here it is played (`played`): a rule is compiled, a tick is a step. Definitions only.
 -- The sentences quoted are document 01's, from "towerwatch".
-use mathlib.Core.Bool.{cond}
 use mathlib.Core.List.{List, [], _∷_, _++_}
 use mathlib.Core.Path.{_≡_}
-use Prim.Native.Nat.{ℕ, _+_, _/_, _%_, _<_}
-use lib.Dec.{ltb}
+use Prim.Native.Nat.{ℕ, _+_, _<_}
 use lib.ListN.{length, replicate}
 use denote.Ref.{RefT, now}
 use denote.Triple.Both.{Both}
 use Rattle.limits.specs.Limits.{standardCap, parameterCount, tableRoom, equationLimit}
-use Rattle.lists.specs.Decimal.{digit}
-use Rattle.lists.specs.Line.{lineEnd, lineFrom}
-use Rattle.lists.specs.Text.{bytes}
+use Rattle.lists.specs.Line.{lineFrom}
 use Rattle.traces.specs.Trace.{tickOf}
 use Rattle.observers.specs.Compile.{AfterCompile, compiled}
 use Rattle.observers.specs.declared.Compiled.{Compiled}
@@ -28,6 +24,7 @@ use Rattle.cards.specs.Says.Says.{edition, parameters, rule, count, tick, refus
 use Rattle.cards.specs.declared.Phase.{Phase}
 use Rattle.cards.specs.declared.Phase.the-variants as P
 use Rattle.cards.specs.declared.Stage.{Stage}
+use Rattle.player.specs.Output.{outputBytes}
 use Rattle.player.specs.declared.Output.{Output}
 use Rattle.player.specs.declared.Output.the-variants as O
 use Rattle.player.specs.declared.Watch.{Watch}
@@ -190,16 +187,6 @@ lastOutput (count k) = O.Quiet
 lastOutput (tick start signals) = O.Quiet
 lastOutput (refused r) = O.Refused r
 lastOutput nothing = O.Quiet
-
--- A refusal's number in decimal digits. Refusals are 1 to 18: of a longer number these would be the last two digits.
-unfoldable pub refusalDigits : ℕ → List ℕ
-refusalDigits r = cond (ltb r 10) (digit (r % 10) ∷ []) (digit (r / 10 % 10) ∷ digit (r % 10) ∷ [])
-
--- "It prints `verdict=` and 0 or 1 for each tick. A refusal prints `refused=` and its number". A verdict is one digit.
-unfoldable pub outputBytes : Output → List ℕ
-outputBytes O.Quiet = []
-outputBytes (O.Verdict v) = bytes "verdict=" ++ (digit (v % 10) ∷ lineEnd ∷ [])
-outputBytes (O.Refused r) = bytes "refused=" ++ (refusalDigits r ++ (lineEnd ∷ []))
 
 -- What a broken line prints.
 abbrev pub brokenBytes : Phase → List ℕ

@@ -1,7 +1,7 @@
 -- The promises of specs/Promises.antt, from the theorems of the crates. Assumes nothing.
 use mathlib.Core.List.{List, _++_}
 use mathlib.Core.Option.{Option, some}
-use mathlib.Core.Path.{_≡_, refl, sym, ap, subst, _∙_}
+use mathlib.Core.Path.{_≡_, refl, sym, ap, subst, subst₂, _∙_}
 use Prim.Native.Nat.{ℕ, _*_, _≤_, _<_}
 use native.Mathlib.Omega.{arith}
 use lib.ListN.{length, take}
@@ -23,7 +23,10 @@ use Rattle.observers.specs.Demand.{Compiles}
 use Rattle.observers.specs.Demand.Compiles.{not-read, no-room, observed}
 use Rattle.observers.specs.declared.Compiled.{Compiled}
 use Rattle.observers.specs.declared.Compiled.the-variants.{Equations, Refused}
+use Rattle.observers.proofs.SameRule.{refused-equations}
 use Rattle.lustre.proofs.Theorems as lustre
+use Rattle.player.specs.Card.{printed}
+use Rattle.player.proofs.Shown.{shown, one-output}
 use Rattle.promises.specs.Promises.{Reading, Meaning, Compiling, RoundTrips, Promises}
 
 reading : Reading
@@ -52,9 +55,15 @@ one-formula p q e = cc
 observed-rule : {text before after : List ℕ} {r : Compiled} {n : ℕ} {t : Tree} {f : Formula} → Compiles text before r after
     → r ≡ Equations n → HasOutcome text (rule t) → formulaOf t ≡ some f
     → (rest : List ℕ) → Observes standardCap (take (4 * n) after ++ rest) n f (nodes t)
-observed-rule (not-read e) q h is rest = ?
-observed-rule (no-room e l) q h is rest = ?
-observed-rule {after = after} {n = n} {t} {f} (observed {n = m} {t = u} {f = g} e is-g l same kept o) q h is rest = ?
+observed-rule (not-read e) q h is rest = absurd (not-refused h e)
+observed-rule (no-room e l) q h is rest = absurd (refused-equations q)
+observed-rule {after = after} {n = n} {t} {f} (observed {n = m} {t = u} {f = g} e is-g l same kept o) q h is rest =
+    let number : m ≡ n = cc in
+    let tree : u ≡ t = same-tree e h in
+    let formula : g ≡ f = one-formula is-g is (ap formulaOf tree) in
+    subst (λ (k : ℕ). Observes standardCap (take (4 * k) after ++ rest) k f (nodes t)) number
+    (subst₂ (λ (v : Tree) (x : Formula). Observes standardCap (take (4 * m) after ++ rest) m x (nodes v)) tree formula
+    (o rest))
 
 pub kept : Promises
 kept =
@@ -67,5 +76,9 @@ kept =
         table = λ t n l buffer before after r. lustre.read-of-written t n l buffer before r after;
         text = λ text before after buffer n. lustre.written-of-read text before buffer n after;
         one-answer = λ text before after after′ r r′. lustre.one-answer text before r r′ after after′;
+      };
+      cards = record {
+        some-output = λ card. (printed card, shown card);
+        one-output = λ card out out′. one-output card out out′;
       };
     }

@@ -42,6 +42,7 @@ use Rattle.lustre.specs.Read.{AfterRead}
 use Rattle.lustre.specs.declared.Written.the-variants.{Length}
 use Rattle.lustre.specs.declared.Loaded.{Loaded}
 use Rattle.lustre.specs.declared.Loaded.the-variants.{Equations as Loads}
+use Rattle.player.specs.Shows.{Shows}
 
 -- Demand 2: "A text is a rule exactly when document 01's limits, grammar and fragment have it, and it has one reading."
 pub record Reading : Type 0 where
@@ -56,7 +57,7 @@ pub record Reading : Type 0 where
   pub one-comparison : (a b : List ℕ) (r r′ : Same) → SameAnswer a b r → SameAnswer a b r′ → r ≡ r′
 
 -- The interval meaning has document 01's clauses, each as a law, and what has these laws is the meaning.
-pub record Meaning (trace : Trace) : Type 0 where
+pub record Meaning (trace : Trace) : Type 1 where
   pub clauses : Means trace (λ p i. at trace p i ≡ true) (λ f b e. meaning trace f b e ≡ true) (verdict trace)
   pub only : (At : Prop → ℕ → Type 0) (On : Formula → ℕ → ℕ → Type 0) (v : Formula → ℕ → ℕ) → Means trace At On v
       → (f : Formula) (e : ℕ) → v f e ≡ verdict trace f e
@@ -89,9 +90,15 @@ pub record RoundTrips : Type 0 where
   pub one-answer : (text before after after′ : List ℕ) (r r′ : Loaded) → AfterRead text before r after
       → AfterRead text before r′ after′ → (r ≡ r′) × (after ≡ after′)
 
-pub record Promises : Type 0 where
+-- Cards: every card shows something, and one thing.
+pub record Cards : Type 0 where
+  pub some-output : (card : List ℕ) → (out : List ℕ) × Shows card out
+  pub one-output : (card out out′ : List ℕ) → Shows card out → Shows card out′ → out ≡ out′
+
+pub record Promises : Type 1 where
   pub reading : Reading
   pub meaning : (trace : Trace) → Meaning trace
   pub running : Running
   pub compiling : Compiling
   pub round-trips : RoundTrips
+  pub cards : Cards

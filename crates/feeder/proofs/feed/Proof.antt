@@ -7,7 +7,8 @@ use native.Mathlib.Omega.{arith}
 use borrow.Author.Needs.{needs}
 use lib.ListN.{length, drop, length-drop}
 use Rattle.lists.specs.Line.{line}
-use Rattle.player.specs.Card.{World, worldOf, brought, outputBytes}
+use Rattle.player.specs.Card.{World, worldOf, brought}
+use Rattle.player.specs.Output.{outputBytes}
 use Rattle.feeder.specs.declared.Fed.{Fed}
 use Rattle.feeder.proofs.Moving.{put-length, withRest}
 use Rattle.feeder.proofs.Feeding.{Between, begun, written-room, rest-room, ran-on, line-inside, said-room}

@@ -4,7 +4,8 @@ use mathlib.Core.List.{[]}
 use Prim.Native.Nat.{_-_}
 use borrow.Author.Needs.{needs}
 use lib.Seq.{paste-zero}
-use Rattle.player.specs.Card.{outputBytes, brokenBytes}
+use Rattle.player.specs.Card.{brokenBytes}
+use Rattle.player.specs.Output.{outputBytes}
 use Rattle.player.specs.declared.Answered.{Answered}
 use Rattle.feeder.specs.Feed.{placed}
 use Rattle.feeder.proofs.Resuming.{bytes-short, bytes-long, tail-short, tail-long}

@@ -7,7 +7,8 @@ use native.Mathlib.Omega.{arith}
 use lib.ListN.{length, take}
 use lib.Seq.{length-take-le}
 use Rattle.cards.specs.Says.{endSays}
-use Rattle.player.specs.Card.{worldOf, outputBytes, lastOutput}
+use Rattle.player.specs.Card.{worldOf, lastOutput}
+use Rattle.player.specs.Output.{outputBytes}
 use Rattle.feeder.proofs.Resuming.{ends}
 use Rattle.player.proofs.Paying.{output-small}
 use Rattle.feeder.proofs.Moving.{put-takes, put-keeps, put-length}

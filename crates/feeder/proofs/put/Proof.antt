@@ -3,7 +3,7 @@ use borrow.Author.Needs.{needs}
 use native.Mathlib.Omega.{arith}
 use mathlib.Core.List.{[]}
 use lib.Seq.{paste-zero}
-use Rattle.player.specs.Card.{outputBytes}
+use Rattle.player.specs.Output.{outputBytes}
 use Rattle.feeder.proofs.put.Statement.{statement}
 use Rattle.feeder.proofs.put.Tie as tie
 

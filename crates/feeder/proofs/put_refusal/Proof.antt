@@ -2,7 +2,7 @@
 -- of its number. Assumes nothing.
 use borrow.Author.Needs.{needs}
 use borrow.Author.Tests.{lt-ltb, le-ltb}
-use Rattle.player.specs.Card.{outputBytes, refusalDigits}
+use Rattle.player.specs.Output.{outputBytes, refusalDigits}
 use Rattle.feeder.proofs.put_refusal.Statement.{statement}
 use Rattle.feeder.proofs.put_refusal.Tie as tie
 

@@ -1,6 +1,6 @@
 -- `feeder::put_verdict` meets its contract: the line with its digit stored is what a verdict prints. Assumes nothing.
 use borrow.Author.Needs.{needs}
-use Rattle.player.specs.Card.{outputBytes}
+use Rattle.player.specs.Output.{outputBytes}
 use Rattle.feeder.proofs.put_verdict.Statement.{statement}
 use Rattle.feeder.proofs.put_verdict.Tie as tie
 

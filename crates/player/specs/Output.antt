@@ -1,0 +1,20 @@
+-- The lines that are printed. Definitions only. The sentence quoted is document 01's, from "towerwatch".
+use mathlib.Core.Bool.{cond}
+use mathlib.Core.List.{List, [], _∷_, _++_}
+use Prim.Native.Nat.{ℕ, _/_, _%_}
+use lib.Dec.{ltb}
+use Rattle.lists.specs.Decimal.{digit}
+use Rattle.lists.specs.Line.{lineEnd}
+use Rattle.lists.specs.Text.{bytes}
+use Rattle.player.specs.declared.Output.{Output}
+use Rattle.player.specs.declared.Output.the-variants as O
+
+-- A refusal's number in decimal digits. Refusals are 1 to 18: of a longer number these would be the last two digits.
+unfoldable pub refusalDigits : ℕ → List ℕ
+refusalDigits r = cond (ltb r 10) (digit (r % 10) ∷ []) (digit (r / 10 % 10) ∷ digit (r % 10) ∷ [])
+
+-- "It prints `verdict=` and 0 or 1 for each tick. A refusal prints `refused=` and its number". A verdict is one digit.
+unfoldable pub outputBytes : Output → List ℕ
+outputBytes O.Quiet = []
+outputBytes (O.Verdict v) = bytes "verdict=" ++ (digit (v % 10) ∷ lineEnd ∷ [])
+outputBytes (O.Refused r) = bytes "refused=" ++ (refusalDigits r ++ (lineEnd ∷ []))

@@ -1,0 +1,111 @@
+-- What a card prints, top down: its lines, its rule's outcome and the interval meaning, with no table, state or step.
+-- Definitions only. The sentences quoted are document 01's, from "towerwatch".
+use mathlib.Core.Bool.{true, false}
+use mathlib.Core.List.{List, [], _∷_, _++_}
+use mathlib.Core.Option.{some}
+use mathlib.Core.Path.{_≡_}
+use Prim.Native.Nat.{ℕ, zero, suc, _+_}
+use lib.ListN.{length}
+use Rattle.traces.specs.declared.Tick.{Tick}
+use Rattle.traces.specs.Trace.{tickOf}
+use Rattle.formulas.specs.Formula.{Formula}
+use Rattle.formulas.specs.Meaning.{verdict}
+use Rattle.formulas.specs.Tree.{Tree, formulaOf}
+use Rattle.agreement.specs.Agreement.{traceOfTicks}
+use Rattle.rules.specs.Reading.{HasOutcome}
+use Rattle.rules.specs.Reading.Outcome.{rule, refused}
+use Rattle.cards.specs.Heads.{editionLine, ruleHead}
+use Rattle.cards.specs.Numbers.{parametersOf, countOf}
+use Rattle.cards.specs.Numbers.Listed.{are, broken as no-numbers}
+use Rattle.cards.specs.Ticks.{tickLine}
+use Rattle.cards.specs.Lines.{overLong, cut}
+use Rattle.cards.specs.Heads.{headRefusal, tickRefusal}
+use Rattle.cards.specs.declared.Count.the-variants as K
+use Rattle.cards.specs.declared.TickLine.the-variants as T
+use Rattle.player.specs.Output.{outputBytes}
+use Rattle.player.specs.declared.Output.{Output}
+use Rattle.player.specs.declared.Output.the-variants as O
+
+-- ---- lines that are not as they have to be
+
+-- Not "`edition=1`", not "`k=` eight numbers [..]", not "`watch=` rule text", not "`ticks=` 0 to 999,999", not "`t=`
+-- start (0 or 1), comma, 16 lowercase hexadecimal digits".
+abbrev pub NoEdition : List ℕ → Type 0
+NoEdition l = l ≡ editionLine → ⊥
+
+abbrev pub NoParameters : List ℕ → Type 0
+NoParameters l = parametersOf l ≡ no-numbers
+
+abbrev pub NoRule : List ℕ → Type 0
+NoRule l = (text : List ℕ) → l ≡ ruleHead ++ text → ⊥
+
+abbrev pub NoCount : List ℕ → Type 0
+NoCount l = countOf l ≡ K.Broken
+
+abbrev pub NoTick : List ℕ → Type 0
+NoTick l = tickLine l ≡ T.Broken
+
+-- "A broken, missing or over-long line": the first of these lines, Broken being what makes it a broken one.
+pub data Fails (Broken : List ℕ → Type 0) : List (List ℕ) → Type 0 where
+  broken : {l : List ℕ} {ls : List (List ℕ)} → Broken l → Fails Broken (l ∷ ls)
+  missing : Fails Broken []
+  over-long : {l : List ℕ} {ls : List (List ℕ)} → overLong l ≡ true → Fails Broken (l ∷ ls)
+
+-- ---- the tick lines
+
+-- These lines say these ticks, with the parameters ps.
+pub data TickLines (ps : List ℕ) : List (List ℕ) → List Tick → Type 0 where
+  none : TickLines ps [] []
+  more : {l : List ℕ} {ls : List (List ℕ)} {start signals : ℕ} {ks : List Tick} → tickLine l ≡ T.Is start signals
+      → TickLines ps ls ks → TickLines ps (l ∷ ls) (tickOf start signals ps ∷ ks)
+
+-- How a card ends after some tick lines: so many ticks are left, then come these lines and these bytes with no line
+-- end, and this is printed for them.
+pub data Closes : ℕ → List (List ℕ) → List ℕ → Output → Type 0 where
+  whole : Closes zero [] [] O.Quiet
+  -- "bytes after the last tick are 18"
+  line-after : {l : List ℕ} {ls : List (List ℕ)} {tail : List ℕ} → Closes zero (l ∷ ls) tail (O.Refused tickRefusal)
+  bytes-after : {b : ℕ} {tail : List ℕ} → Closes zero [] (b ∷ tail) (O.Refused tickRefusal)
+  -- "A broken, missing or over-long line is 17 in the four first lines, 18 later"
+  tick-fails : {left : ℕ} {ls : List (List ℕ)} {tail : List ℕ} → Fails NoTick ls
+      → Closes (suc left) ls tail (O.Refused tickRefusal)
+
+-- A line `verdict=` for each tick from the one numbered i on, v j being the verdict of the tick numbered j.
+unfoldable pub verdictLines : (ℕ → ℕ) → ℕ → List Tick → List ℕ
+verdictLines v i [] = []
+verdictLines v i (k ∷ ks) = outputBytes (O.Verdict (v i)) ++ verdictLines v (suc i) ks
+
+-- ---- the card
+
+-- "A refusal prints `refused=` and its number, and ends."
+abbrev pub refusalLine : ℕ → List ℕ
+refusalLine k = outputBytes (O.Refused k)
+
+-- What is printed for these lines and then these bytes with no line end. "Checks go line by line".
+pub data LinesShow (tail : List ℕ) : List (List ℕ) → List ℕ → Type 0 where
+  -- "A broken, missing or over-long line is 17 in the four first lines": the first, the second,
+  edition-fails : {ls : List (List ℕ)} → Fails NoEdition ls → LinesShow tail ls (refusalLine headRefusal)
+  parameters-fail : {ls : List (List ℕ)} → Fails NoParameters ls
+      → LinesShow tail (editionLine ∷ ls) (refusalLine headRefusal)
+  -- the third,
+  rule-fails : {second ps : List ℕ} {ls : List (List ℕ)} → parametersOf second ≡ are ps → Fails NoRule ls
+      → LinesShow tail (editionLine ∷ second ∷ ls) (refusalLine headRefusal)
+  -- and the fourth, after a text that is a rule.
+  count-fails : {second ps text : List ℕ} {t : Tree} {ls : List (List ℕ)} → parametersOf second ≡ are ps
+      → HasOutcome text (rule t) → Fails NoCount ls
+      → LinesShow tail (editionLine ∷ second ∷ (ruleHead ++ text) ∷ ls) (refusalLine headRefusal)
+  -- "a rule's own refusal falls at its line"
+  rule-refused : {second ps text : List ℕ} {k : ℕ} {ls : List (List ℕ)} → parametersOf second ≡ are ps
+      → overLong (ruleHead ++ text) ≡ false → HasOutcome text (refused k)
+      → LinesShow tail (editionLine ∷ second ∷ (ruleHead ++ text) ∷ ls) (refusalLine k)
+  -- "It prints `verdict=` and 0 or 1 for each tick": the verdict of the rule's formula by the interval meaning, for the
+  -- ticks up to the last or up to a refusal.
+  verdicts : {second ps text fourth : List ℕ} {t : Tree} {f : Formula} {ls rest : List (List ℕ)} {ks : List Tick}
+      {left : ℕ} {o : Output} → parametersOf second ≡ are ps → HasOutcome text (rule t) → formulaOf t ≡ some f
+      → countOf fourth ≡ K.Is (length ks + left) → TickLines ps ls ks → Closes left rest tail o
+      → LinesShow tail (editionLine ∷ second ∷ (ruleHead ++ text) ∷ fourth ∷ (ls ++ rest))
+      (verdictLines (verdict (traceOfTicks ps ks) f) 0 ks ++ outputBytes o)
+
+-- What a card shows, from its bytes on.
+abbrev pub Shows : List ℕ → List ℕ → Type 0
+Shows card out = LinesShow (cut card .tail) (cut card .whole) out
