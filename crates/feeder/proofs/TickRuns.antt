@@ -8,7 +8,7 @@ use Rattle.limits.specs.Limits.{standardCap}
 use Rattle.flows.specs.Step.{AfterStep, afterStep, parameterFits, stepChecked, stepped}
 use Rattle.tables.specs.declared.Checked.the-variants.{Passed}
 use Rattle.flows.specs.declared.Stepped.the-variants as S
-use Rattle.flows.proofs.Runs.{step-on}
+use Rattle.flows.proofs.Lists.{step-on}
 use Rattle.lists.specs.Line.{line}
 use Rattle.cards.specs.Ticks.{tickLength, tickFirst}
 use Rattle.cards.specs.declared.Phase.the-variants as P
