@@ -1,13 +1,14 @@
--- The turns of the program, in terms of lists: what a turn hands to the write, and what turns make together.
+-- The turns of the program, in terms of lists: what a turn hands over, and what turns make together.
 -- Assumes nothing.
 use mathlib.Core.Path.{_≡_, refl, _∙_, sym, ap, subst}
 use mathlib.Core.Bool.{Bool, true, false, cond, false≢true}
 use mathlib.Core.List.{List, [], _++_, append-assoc}
+use mathlib.Core.Logic.{_⊎_, inl, inr}
 use Prim.Native.Nat.{ℕ, _+_, _-_, _*_, _≤_, _<_}
 use native.Mathlib.Omega.{arith}
 use lib.ListN.{length, take, drop, length-append, length-drop}
-use lib.Seq.{length-take-le, take-length, take-add, take-append-seam, take-append-add}
-use Rattle.player.specs.Card.{World, worldOf, prints, printed, startWorld}
+use lib.Seq.{length-take-le, take-add}
+use Rattle.player.specs.Card.{World, worldOf, prints, startWorld}
 use Rattle.limits.specs.Limits.{literalCount, lineLimit}
 use Rattle.cards.specs.Says.{isOver}
 use Rattle.feeder.specs.Feed.{Goes, Ready, Turns, Finishes, fedWorld, leftOver}
@@ -15,14 +16,19 @@ use Rattle.player.specs.declared.Watch.{Watch}
 use Rattle.feeder.specs.declared.Turn.{Turn}
 use Rattle.cards.proofs.Lines.{append-nil}
 use Rattle.player.proofs.Printing.{over-prints}
-use Rattle.feeder.proofs.Resuming.{goes-none, short-eq, short-none}
+use Rattle.feeder.proofs.Resuming.{goes-none, fed-short, left-short, short-eq, short-none}
 use Rattle.cards.proofs.Stages.{rank, rank-first, rank-positive, is-over}
 use Rattle.feeder.proofs.Ending.{fed-near}
 use Rattle.towerwatch.specs.declared.Next.{Next}
 use Rattle.towerwatch.specs.declared.Total.{Total}
 use Rattle.towerwatch.specs.declared.Stand.{Stand}
 use Rattle.towerwatch.specs.declared.Stand.the-variants as S
-use Rattle.towerwatch.specs.Run.{outputRoom, isReading, Ends, On, Stands, Takes, Once, Whole}
+use Rattle.streams.specs.Calls.{Came}
+use Rattle.towerwatch.specs.Run.{outputRoom, isReading, Fed, Ends, On, Stands}
+use Rattle.towerwatch.specs.Turns.{isDone, Handed}
+use Rattle.towerwatch.specs.Run.{Takes, Once, Whole}
+use Rattle.towerwatch.specs.Turns.{Turned}
+use Rattle.towerwatch.proofs.Joining.{Joined, joined}
 
 -- ---- after a read
 
@@ -50,47 +56,53 @@ ready-none {buf' = buf'} r z h g =
 
 -- ---- the end of the input
 
--- All that is to be printed is the front of it.
-front : (o l : List ℕ) → o ≡ l → o ≡ take (length o) l
-front o l e = subst (λ (x : List ℕ). o ≡ take (length o) x) e (sym (take-length o))
+-- No byte came.
+pub came-none : {i : ℕ} (r : ℕ) (l : List ℕ) → Came i (take r l) → r ≡ 0 → Came i []
+came-none {i} r l h z = subst (λ (n : ℕ). Came i (take n l)) z h
 
 module _ (w : World) (s : List ℕ) (w' : World) (s' : List ℕ) (o : List ℕ) (e : prints w s ≡ o) where
   whole : o ≡ prints w (s ++ [])
   whole = sym e ∙ ap (prints w) (sym (append-nil s))
 
-  end-stands : (done : Bool) → Stands (cond done S.Ended S.Stuck) w (s ++ []) o w' s'
-  end-stands true = whole
-  end-stands false = front o (prints w (s ++ [])) whole
+  end-stands : (done : Bool) → Stands (_≡_ {A = List ℕ} [] []) (cond done S.Ended S.Stuck) w (s ++ []) o w' s'
+  end-stands true = (refl, whole)
+  end-stands false = inl (refl, whole)
+
+end-done : (done : Bool) → done ≡ isDone (cond done S.Ended S.Stuck)
+end-done true = refl
+end-done false = refl
 
 not-reading : (done : Bool) → isReading (cond done S.Ended S.Stuck) ≡ true → ⊥
 not-reading true e = false≢true e
 not-reading false e = false≢true e
 
 -- The end of the input, after the bytes s, with r bytes printed.
-pub end-takes : {k : Watch} {s old out : List ℕ} {r : ℕ} → Finishes k s r old out → (n : Next) (done : Bool)
+pub end-takes : {k : Watch} {s old out : List ℕ} {r at : ℕ} {done : Bool} → Finishes k s r old out
+    → Handed at (take r out) done → (n : Next)
     → n .got ≡ 0 → n .shown ≡ r → n .stand ≡ cond done S.Ended S.Stuck
-    → (ps t c v : List ℕ) (w' : World) (s' : List ℕ) → Takes [] (worldOf k ps t c v) s n w' s' out
-end-takes {k} {s} {old} {out} {r} f n done g h e ps t c v w' s' =
+    → (ps t c v : List ℕ) (w' : World) (s' : List ℕ) → Takes at [] (worldOf k ps t c v) s n w' s' out
+end-takes {k} {s} {old} {out} {r} {at} {done} f d n g h e ps t c v w' s' =
     let w = worldOf k ps t c v in
     record {
       got = sym g;
       more = λ z. absurd (not-reading done (ap isReading (sym e) ∙ z));
       shown = rw h (f .room);
       room = omega (arith, g);
+      handed = rw (h, e, sym (end-done done)) d;
       stands = rw (h, e) (end-stands w s w' s' (take r out) (f .tells ps t c v) done);
     }
 
 -- ---- a piece
 
--- What goes on prints the front of what is to be printed,
-front-goes : {w w' : World} {s s' o : List ℕ} → Goes w s o w' s' → o ≡ take (length o) (prints w s)
-front-goes {w} {w'} {s} {s'} {o} g =
-    sym
-    (ap (λ (l : List ℕ). take (length o) (prints w l)) (sym (append-nil s))
-    ∙ ap (take (length o)) (g .tells [])
-    ∙ take-append-seam o (prints w' (s' ++ [])))
+-- What goes on prints all that the bytes print,
+fed : {w w' : World} {s s' o : List ℕ} → Goes w s o w' s' → w' ≡ fedWorld w s → s' ≡ leftOver s → Fed w s o
+fed {w} {w'} {s} {s'} {o} g h l =
+    record {
+      tells = λ more. g .tells more ∙ ap (λ (x : World). o ++ prints x (s' ++ more)) h
+          ∙ ap (λ (x : List ℕ). o ++ prints (fedWorld w s) (x ++ more)) l;
+    }
 
--- and all of it where the card is over.
+-- and all that there is to print where the card is over.
 all-over : {w w' : World} {s s' o : List ℕ} → Goes w s o w' s' → isOver (w' .watch .stage .phase) ≡ true
     → (more : List ℕ) → o ≡ prints w (s ++ more)
 all-over {w} {w'} {s} {s'} {o} g e more =
@@ -100,29 +112,36 @@ all-over {w} {w'} {s} {s'} {o} g e more =
     ∙ append-nil o)
 
 piece-stands : {w w' : World} {s s' o : List ℕ} → Goes w s o w' s' → w' ≡ fedWorld w s → s' ≡ leftOver s
-    → (done over : Bool) → over ≡ isOver (w' .watch .stage .phase)
-    → Stands (cond done (cond over S.Over S.Reading) S.Stuck) w s o w' s'
-piece-stands g h l true true e = all-over g (sym e)
-piece-stands g h l true false e = record { goes = g; world = h; rest = l; going = sym e }
-piece-stands g h l false over e = front-goes g
+    → (none : Type 0) (done over : Bool) → over ≡ isOver (w' .watch .stage .phase)
+    → Stands none (cond done (cond over S.Over S.Reading) S.Stuck) w s o w' s'
+piece-stands g h l none true true e = all-over g (sym e)
+piece-stands g h l none true false e = record { goes = g; world = h; rest = l; going = sym e }
+piece-stands g h l none false over e = inr (fed g h l)
+
+piece-done : (done over : Bool) → done ≡ isDone (cond done (cond over S.Over S.Reading) S.Stuck)
+piece-done true true = refl
+piece-done true false = refl
+piece-done false over = refl
 
 -- A piece of `got` bytes, after the first `to` bytes of buf.
-pub piece-takes : {w w' : World} {buf buf' old out : List ℕ} {f : Turn} (to got : ℕ)
-    → Turns w buf (to + got) f w' buf' old out → to + got ≤ length buf → length buf ≤ length out → 0 < got
-    → (n : Next) (done over : Bool)
+pub piece-takes : {w w' : World} {buf buf' old out : List ℕ} {f : Turn} {at : ℕ} {done : Bool} (to got : ℕ)
+    → Turns w buf (to + got) f w' buf' old out → Handed at (take (f .filled) out) done
+    → to + got ≤ length buf → length buf ≤ length out → 0 < got
+    → (n : Next) (over : Bool)
     → n .to ≡ f .rest → n .got ≡ got → n .shown ≡ f .filled → over ≡ isOver (w' .watch .stage .phase)
     → n .stand ≡ cond done (cond over S.Over S.Reading) S.Stuck
-    → Takes (take got (drop to buf)) w (take to buf) n w' (take (n .to) buf') out
-piece-takes {w} {w'} {buf} {buf'} {old} {out} {f} to got t h b p n done over e g k o z =
+    → Takes at (take got (drop to buf)) w (take to buf) n w' (take (n .to) buf') out
+piece-takes {w} {w'} {buf} {buf'} {old} {out} {f} {at} {done} to got t d h b p n over e g k o z =
     let join : take (to + got) buf ≡ take to buf ++ take got (drop to buf) = take-add to got buf in
     record {
       got = length-take-le got (drop to buf) (omega (arith, length-drop to buf)) ∙ sym g;
       more = λ x. omega (arith, p, g);
       shown = rw k (t .room);
       room = omega (arith, g, h, b);
+      handed = rw (k, z, sym (piece-done done over)) d;
       stands =
           rw (e, k, z, sym join)
-          (piece-stands (t .goes) (t .world) (t .rest) done over o);
+          (piece-stands (t .goes) (t .world) (t .rest) _ done over o);
     }
 
 -- ---- the whole run
@@ -136,12 +155,14 @@ abbrev pub longestCard : ℕ
 longestCard = lineLimit * (literalCount + 4)
 
 -- From the start the program has come to w with the bytes s left over: so many bytes came in, and so many were handed
--- to the write. Both are bounded by what may still come: a turn hands over at most as many bytes as
--- the output has room for.
+-- over. Both are bounded by what may still come: a turn hands over at most as many bytes as the output has room for.
 pub record Reached (w : World) (s : List ℕ) (got shown : ℕ) : Type 0 where
   pub input : List ℕ
   pub output : List ℕ
+  pub turned : Turned input output true
   pub goes : Goes startWorld input output w s
+  pub world : w ≡ fedWorld startWorld input
+  pub rest : s ≡ leftOver input
   pub came : length input ≡ got
   pub gone : length output ≡ shown
   pub going : isOver (w .watch .stage .phase) ≡ false
@@ -153,7 +174,10 @@ reached-start =
     record {
       input = [];
       output = [];
+      turned = Turned.start;
       goes = goes-none startWorld [];
+      world = fed-short startWorld [] short-none;
+      rest = left-short [] short-none;
       came = refl;
       gone = refl;
       going = refl;
@@ -174,26 +198,59 @@ goes-both {u} {v} {w} {r} {s} {t} {o} {p} c g h =
           ∙ sym (append-assoc o p _);
     }
 
--- and ends after it.
-ends-both : {v : World} {r s o : List ℕ} → Goes startWorld r o v s → (c p : List ℕ) (k : Stand)
-    → Ends k (prints v) (s ++ c) p → Ends k printed (r ++ c) (o ++ p)
-unfolding printed
-ends-both {v} {r} {s} {o} g c p S.Reading e = e
-ends-both {v} {r} {s} {o} g c p S.Ended e = ap (λ (l : List ℕ). o ++ l) e ∙ sym (g .tells c)
-ends-both {v} {r} {s} {o} g c p S.Over e =
-    λ more.
-    ap (λ (l : List ℕ). o ++ l) (e more ∙ ap (prints v) (append-assoc s c more))
-    ∙ sym (g .tells (c ++ more))
-    ∙ ap (prints startWorld) (sym (append-assoc r c more))
-ends-both {v} {r} {s} {o} g c p S.Stuck e =
-    ap (λ (l : List ℕ). o ++ l) e
-    ∙ sym (take-append-add o (prints v (s ++ c)) (length p))
-    ∙ ap (λ (l : List ℕ). take (length o + length p) l) (sym (g .tells c))
-    ∙ ap (λ (i : ℕ). take i (prints startWorld (r ++ c))) (sym (length-append o p))
+-- and is after both where it is after the piece, which comes after bytes that do not end the card.
+module _ {v : World} (r : List ℕ) {s : List ℕ} (h : v ≡ fedWorld startWorld r) (l : s ≡ leftOver r)
+    (f : isOver (v .watch .stage .phase) ≡ false) (c : List ℕ) where
+  both : Joined startWorld r c
+  both = joined startWorld r c (ap (λ (x : World). isOver (x .watch .stage .phase)) (sym h) ∙ f)
 
-module _ {w w' : World} {s s' out : List ℕ} {g h : ℕ} (r : Reached w s g h) (n : Next) (t : Once w s n w' s' out) where
-  o : Takes (t .piece) w s n w' s' out
+  world-both : fedWorld v (s ++ c) ≡ fedWorld startWorld (r ++ c)
+  world-both =
+      ap (λ (x : World). fedWorld x (s ++ c)) h
+      ∙ ap (λ (x : List ℕ). fedWorld (fedWorld startWorld r) (x ++ c)) l
+      ∙ sym (both .world)
+
+  rest-both : leftOver (s ++ c) ≡ leftOver (r ++ c)
+  rest-both = ap (λ (x : List ℕ). leftOver (x ++ c)) l ∙ sym (both .rest)
+
+  -- So it ends.
+  module _ {o : List ℕ} (g : Goes startWorld r o v s) (p : List ℕ) {none over : Type 0} (n : none → over) where
+    ends-all : p ≡ prints v (s ++ c) → o ++ p ≡ prints startWorld (r ++ c)
+    ends-all e = ap (λ (x : List ℕ). o ++ x) e ∙ sym (g .tells c)
+
+    ends-over : ((more : List ℕ) → p ≡ prints v ((s ++ c) ++ more)) → (more : List ℕ)
+        → o ++ p ≡ prints startWorld ((r ++ c) ++ more)
+    ends-over e more =
+        ap (λ (x : List ℕ). o ++ x) (e more ∙ ap (prints v) (append-assoc s c more))
+        ∙ sym (g .tells (c ++ more))
+        ∙ ap (prints startWorld) (sym (append-assoc r c more))
+
+    ends-stuck : (none × (p ≡ prints v (s ++ c))) ⊎ Fed v (s ++ c) p
+        → (over × (o ++ p ≡ prints startWorld (r ++ c))) ⊎ Fed startWorld (r ++ c) (o ++ p)
+    ends-stuck (inl e) = inl (n (e .0), ends-all (e .1))
+    ends-stuck (inr e) = inr (fed (goes-both c g e) world-both rest-both)
+
+    ends-both : (k : Stand) → Ends none k v (s ++ c) p → Ends over k startWorld (r ++ c) (o ++ p)
+    ends-both S.Reading e = e
+    ends-both S.Ended e = (n (e .0), ends-all (e .1))
+    ends-both S.Over e = ends-over e
+    ends-both S.Stuck e = ends-stuck e
+
+reading-done : (k : Stand) → isReading k ≡ true → isDone k ≡ true
+reading-done S.Reading e = refl
+reading-done S.Ended e = refl
+reading-done S.Over e = refl
+reading-done S.Stuck e = e
+
+module _ {w w' : World} {s s' out : List ℕ} {g h : ℕ} (r : Reached w s g h) (n : Next) (t : Once g h w s n w' s' out) where
+  o : Takes h (t .piece) w s n w' s' out
   o = t .takes
+
+  -- The turns with this one.
+  turned-both : Turned (r .input ++ t .piece) (r .output ++ take (n .shown) out) (isDone (n .stand))
+  turned-both =
+      Turned.turn (r .turned) (subst (λ (i : ℕ). Came i (t .piece)) (sym (r .came)) (t .came))
+      (subst (λ (i : ℕ). Handed i (take (n .shown) out) (isDone (n .stand))) (sym (r .gone)) (o .handed))
 
   input-length : length (r .input ++ t .piece) ≡ g + n .got
   input-length = simp length-append (omega (arith, r .came, o .got))
@@ -202,7 +259,7 @@ module _ {w w' : World} {s s' out : List ℕ} {g h : ℕ} (r : Reached w s g h) 
   output-length = simp length-append (omega (arith, r .gone, length-take-le (n .shown) out (o .shown)))
 
   -- The program reads on.
-  on-as : (k : Stand) → isReading k ≡ true → Stands k w (s ++ t .piece) (take (n .shown) out) w' s'
+  on-as : (k : Stand) → isReading k ≡ true → Stands (t .piece ≡ []) k w (s ++ t .piece) (take (n .shown) out) w' s'
       → On w (s ++ t .piece) (take (n .shown) out) w' s'
   on-as S.Reading f e = e
   on-as S.Ended f e = absurd (false≢true f)
@@ -229,7 +286,10 @@ module _ {w w' : World} {s s' out : List ℕ} {g h : ℕ} (r : Reached w s g h) 
         record {
           input = r .input ++ t .piece;
           output = r .output ++ take (n .shown) out;
+          turned = subst (Turned _ _) (reading-done (n .stand) e) turned-both;
           goes = goes-both (t .piece) (r .goes) (on .goes);
+          world = on .world ∙ world-both (r .input) (r .world) (r .rest) (r .going) (t .piece);
+          rest = on .rest ∙ rest-both (r .input) (r .world) (r .rest) (r .going) (t .piece);
           came = input-length;
           gone = output-length;
           going = on .going;
@@ -237,9 +297,15 @@ module _ {w w' : World} {s s' out : List ℕ} {g h : ℕ} (r : Reached w s g h) 
           written = omega (arith, r .written, fewer, o .more e, o .shown, z);
         }
 
+  -- A read brought none.
+  none-came : t .piece ≡ [] → Came (g + n .got) []
+  none-came z =
+      let e : g ≡ g + n .got = omega (arith, ap length z, o .got) in
+      subst (λ (i : ℕ). Came i []) e (subst (Came g) z (t .came))
+
   -- It ends.
-  ends-as : (k : Stand) → isReading k ≡ false → Stands k w (s ++ t .piece) (take (n .shown) out) w' s'
-      → Ends k (prints w) (s ++ t .piece) (take (n .shown) out)
+  ends-as : (k : Stand) → isReading k ≡ false → Stands (t .piece ≡ []) k w (s ++ t .piece) (take (n .shown) out) w' s'
+      → Ends (t .piece ≡ []) k w (s ++ t .piece) (take (n .shown) out)
   ends-as S.Reading f e = absurd (false≢true (sym f))
   ends-as S.Ended f e = e
   ends-as S.Over f e = e
@@ -253,6 +319,9 @@ module _ {w w' : World} {s s' out : List ℕ} {g h : ℕ} (r : Reached w s g h) 
         output = r .output ++ take (n .shown) out;
         got = input-length ∙ sym e;
         shown = output-length ∙ sym z;
+        turned = rw k turned-both;
         ends =
-            rw k (ends-both (r .goes) (t .piece) (take (n .shown) out) (n .stand) (ends-as (n .stand) f (o .stands)));
+            rw (e, k)
+            (ends-both (r .input) (r .world) (r .rest) (r .going) (t .piece) (r .goes) (take (n .shown) out) none-came
+            (n .stand) (ends-as (n .stand) f (o .stands)));
       }

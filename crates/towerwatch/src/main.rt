@@ -1,9 +1,8 @@
 // The program `towerwatch`: reads a card from standard input and prints what it says, piece by piece and in constant
 // memory (document 01, "towerwatch"). All but the reads and the writes is in `feeder`, where it is proved that what is
-// printed does not depend on the pieces that a card comes in. Here `once` promises that what it hands to the write is
-// what its piece prints, and `run` that all of it together is what a card prints (specs/Run.antt).
-use libc::STDIN_FILENO;
-use libc::STDOUT_FILENO;
+// printed does not depend on the pieces that a card comes in. Here `once` promises that what it hands to the writes is
+// what its piece prints, and `run` that all of it together is what a card prints, and that it stops before its end only
+// after a write that failed (specs/Run.antt, and specs/Program.antt by what the card shows). The two system calls are in `streams`.
 use player::Watch;
 ghost use mathlib.Core.Bool.{cond};
 ghost use mathlib.Core.List.{List, []};
@@ -13,6 +12,11 @@ ghost use lib.ListN.{length, take, drop};
 ghost use Rattle.player.specs.Card.{World, worldOf, brought, entering, leaving, startWorld};
 ghost use Rattle.feeder.specs.Feed.{Ready};
 ghost use Rattle.towerwatch.specs.Run.{outputRoom, isReading, Takes, Once, Whole};
+ghost use Rattle.towerwatch.specs.Program.{Program};
+ghost use Rattle.towerwatch.specs.Turns.{Handed};
+
+// The bytes that the output has room for.
+const OUTPUT: usize = 65536;
 
 // How the program stands after a turn.
 enum Stand {
@@ -22,11 +26,11 @@ enum Stand {
     Ended,
     // The card is over: nothing more is printed, whatever comes.
     Over,
-    // A write failed.
+    // A write took nothing.
     Stuck,
 }
 
-// What a turn leaves: `to` bytes are left over. In it `got` bytes came in, and `shown` were handed to the write.
+// What a turn leaves: `to` bytes are left over. In it `got` bytes came in, and `shown` were handed over.
 struct Next {
     watch: Watch,
     to: usize,
@@ -35,36 +39,28 @@ struct Next {
     stand: Stand,
 }
 
-// A whole run: so many bytes came in, and so many were handed to the write.
+// A whole run: so many bytes came in, and so many were handed over.
 struct Total {
     got: u64,
     shown: u64,
     stand: Stand,
 }
 
-// A write: so many bytes were handed over, and whether all were taken.
-struct Shown {
-    count: usize,
-    done: bool,
-}
-
-// The one read: reads on after the first `to` bytes, which stay. Answers how many bytes came, 0 at the end of the
-// input and where a read fails. Which bytes they are no contract can say.
-fn fill(buf: &mut [u8], to: usize) -> usize
-    requires { ⌜ to ≤ length (now buf) ⌝ }
-    ensures { λ r. ⌜ (take to (now (buf .exit)) ≡ take to (now (buf .entry)))
-        × (to + r ≤ length (now (buf .entry))) ⌝ }
-{
-    io::count(libc::read(STDIN_FILENO, &mut buf[to..]), &buf[to..])
-}
-
-// The one write: hands over the first n bytes, in as many calls as it takes.
-fn show(out: &[u8], n: usize) -> Shown
+// Hands over the first n bytes, in as many writes as it takes, and answers whether all were taken. So many bytes of the
+// output came before.
+fn hand(out: &[u8], n: usize, at: u64) -> bool
     requires { ⌜ n ≤ length (now out) ⌝ }
-    ensures { λ r. ⌜ r .count ≡ n ⌝ }
+    ensures { λ r. ⌜ Handed at (take n (now (out .entry))) r ⌝ }
 {
-    let done = io::write_all(STDOUT_FILENO, &out[..n]);
-    Shown { count: n, done }
+    let mut from = 0;
+    while from < n {
+        let k = streams::write(out, from, n, at);
+        if k == 0 {
+            return false;
+        }
+        from += k;
+    }
+    true
 }
 
 // After the last write.
@@ -99,25 +95,26 @@ fn reads_on(stand: Stand) -> bool
 }
 
 // The end of the input, where no byte came in and the first `to` bytes of buf are left over: what they print, whatever
-// the lent arrays hold.
-fn end(watch: Watch, buf: &[u8], to: usize, got: usize, out: &mut [u8]) -> Next
+// the lent arrays hold. `at` bytes of the output came before.
+fn end(watch: Watch, buf: &[u8], to: usize, got: usize, out: &mut [u8], at: u64) -> Next
     requires { ⌜ Ready (now buf) to (now out) × (got ≡ 0) ⌝ }
     ensures { λ r. ⌜ (r .to ≡ 0) × ((ps t c v : List ℕ) (w : World) (s : List ℕ) →
-        Takes [] (worldOf watch ps t c v) (take to (now (buf .entry))) r w s (now (out .exit))) ⌝ }
+        Takes at [] (worldOf watch ps t c v) (take to (now (buf .entry))) r w s (now (out .exit))) ⌝ }
 {
-    let at = feeder::finish(watch, buf, to, out);
-    let last = show(out, at);
-    let stand = ended(last.done);
+    let last = feeder::finish(watch, buf, to, out);
+    let done = hand(out, last, at);
+    let stand = ended(done);
     Next {
         watch: watch,
         to: 0,
         got: got,
-        shown: last.count,
+        shown: last,
         stand: stand,
     }
 }
 
-// A piece of `got` bytes, after the first `to` bytes of buf, which were left over: what it prints.
+// A piece of `got` bytes, after the first `to` bytes of buf, which were left over: what it prints. `at` bytes of the
+// output came before.
 fn piece(
     watch: Watch,
     buf: &mut [u8],
@@ -128,10 +125,11 @@ fn piece(
     state: &mut [u32],
     values: &mut [u32],
     out: &mut [u8],
+    at: u64,
 ) -> Next
     requires { ⌜ Ready (now buf) to (now out) × (to + got ≤ length (now buf)) × (0 < got) ⌝ }
     ensures { λ r. ⌜ Ready (now (buf .exit)) (r .to) (now (out .exit)) ⌝ }
-    ensures { λ r. ⌜ Takes (take got (drop to (now (buf .entry))))
+    ensures { λ r. ⌜ Takes at (take got (drop to (now (buf .entry))))
         (entering watch parameters table state values) (take to (now (buf .entry))) r
         (leaving (r .watch) parameters table state values) (take (r .to) (now (buf .exit))) (now (out .exit)) ⌝ }
 {
@@ -139,19 +137,19 @@ fn piece(
     let filled = f.filled;
     let next = f.watch;
     let rest = f.rest;
-    let shown = show(out, filled);
+    let done = hand(out, filled, at);
     let over = player::is_over(next);
-    let stand = going(shown.done, over);
+    let stand = going(done, over);
     Next {
         watch: next,
         to: rest,
         got: got,
-        shown: shown.count,
+        shown: filled,
         stand: stand,
     }
 }
 
-// One read, and what it prints.
+// One read, and what it prints. `before` bytes of the input came before, and `at` bytes of the output.
 fn once(
     watch: Watch,
     buf: &mut [u8],
@@ -161,18 +159,31 @@ fn once(
     state: &mut [u32],
     values: &mut [u32],
     out: &mut [u8],
+    before: u64,
+    at: u64,
 ) -> Next
     requires { ⌜ Ready (now buf) to (now out) ⌝ }
     ensures { λ r. ⌜ Ready (now (buf .exit)) (r .to) (now (out .exit)) ⌝ }
-    ensures { λ r. ⌜ Once
+    ensures { λ r. ⌜ Once before at
         (entering watch parameters table state values) (take to (now (buf .entry))) r
         (leaving (r .watch) parameters table state values) (take (r .to) (now (buf .exit))) (now (out .exit)) ⌝ }
 {
-    let got = fill(buf, to);
+    let got = streams::read(buf, to, before);
     if got == 0 {
-        return end(watch, buf, to, got, out);
+        return end(watch, buf, to, got, out, at);
     }
-    piece(watch, buf, to, got, parameters, table, state, values, out)
+    piece(
+        watch,
+        buf,
+        to,
+        got,
+        parameters,
+        table,
+        state,
+        values,
+        out,
+        at,
+    )
 }
 
 // Reads until the input ends, the card is over or a write fails.
@@ -187,13 +198,25 @@ fn run(
     requires { ⌜ Ready (now buf) 0 (now out) × (length (now out) ≡ outputRoom) ⌝ }
     requires { ⌜ brought (startWorld .watch) parameters table state values ≡ startWorld ⌝ }
     ensures { λ r. ⌜ Whole r ⌝ }
+    ensures { λ r. ⌜ Program r ⌝ }
 {
     let mut watch = player::begin();
     let mut to = 0;
     let mut got = 0u64;
     let mut shown = 0u64;
     loop {
-        let n = once(watch, buf, to, parameters, table, state, values, out);
+        let n = once(
+            watch,
+            buf,
+            to,
+            parameters,
+            table,
+            state,
+            values,
+            out,
+            got,
+            shown,
+        );
         got += n.got as u64;
         shown += n.shown as u64;
         let stand = n.stand;
@@ -209,7 +232,7 @@ fn run(
 // The table has room for the largest rule, state and values for its equations; out is longer than buf by a refusal.
 fn main() {
     let mut buf = [0u8; 32768];
-    let mut out = io::large_buffer();
+    let mut out = [0u8; OUTPUT];
     let mut parameters = [0u32; limits::PARAMETERS];
     let mut table = [0u32; limits::TABLE];
     let mut state = [0u32; limits::EQUATIONS];

@@ -1,4 +1,4 @@
--- `towerwatch::end` meets its contract: what `finish` puts is handed to the write. Assumes nothing.
+-- `towerwatch::end` meets its contract: what `finish` puts is handed over. Assumes nothing.
 use mathlib.Core.Path.{refl}
 use borrow.Author.Needs.{needs}
 use Rattle.towerwatch.proofs.Progress.{end-takes}
@@ -14,10 +14,10 @@ entry c = c .before .before .before .before
 
 returns : tie.Need-returns
 returns c =
-    let shown = c .before .show in
+    let hand = c .before .hand in
     let pre = entry (last c) .pre in (
       refl,
-      end-takes (last c .finish .ensures) _ (shown .result .done) (pre .1) (shown .ensures) (c .ended .ensures),
+      end-takes (last c .finish .ensures) (hand .ensures) _ (pre .1) refl (c .ended .ensures),
     )
 
 pub end-spec : {M : Type 1} → statement M

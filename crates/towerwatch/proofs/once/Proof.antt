@@ -6,22 +6,25 @@ use native.Mathlib.Omega.{arith}
 use borrow.Author.Needs.{needs}
 use lib.ListN.{take, drop}
 use Rattle.feeder.specs.Feed.{Ready}
-use Rattle.towerwatch.proofs.Progress.{ready-read, ready-none}
+use Rattle.towerwatch.proofs.Progress.{ready-read, ready-none, came-none}
 use Rattle.towerwatch.proofs.once.Statement.{statement}
 use Rattle.towerwatch.proofs.once.Tie as tie
 
 -- ---- the places
 
 -- Where the buffers are known, from the read; and the start from there.
-abbrev known : tie.After-fill → tie.After-slice-known5
+abbrev known : tie.After-read → tie.After-slice-known5
 known c = c .before .before
 
-abbrev entry : tie.After-fill → tie.Start
+abbrev entry : tie.After-read → tie.Start
 entry c = known c .before .before .before .before .before
 
--- The read, from where the output is lent to `end`.
-abbrev ended : tie.After-end-arg2 → tie.After-fill
-ended c = c .before .before .before .before .before
+-- From where the output is lent to `end`: where no byte came, and the read.
+abbrev over : tie.After-end-arg2 → tie.Then1
+over c = c .before .before
+
+abbrev ended : tie.After-end-arg2 → tie.After-read
+ended c = over c .before .before .before
 
 -- From where the output is lent to `piece`: where the buffer is lent to it, where a byte came, and the read.
 abbrev lent : tie.After-piece-arg6 → tie.After-piece-arg
@@ -30,7 +33,7 @@ lent c = c .before .before .before .before .before
 abbrev some : tie.After-piece-arg6 → tie.Else1
 some c = lent c .before
 
-abbrev read : tie.After-piece-arg6 → tie.After-fill
+abbrev read : tie.After-piece-arg6 → tie.After-read
 read c = some c .before .before .before
 
 -- From the end: where the state is back from `piece`, and the call of `piece`.
@@ -43,24 +46,29 @@ taken c = state-back c .before .before .before .before .before
 -- ---- the needs
 
 -- The buffers after the read.
-ready : (c : tie.After-fill) → Ready (c .fill .last .0) (entry c .args .to) (entry c .args .out .now)
-ready c = ready-read (entry c .pre) (c .fill .ensures .0) (c .fill .kept .0)
+ready : (c : tie.After-read) → Ready (c .read .last .0) (entry c .args .to) (entry c .args .out .now)
+ready c = ready-read (entry c .pre) (c .read .ensures .0 .0) (c .read .kept .0)
 
 end-requires : tie.Need-end-requires
-end-requires c κs = (ready (ended c), c .before .before .if1 .taken)
+end-requires c κs = (ready (ended c), over c .if1 .taken)
 
 piece-requires : tie.Need-piece-requires
 piece-requires c κs =
-    let fill = read c .fill in
-    (ready (read c), omega (arith, fill .kept .0, fill .ensures .1), omega (arith, some c .if1 .left))
+    let came = read c .read in
+    (ready (read c), omega (arith, came .kept .0, came .ensures .0 .1), omega (arith, some c .if1 .left))
 
 -- The input is over.
 input-over : tie.Need-returns
 input-over c =
     let end = c .before .before .end in
-    let filled = ended (c .before .before .before) in (
-      ready-none (entry filled .pre) (end .ensures .0) (filled .fill .kept .0) (end .kept .1 .1 .1 .1 .0),
-      record { piece = []; takes = rw (sym (filled .fill .ensures .0)) (end .ensures .1 _ _ _ _ _ _) },
+    let lent = c .before .before .before in
+    let filled = ended lent in (
+      ready-none (entry filled .pre) (end .ensures .0) (filled .read .kept .0) (end .kept .1 .1 .1 .1 .0),
+      record {
+        piece = [];
+        came = came-none _ (drop (entry filled .args .to) (filled .read .last .0)) (filled .read .ensures .1) (over lent .if1 .taken);
+        takes = rw (sym (filled .read .ensures .0 .0)) (end .ensures .1 _ _ _ _ _ _);
+      },
     )
 
 -- A piece came in.
@@ -70,8 +78,9 @@ piece-came c =
     let filled = read (taken c .before) in (
       piece .ensures .0,
       record {
-        piece = take (filled .fill .result) (drop (entry filled .args .to) (filled .fill .last .0));
-        takes = rw (sym (filled .fill .ensures .0)) (piece .ensures .1);
+        piece = take (filled .read .result) (drop (entry filled .args .to) (filled .read .last .0));
+        came = filled .read .ensures .1;
+        takes = rw (sym (filled .read .ensures .0 .0)) (piece .ensures .1);
       },
     )
 

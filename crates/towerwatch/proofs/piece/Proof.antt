@@ -19,18 +19,18 @@ abbrev entry : tie.After-run-turn → tie.Start
 entry c = known c .before .before .before .before .before
 
 -- From the write: where the output is back from `run_turn`, where the state is back, and the turn.
-abbrev out-back : tie.After-show → tie.After-out
+abbrev out-back : tie.After-hand → tie.After-out
 out-back c = c .before .before .before .before
 
-abbrev state-back : tie.After-show → tie.After-state
+abbrev state-back : tie.After-hand → tie.After-state
 state-back c = out-back c .before .before .before .before
 
-abbrev ran : tie.After-show → tie.After-run-turn
+abbrev ran : tie.After-hand → tie.After-run-turn
 ran c = state-back c .before .before .before .before .before
 
 returns : tie.Need-returns
 returns c =
-    let shown = c .before .before .show in
+    let hand = c .before .before .hand in
     let over = c .before .is-over in
     let here = ran (c .before .before) in
     let turn = here .run-turn in
@@ -45,8 +45,8 @@ returns c =
         size = omega (arith, b, pre .0 .size);
         room = omega (arith, b, o, pre .0 .room);
       },
-      piece-takes (args .to) (args .got) (turn .ensures) (pre .1) (omega (arith, o, pre .0 .room)) (pre .2) _
-          (shown .result .done) (over .result) refl refl (shown .ensures) (over .ensures) (c .going .ensures),
+      piece-takes (args .to) (args .got) (turn .ensures) (hand .ensures) (pre .1) (omega (arith, o, pre .0 .room))
+          (pre .2) _ (over .result) refl refl refl (over .ensures) (c .going .ensures),
     )
 
 pub piece-spec : {M : Type 1} → statement M

@@ -9,6 +9,7 @@ use Rattle.player.specs.Card.{worldOf}
 use Rattle.feeder.specs.Feed.{Ready}
 use Rattle.towerwatch.specs.Run.{outputRoom}
 use Rattle.towerwatch.proofs.Progress.{budget, Reached, reached-start, reached-on, fewer, ends-whole}
+use Rattle.towerwatch.proofs.Showing.{whole-program}
 use Rattle.towerwatch.proofs.run.Statement.{statement}
 use Rattle.towerwatch.proofs.run.Tie as tie
 
@@ -106,7 +107,8 @@ returns : tie.Need-returns Inv-loop μ-loop
 returns c =
     let done = made (c .before) in
     let over = sym (c .before .reads-on .ensures) ∙ not-true _ (c .if1 .taken) in
-    ends-whole (reached done) _ (done .once .ensures .1) over _ refl refl refl
+    let whole = ends-whole (reached done) _ (done .once .ensures .1) over _ refl refl refl in
+    (whole, whole-program _ whole)
 
 loop-less : tie.Need-loop-less Inv-loop μ-loop
 loop-less c =

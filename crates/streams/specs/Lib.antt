@@ -1,0 +1,2 @@
+-- That a read and a write were made.
+pub mod Calls
