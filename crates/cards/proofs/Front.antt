@@ -7,8 +7,10 @@ use native.Mathlib.Omega.{arith}
 use lib.Dec.{eqb, ltb, leb}
 use lib.ListN.{length, getD, take}
 use borrow.Author.Tests.{eqb-true, ltb-false, leb-false, ne-eqb}
-use Rattle.lists.specs.Line.{lineEnd, line}
-use Rattle.cards.specs.Ticks.{hexOf, hexes, tickLine, tickFirst}
+use Rattle.lists.specs.Line.{line}
+use Rattle.lists.specs.Text.{lineEnd}
+use Rattle.cards.specs.Ticks.{hexOf, hexes, tickLine}
+use Rattle.cards.specs.Place.{tickFirst}
 use Rattle.cards.specs.declared.TickLine.the-variants.{Is}
 use Rattle.cards.proofs.Hex.{hex-low, passed, not-failed}
 

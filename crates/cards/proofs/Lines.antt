@@ -8,7 +8,8 @@ use native.Mathlib.Omega.{arith}
 use lib.Dec.{eqb}
 use lib.ListN.{length, take, drop}
 use lib.Seq.{take-length}
-use Rattle.lists.specs.Line.{lineEnd, line}
+use Rattle.lists.specs.Line.{line}
+use Rattle.lists.specs.Text.{lineEnd}
 use Rattle.lists.proofs.Lines.{take-line}
 use Rattle.cards.specs.Lines.{Cut, cutAs, withLine, pushOn, cut}
 

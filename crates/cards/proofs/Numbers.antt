@@ -11,11 +11,12 @@ use lib.Seq.{drop-cons, take-suc-set, set-split}
 use borrow.Author.Tests.{eq-eqb, ne-eqb}
 use Rattle.limits.specs.Limits.{lastLiteral, parameterCount}
 use Rattle.cards.specs.Heads.{parametersHead}
-use Rattle.lists.specs.Decimal.{DecimalAt}
+use Rattle.lists.specs.Place.{DecimalAt}
 use Rattle.lists.specs.declared.Decimal.{Decimal}
 use Rattle.lists.specs.declared.Decimal.the-variants as D
 use Rattle.lists.proofs.Decimals.{is-of, is-next, above-of, missing-of}
-use Rattle.cards.specs.Numbers.{Parsed, parsed, readTo, ReadsAs, number, hasPrefix, beforeComma}
+use Rattle.cards.specs.Numbers.{Parsed, parsed, number, hasPrefix, beforeComma}
+use Rattle.cards.specs.Place.{readTo, ReadsAs}
 use Rattle.cards.specs.Numbers.{atEnd, numbers, lastParameter, wholly, parametersOf}
 use Rattle.cards.specs.Numbers.Parsed.{done, none}
 use Rattle.cards.specs.Numbers.Listed.{are, broken}

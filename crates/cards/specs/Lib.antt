@@ -4,3 +4,4 @@ pub mod Numbers
 pub mod Lines
 pub mod Ticks
 pub mod Says
+pub mod Place

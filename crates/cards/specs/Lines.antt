@@ -6,7 +6,7 @@ use Prim.Native.Nat.{ℕ}
 use lib.Dec.{eqb, leb}
 use lib.ListN.{length}
 use Rattle.limits.specs.Limits.{lineLimit}
-use Rattle.lists.specs.Line.{lineEnd}
+use Rattle.lists.specs.Text.{lineEnd}
 
 -- "Lines end in byte 10 and have at most 4,096 bytes with it": a line that is given without its byte 10 is over-long
 -- from so many bytes on.

@@ -2,17 +2,13 @@
 -- The sentences quoted are document 01's, from "towerwatch".
 use mathlib.Core.Bool.{Bool, true, false, cond}
 use mathlib.Core.List.{List, [], _∷_, _++_}
-use mathlib.Core.Path.{_≡_}
-use Prim.Native.Nat.{ℕ, zero, suc, _-_, _≤_}
+use Prim.Native.Nat.{ℕ, zero, suc, _-_}
 use lib.Dec.{eqb}
-use lib.ListN.{length, drop}
 use Rattle.limits.specs.Limits.{lastLiteral, parameterCount}
 use Rattle.lists.specs.Text.{byte}
 use Rattle.lists.specs.Decimal.{Numeral, numeral}
 use Rattle.lists.specs.Decimal.Numeral.{is, above, missing}
 use Rattle.cards.specs.Heads.{parametersHead, countHead, afterHead}
-use Rattle.cards.specs.declared.decimals.Number.{Number}
-use Rattle.cards.specs.declared.decimals.Number.the-variants as N
 use Rattle.cards.specs.declared.Count.{Count}
 use Rattle.cards.specs.declared.Count.the-variants as K
 
@@ -35,20 +31,6 @@ unfoldable pub hasPrefix : List ℕ → List ℕ → Bool
 hasPrefix [] l = true
 hasPrefix (x ∷ p) [] = false
 hasPrefix (x ∷ p) (y ∷ l) = cond (eqb y x) (hasPrefix p l) false
-
--- What the code's answer says: the number, and what stands from `next` on.
-abbrev pub readTo : Number → List ℕ → Parsed
-readTo (N.Is v next) s = done v (drop next s)
-readTo N.Broken s = none
-
-abbrev pub nextIn : Number → ℕ → ℕ
-nextIn (N.Is v next) n = next
-nextIn N.Broken n = n
-
--- The answer r says p of the bytes s.
-pub record ReadsAs (r : Number) (s : List ℕ) (p : Parsed) : Type 0 where
-  pub means : readTo r s ≡ p
-  pub within : nextIn r (length s) ≤ length s
 
 -- What a line of numbers says.
 pub data Listed : Type 0 where

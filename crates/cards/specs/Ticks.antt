@@ -4,9 +4,8 @@ use mathlib.Core.Bool.{_&&_, cond}
 use mathlib.Core.List.{List, [], _∷_}
 use Prim.Native.Nat.{ℕ, _+_, _-_, _*_}
 use lib.Dec.{ltb, leb, eqb}
-use lib.ListN.{length, take, drop}
+use lib.ListN.{length, drop}
 use Rattle.lists.specs.Decimal.{isDigit, digitValue}
-use Rattle.lists.specs.Line.{lineEnd}
 use Rattle.lists.specs.Number.{numberAt}
 use Rattle.lists.specs.Text.{byte}
 use Rattle.cards.specs.declared.TickLine.{TickLine}
@@ -39,9 +38,3 @@ tickLine l =
     (cond (eqb (numberAt l 0) (byte "t"))
     (cond (eqb (numberAt l 1) (byte "="))
     (cond (eqb (numberAt l 3) (byte ",")) (started (numberAt l 2) (drop 4 l)) Broken) Broken) Broken) Broken
-
--- The tick line at the front of these bytes, where it is there with its byte 10.
-unfoldable pub tickFirst : List ℕ → TickLine
-tickFirst s =
-    cond (leb (length s) tickLength) Broken
-    (cond (eqb (numberAt s tickLength) lineEnd) (tickLine (take tickLength s)) Broken)

@@ -3,7 +3,8 @@
 use lists::Decimal;
 ghost use mathlib.Core.Path.{_≡_};
 ghost use lib.ListN.{drop};
-ghost use Rattle.cards.specs.Numbers.{hasPrefix, number, beforeComma, ReadsAs};
+ghost use Rattle.cards.specs.Numbers.{hasPrefix, number, beforeComma};
+ghost use Rattle.cards.specs.Place.{ReadsAs};
 
 // The number at a place of a line, and the place after it.
 pub enum Number {

@@ -10,7 +10,8 @@ ghost use Prim.Native.Nat.{ℕ};
 ghost use lib.ListN.{drop, replicate};
 ghost use Rattle.limits.specs.Limits.{parameterCount};
 ghost use Rattle.cards.specs.Numbers.{parametersOf, countOf};
-ghost use Rattle.cards.specs.Ticks.{hexOf, tickLine, tickFirst};
+ghost use Rattle.cards.specs.Ticks.{hexOf, tickLine};
+ghost use Rattle.cards.specs.Place.{tickFirst};
 ghost use Rattle.cards.specs.Says.{editionOf, parametersSay, countSays, tickIn, saysBy, brokenBy, lineSays};
 ghost use Rattle.cards.specs.Says.{endSays, stageAt, stageAfter, firstStage, isOver};
 

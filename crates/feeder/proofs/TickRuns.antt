@@ -10,7 +10,8 @@ use Rattle.tables.specs.declared.Checked.the-variants.{Passed}
 use Rattle.flows.specs.declared.Stepped.the-variants as S
 use Rattle.flows.proofs.Lists.{step-on}
 use Rattle.lists.specs.Line.{line}
-use Rattle.cards.specs.Ticks.{tickLength, tickFirst}
+use Rattle.cards.specs.Ticks.{tickLength}
+use Rattle.cards.specs.Place.{tickFirst}
 use Rattle.cards.specs.declared.Phase.the-variants as P
 use Rattle.cards.specs.declared.TickLine.the-variants as T
 use Rattle.cards.proofs.Front.{First, first-tick}

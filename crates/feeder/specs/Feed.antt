@@ -10,7 +10,7 @@ use Rattle.flows.specs.Step.{stepChecked}
 use Rattle.tables.specs.declared.Checked.the-variants.{Passed}
 use Rattle.lists.specs.Line.{line}
 use Rattle.cards.specs.Lines.{overLong, cut}
-use Rattle.cards.specs.Ticks.{tickFirst}
+use Rattle.cards.specs.Place.{tickFirst}
 use Rattle.cards.specs.declared.Phase.{Phase}
 use Rattle.cards.specs.declared.Phase.the-variants as P
 use Rattle.cards.specs.declared.TickLine.the-variants as T

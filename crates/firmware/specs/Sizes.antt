@@ -3,7 +3,7 @@ use Prim.Native.Nat.{_≤_}
 use Rattle.limits.specs.Limits.{equationLimit}
 use Rattle.observers.specs.declared.Compiled.{Compiled}
 use Rattle.observers.specs.declared.Compiled.the-variants.{Equations, Refused}
-use Rattle.lustre.specs.Write.{lengthLimit}
+use Rattle.lustre.specs.Sizes.{lengthLimit}
 use Rattle.lustre.specs.declared.Written.{Written}
 use Rattle.lustre.specs.declared.Written.the-variants.{Length, Refused as No-text}
 use Rattle.lustre.specs.declared.Loaded.{Loaded}

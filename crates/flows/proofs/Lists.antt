@@ -20,7 +20,7 @@ use Rattle.flows.specs.Step.{AfterFresh, afterFresh, freshened, AfterSte
 use Rattle.flows.specs.Run.{Call, called, Taken, steps, fromFresh, answered, tickIf, ticks, EachTick}
 use Rattle.flows.specs.Run.{callChecked, admits, refusalIn, CallsDecide}
 use Rattle.flows.specs.Run.EachTick.{none, tick as ticked, refused as skipped}
-use Rattle.flows.specs.Lustre.{Lustre, firsts, Leaves, RunsAsLustre}
+use Rattle.flows.specs.Lustre.{Lustre, Solves, firsts, Leaves, RunsAsLustre}
 use Rattle.tables.specs.declared.Checked.{Checked}
 use Rattle.tables.specs.declared.Checked.the-variants.{Passed, Refused as Failed}
 use Rattle.flows.specs.declared.Fresh.the-variants.{Made}
@@ -199,7 +199,7 @@ module _ (cap : ℕ) (t : List ℕ) (n : ℕ) (passed : checked t n ≡ Passed) 
   abbrev noughts : List ℕ
   noughts = replicate n 0
 
-  module _ (old : List ℕ) (room : n ≤ length old) (trace : Trace) (f : ℕ → ℕ → ℕ) (F : Lustre cap t n trace f) where
+  module _ (old : List ℕ) (room : n ≤ length old) (trace : Trace) (f : ℕ → ℕ → ℕ) (F : Solves cap t n trace f) where
     tick-leaves : (k : ℕ) (s : Taken) → Ran cap t n passed old room trace k s → Leaves n f k s
     unfolding afterTick flowAt
     tick-leaves k s r =
@@ -207,7 +207,7 @@ module _ (cap : ℕ) (t : List ℕ) (n : ℕ) (passed : checked t n ≡ Passed) 
         let fs = flows cap t (trace k) state n in
         let same : (i : ℕ) → i < n → numberAt fs i ≡ f k i =
         λ i l. flows-same cap t n trace (fits .equations) (flowAt cap t n old trace) f
-        (lustre cap t n old trace passed room) F k i l in
+        (λ j m h. lustre cap t n old trace passed room j m h .equation) F k i l in
         record {
           values =
               ap (λ (z : AfterStep). z .values) (r .left)

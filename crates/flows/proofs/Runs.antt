@@ -17,7 +17,7 @@ use Rattle.tables.specs.Table.Kind.{countPre, capped, ifElse, compareLiteral, c
 use Rattle.flows.specs.Flow.{valueOf, flows, initialAt, operandAt, freshState, nextState}
 use Rattle.tables.specs.Table.{isMemory}
 use Rattle.flows.specs.Step.{cellsFit}
-use Rattle.flows.specs.Lustre.{remembered, Satisfied, Lustre}
+use Rattle.flows.specs.Lustre.{remembered, Satisfied, Lustre, Solves}
 use Rattle.tables.specs.declared.Sort.{Sort}
 use Rattle.tables.specs.declared.Sort.the-variants.{Boolean, Count}
 use Rattle.tables.specs.declared.Checked.the-variants.{Passed}
@@ -136,7 +136,7 @@ memory-operand t n i q e m f =
     (memory-kind q m)
 
 module _ (cap : ℕ) (t : List ℕ) (n : ℕ) (trace : Trace) (fit : all (equationFits t n) n ≡ true)
-    (f g : ℕ → ℕ → ℕ) (F : Lustre cap t n trace f) (G : Lustre cap t n trace g) where
+    (f g : ℕ → ℕ → ℕ) (F : Solves cap t n trace f) (G : Solves cap t n trace g) where
   -- The flows of the tick before k are the same.
   Before : ℕ → Type 0
   Before zero = Unit {0}
@@ -152,11 +152,11 @@ module _ (cap : ℕ) (t : List ℕ) (n : ℕ) (trace : Trace) (fit : all (equati
   tick-same : (k : ℕ) → Before k → (m i : ℕ) → i < m → i < n → f k i ≡ g k i
   tick-same k before zero i h l = absurd (omega arith)
   tick-same k before (suc m) i h l =
-      F i k l .equation
+      F i k l
       ∙ value-same cap t n i (trace k) (f k) (g k) (remembered t f i k) (remembered t g i k)
       (λ j b. tick-same k before m j (omega arith) (omega arith)) (kindAt t i) (equationAt t i)
       (all-at (equationFits t n) n fit i l) (cells-same k i before l)
-      ∙ sym (G i k l .equation)
+      ∙ sym (G i k l)
 
   pub flows-same : (k i : ℕ) → i < n → f k i ≡ g k i
   unfolding Before

@@ -1,5 +1,5 @@
 -- What it is for flows to satisfy the equations of a table, as Lustre reads them, and demand 2 of a run: what its steps
--- leave are these flows. Definitions only; the theorem is in proofs/Runs.antt.
+-- leave are these flows. Definitions only; the theorem is `runs-as-lustre` in proofs/Lists.antt.
 use mathlib.Core.Bool.{true}
 use mathlib.Core.List.{List, [], _∷_, _++_}
 use mathlib.Core.Path.{_≡_}
@@ -23,17 +23,25 @@ arrowPre x y (suc k) = y k
 abbrev pub remembered : List ℕ → (ℕ → ℕ → ℕ) → ℕ → ℕ → ℕ
 remembered t flow i k = arrowPre (initialAt t i) (λ j. flow j (equationAt t i .a)) k
 
--- Flow i, `flow k i` at tick k, satisfies its own equation at that tick, with its operands at the same tick, and is in
--- the range of its sort, so that a count is never above the cap.
+-- Flow i, `flow k i` at tick k, satisfies its own equation at that tick, with its operands at the same tick.
+abbrev pub Equated : ℕ → List ℕ → Trace → (ℕ → ℕ → ℕ) → ℕ → ℕ → Type 0
+Equated cap t trace flow i k =
+    flow k i ≡ valueOf cap (trace k) (flow k) (remembered t flow i k) (kindAt t i) (equationAt t i)
+
+-- Each of the n flows does, at every tick.
+abbrev pub Solves : ℕ → List ℕ → ℕ → Trace → (ℕ → ℕ → ℕ) → Type 0
+Solves cap t n trace flow = (i k : ℕ) → i < n → Equated cap t trace flow i k
+
+-- It does, and is in the range of its sort, so that a count is never above the cap.
 pub record Satisfied (cap : ℕ) (t : List ℕ) (trace : Trace) (flow : ℕ → ℕ → ℕ) (i k : ℕ) : Type 0 where
-  pub equation : flow k i ≡ valueOf cap (trace k) (flow k) (remembered t flow i k) (kindAt t i) (equationAt t i)
+  pub equation : Equated cap t trace flow i k
   pub range : inRange cap (sortOf (kindAt t i)) (flow k i) ≡ true
 
 -- Each of the n flows does, at every tick.
 abbrev pub Lustre : ℕ → List ℕ → ℕ → Trace → (ℕ → ℕ → ℕ) → Type 0
 Lustre cap t n trace flow = (i k : ℕ) → i < n → Satisfied cap t trace flow i k
 
--- The first n of them.
+-- The values f 0 to f (n - 1).
 unfoldable pub firsts : (ℕ → ℕ) → ℕ → List ℕ
 firsts f zero = []
 firsts f (suc n) = firsts f n ++ (f n ∷ [])
@@ -48,16 +56,16 @@ pub record Leaves (n : ℕ) (flow : ℕ → ℕ → ℕ) (k : ℕ) (s : Taken) :
 -- "Running a table gives each equation, tick by tick, the value Lustre gives it, with counts held at" the cap (demand
 -- 2), of a table of n equations:
 pub record RunsAsLustre (cap : ℕ) (t : List ℕ) (n : ℕ) : Type 0 where
-  -- On every trace there are flows that satisfy the equations,
+  -- On every trace there are flows that satisfy the equations and are in range,
   pub flow : Trace → ℕ → ℕ → ℕ
   pub solves : (trace : Trace) → Lustre cap t n trace (flow trace)
-  -- and no others.
-  pub one : (trace : Trace) (f g : ℕ → ℕ → ℕ) → Lustre cap t n trace f → Lustre cap t n trace g
+  -- and no others satisfy the equations.
+  pub one : (trace : Trace) (f g : ℕ → ℕ → ℕ) → Solves cap t n trace f → Solves cap t n trace g
       → (k i : ℕ) → i < n → f k i ≡ g k i
   -- From the fresh state over any old cells, over every list of calls, refused ones included, each tick's step leaves
   -- the flows that Lustre gives at that tick. Past the last tick, where no step looks, the trace is as d.
   pub leaves : (old : List ℕ) → n ≤ length old → (calls : List Call) (d : Tick) (f : ℕ → ℕ → ℕ)
-      → Lustre cap t n (traceOf d (ticks (fromFresh cap t n old calls))) f
+      → Solves cap t n (traceOf d (ticks (fromFresh cap t n old calls))) f
       → EachTick (Leaves n f) 0 (fromFresh cap t n old calls)
   pub decides : (old : List ℕ) → n ≤ length old → (calls : List Call)
       → CallsDecide cap n calls (fromFresh cap t n old calls)

@@ -64,7 +64,7 @@ trials =
     ∷ []
 
 -- Further rows on the same signals, their verdicts worked out by hand from document 01, "Interval meaning": `!`, `&`,
--- `|` and `0` in P; `!`, `&` and `|` of formulas; a second start, and none at tick 0; an age that breaks off, and one
+-- `|` and `0` in P; `!`, `&` and `|` of formulas, `&` before `|`; a second start, and none at tick 0; an age that breaks off, and one
 -- that a start cuts; a lead that falls late; a `then` in a `then`.
 abbrev pub furtherTrials : List Trial
 furtherTrials =
@@ -76,6 +76,9 @@ furtherTrials =
     ∷ trial "!kept[s0]" (neg (test kept s0)) 2 first (five 0 0 0 1 1)
     ∷ trial "kept[s0] & end[s1]" (and (test kept s0) (test end s1)) 3 first (five 0 0 1 0 0)
     ∷ trial "end[s1] | point[s0]" (or (test end s1) (test point s0)) 3 first (five 1 0 1 0 1)
+    ∷ trial "end[s0] | kept[s0] & end[s1]" (or (test end s0) (and (test kept s0) (test end s1))) 5 first
+    (five 1 1 1 1 1)
+    ∷ trial "end[s0 | s1 & 0]" (test end (orP s0 (andP s1 (constant false)))) 1 first (five 1 1 0 1 1)
     ∷ trial "begin[s1]" (test begin s1) 1 (five 1 0 1 0 0) (five 0 0 1 1 1)
     ∷ trial "held[s0]" (test held s0) 1 (five 1 0 0 1 0) (five 0 1 1 0 1)
     ∷ trial "len = 1" (len eq (literal 1)) 1 (five 0 0 1 0 0) (five 1 1 0 1 0)

@@ -10,7 +10,7 @@ use lib.ListN.{length, getD, drop, drop-of-length-le}
 use lib.Seq.{drop-cons}
 use borrow.Author.Tests.{leb-true, ne-eqb, lt-leb}
 use Rattle.lists.specs.Decimal.{Numeral, isDigit, settled, digitsAfter, numeral}
-use Rattle.lists.specs.Decimal.{numeralOf, nextOf, settledAt, DecimalAt}
+use Rattle.lists.specs.Place.{numeralOf, nextOf, settledAt, DecimalAt}
 use Rattle.lists.specs.Decimal.Numeral.{is, above, missing}
 use Rattle.lists.specs.declared.Decimal.{Decimal}
 use Rattle.lists.specs.declared.Decimal.the-variants.{Is, Above, Missing}

@@ -9,7 +9,8 @@ use lib.Dec.{eqb}
 use lib.ListN.{length, getD, take, drop, drop-of-length-le, length-drop}
 use lib.Seq.{drop-cons}
 use borrow.Author.Tests.{ne-eqb}
-use Rattle.lists.specs.Line.{lineEnd, line, lineFrom}
+use Rattle.lists.specs.Line.{line, lineFrom}
+use Rattle.lists.specs.Text.{lineEnd}
 
 -- At a line end, past the end of the text, and at another byte.
 module _ (s : List ℕ) (i : ℕ) where

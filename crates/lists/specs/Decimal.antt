@@ -1,13 +1,9 @@
--- Decimal numbers in a text, and what the reader's answer says of them. Definitions only.
+-- Decimal numbers in a text. Definitions only.
 use mathlib.Core.Bool.{Bool, _&&_, cond}
 use mathlib.Core.List.{List, [], _∷_}
-use mathlib.Core.Path.{_≡_}
-use Prim.Native.Nat.{ℕ, _+_, _-_, _*_, _≤_}
+use Prim.Native.Nat.{ℕ, _+_, _-_, _*_}
 use lib.Dec.{eqb, leb}
-use lib.ListN.{length, drop}
 use Rattle.lists.specs.Text.{byte}
-use Rattle.lists.specs.declared.Decimal.{Decimal}
-use Rattle.lists.specs.declared.Decimal.the-variants.{Is, Above, Missing}
 
 -- What stands at the front of some bytes: a number and the bytes after it; a number above the highest that is asked
 -- for, and the bytes after it; or no number.
@@ -42,23 +38,3 @@ digitsAfter max v (b ∷ l) =
 unfoldable pub numeral : ℕ → List ℕ → Numeral
 numeral max [] = missing
 numeral max (b ∷ l) = cond (eqb b (byte "0")) (is 0 l) (cond (isDigit b) (digitsAfter max (digitValue b) l) missing)
-
--- What an answer says of the bytes s, and the place that it names.
-abbrev pub numeralOf : List ℕ → Decimal → Numeral
-numeralOf s (Is v next) = is v (drop next s)
-numeralOf s (Above next) = above (drop next s)
-numeralOf s Missing = missing
-
-abbrev pub nextOf : Decimal → ℕ
-nextOf (Is v next) = next
-nextOf (Above next) = next
-nextOf Missing = 0
-
--- The answer for the number v before the place `next`.
-abbrev pub settledAt : ℕ → ℕ → ℕ → Decimal
-settledAt max v next = cond (leb v max) (Is v next) (Above next)
-
--- The answer r is the number, up to max, that stands in s at a place.
-pub record DecimalAt (s : List ℕ) (at max : ℕ) (r : Decimal) : Type 0 where
-  pub means : numeralOf s r ≡ numeral max (drop at s)
-  pub within : nextOf r ≤ length s

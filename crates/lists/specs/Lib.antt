@@ -4,3 +4,4 @@ pub mod Number
 pub mod Same
 pub mod Line
 pub mod Decimal
+pub mod Place

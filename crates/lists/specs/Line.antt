@@ -1,13 +1,10 @@
--- Lines of a text. Definitions only. The sentence quoted is document 01's, from "towerwatch".
+-- The line at the front of some bytes. Definitions only.
 use mathlib.Core.Bool.{cond}
 use mathlib.Core.List.{List, [], _∷_}
 use Prim.Native.Nat.{ℕ}
 use lib.Dec.{eqb}
 use lib.ListN.{drop}
-
--- "Lines end in byte 10"
-abbrev pub lineEnd : ℕ
-lineEnd = 10
+use Rattle.lists.specs.Text.{lineEnd}
 
 -- The bytes before the first line end; all of them, where there is none.
 unfoldable pub line : List ℕ → List ℕ

@@ -13,3 +13,7 @@ bytes (String._∷_ c s) = List._∷_ (code c) (bytes s)
 -- The byte of a text's first character.
 abbrev pub byte : String → ℕ
 byte s = numberAt (bytes s) 0
+
+-- "Lines end in byte 10" (document 01, "towerwatch" and "Equations").
+abbrev pub lineEnd : ℕ
+lineEnd = 10

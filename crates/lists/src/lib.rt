@@ -7,7 +7,8 @@ ghost use lib.Seq.{sets};
 ghost use Rattle.lists.specs.Number.{numberAt};
 ghost use Rattle.lists.specs.Same.{same};
 ghost use Rattle.lists.specs.Line.{lineFrom};
-ghost use Rattle.lists.specs.Decimal.{isDigit, settledAt, DecimalAt};
+ghost use Rattle.lists.specs.Decimal.{isDigit};
+ghost use Rattle.lists.specs.Place.{settledAt, DecimalAt};
 
 // Number i, or 0 past the end.
 pub fn number_at(numbers: &[u32], i: usize) -> u32

@@ -16,7 +16,8 @@ use Rattle.tables.specs.Table.Kind.{countPre, capped, ifElse, compareLiteral, c
 use Rattle.tables.proofs.Checks.{checked-fitting}
 use Rattle.tables.specs.declared.Checked.{Checked}
 use Rattle.tables.specs.declared.Checked.the-variants.{Passed, Refused as Failed}
-use Rattle.lustre.specs.Write.{longestLine, lengthLimit, writeEffect, effectIf, writeChecked, afterText}
+use Rattle.lustre.specs.Write.{writeEffect, effectIf, writeChecked, afterText}
+use Rattle.lustre.specs.Sizes.{longestLine, lengthLimit}
 use Rattle.lustre.specs.declared.Written.the-variants.{Length}
 use Rattle.lustre.proofs.Numerals.{digits-short}
 use Rattle.lustre.proofs.Theorems.{text-written}

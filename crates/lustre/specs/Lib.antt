@@ -6,3 +6,4 @@ pub mod Write
 pub mod Read
 pub mod Form
 pub mod Scan
+pub mod Sizes

@@ -1,10 +1,9 @@
 -- Writing a table as Lustre text: the whole effect of a call as one record. Definitions only.
 -- The sentences quoted are document 01's, from "Each operation and its refusals".
 use mathlib.Core.List.{List, [], _∷_, _++_}
-use Prim.Native.Nat.{ℕ, _+_, _*_}
+use Prim.Native.Nat.{ℕ}
 use lib.Dec.{leb}
 use lib.ListN.{length, drop}
-use Rattle.limits.specs.Limits.{equationLimit}
 use Rattle.tables.specs.Table.{Test, test, firstFailed, tableTests}
 use Rattle.limits.specs.Reply.{Reply, refused, gives}
 use Rattle.tables.specs.declared.Checked.{Checked}
@@ -17,14 +16,6 @@ use Rattle.lustre.specs.declared.Written.the-variants.{Length, Refused}
 abbrev pub writeReply : Written → Reply
 writeReply (Length l) = gives l
 writeReply (Refused r) = refused r
-
--- No line is longer, nor are the first line and the last two together (proofs/Sizes.antt).
-abbrev pub longestLine : ℕ
-longestLine = 100
-
--- No table's text is longer.
-abbrev pub lengthLimit : ℕ
-lengthLimit = longestLine * equationLimit + longestLine
 
 -- "Write as Lustre text. 10, 11; 15: the buffer is shorter than that text."
 abbrev pub writeTests : List ℕ → ℕ → List ℕ → List Test

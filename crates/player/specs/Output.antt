@@ -4,7 +4,7 @@ use mathlib.Core.List.{List, [], _∷_, _++_}
 use Prim.Native.Nat.{ℕ, _/_, _%_}
 use lib.Dec.{ltb}
 use Rattle.lists.specs.Decimal.{digit}
-use Rattle.lists.specs.Line.{lineEnd}
+use Rattle.lists.specs.Text.{lineEnd}
 use Rattle.lists.specs.Text.{bytes}
 use Rattle.player.specs.declared.Output.{Output}
 use Rattle.player.specs.declared.Output.the-variants as O

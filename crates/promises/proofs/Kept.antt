@@ -11,11 +11,11 @@ use Rattle.formulas.specs.Tree.{Tree, nodes, formulaOf}
 use Rattle.formulas.proofs.Laws.{means}
 use Rattle.formulas.proofs.Only.{only-verdict}
 use Rattle.rules.specs.Reading.{Outcome, HasOutcome}
-use Rattle.rules.specs.Reading.Outcome.{rule}
+use Rattle.rules.specs.Reading.Outcome.{rule, refused}
 use Rattle.rules.specs.Reading.HasOutcome.{is-rule}
 use Rattle.rules.specs.Computed.{ruleOf}
 use Rattle.rules.specs.Contract.{answerOf}
-use Rattle.rules.proofs.Theorems.{has-outcome, computed, one-outcome, accepted, has-formula}
+use Rattle.rules.proofs.Theorems.{has-outcome, computed, one-outcome, numbered, accepted, has-formula}
 use Rattle.rules.proofs.SameRule.{one-answer, same-tree, not-refused}
 use Rattle.flows.proofs.Lists.{runs-as-lustre}
 use Rattle.agreement.specs.Agreement.{Observes}
@@ -35,13 +35,30 @@ reading =
       exactly = λ text t. (λ h. accepted text t .0 (computed text h), is-rule);
       some-outcome = λ text. (ruleOf text, has-outcome text);
       one-outcome = λ text x y. one-outcome text x y;
+      numbered = numbered;
       formula = λ text t h. has-formula text t (computed text h);
       one-answer = λ text r r′ h k.
           h .answer ∙ ap answerOf (one-outcome text (h .outcome) (k .outcome) (h .has) (k .has)) ∙ sym (k .answer);
       one-comparison = λ a b r r′ h k. one-answer h k;
     }
 
--- What compiling a rule gives, where there is room.
+-- What compiling gives for a refused text, for a rule and too short a table,
+refused-text : {text before after : List ℕ} {r : Compiled} {k : ℕ} → Compiles text before r after
+    → HasOutcome text (refused k) → (r ≡ Refused k) × (after ≡ before)
+refused-text {text} (not-read e) h = (ap Refused (refusal-of (one-outcome text _ _ e h)), refl)
+  where
+    refusal-of : {m k : ℕ} → refused m ≡ refused k → m ≡ k
+    refusal-of e = cc
+refused-text (no-room e l) h = absurd (not-refused e h)
+refused-text (observed e is l same kept o) h = absurd (not-refused e h)
+
+short-table : {text before after : List ℕ} {r : Compiled} {t : Tree} → Compiles text before r after
+    → HasOutcome text (rule t) → length before < tableRoom → (r ≡ Refused 9) × (after ≡ before)
+short-table (not-read e) h low = absurd (not-refused h e)
+short-table (no-room e l) h low = (refl, refl)
+short-table (observed e is l same kept o) h low = absurd (omega arith)
+
+-- and for a rule where there is room.
 compiled-rule : {text before after : List ℕ} {r : Compiled} {t : Tree} → Compiles text before r after
     → HasOutcome text (rule t) → tableRoom ≤ length before → (n : ℕ) × (r ≡ Equations n)
 compiled-rule (not-read e) h room = absurd (not-refused h e)
@@ -71,7 +88,12 @@ kept =
       reading = reading;
       meaning = λ trace. record { clauses = means trace; only = λ At On v laws. only-verdict trace At On v laws };
       running = λ t n e. runs-as-lustre standardCap t n e;
-      compiling = record { compiles = compiled-rule; observes = λ c h is rest. observed-rule c refl h is rest };
+      compiling = record {
+        refuses = refused-text;
+        no-room = short-table;
+        compiles = compiled-rule;
+        observes = λ c h is rest. observed-rule c refl h is rest;
+      };
       round-trips = record {
         table = λ t n l buffer before after r. lustre.read-of-written t n l buffer before r after;
         text = λ text before after buffer n. lustre.written-of-read text before buffer n after;

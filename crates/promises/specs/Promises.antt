@@ -1,7 +1,8 @@
 -- What towerwatch promises, from the top. Each operation's contract says that what it was given, what it answers and
--- what it leaves stand in one of the relations named below; the records say what is proved of these relations. Nothing
--- that is named here, and no file that this one builds on, has a parser, the choice of equations, or an inner function
--- of the code in it. Definitions only; proofs/Kept.antt proves all of it.
+-- what it leaves stand in one of the relations named below; the records say what is proved of these relations. What is
+-- named here and the files that this one builds on have no parser of the grammar in them (words and the lines of cards are
+-- read by short definitions on their bytes), no choice of equations, and nothing that only inner functions of the code
+-- compute. Definitions only; proofs/Kept.antt proves all of it.
 --
 --   read_rule      Told           rules/specs/Contract.antt         a text and the answer
 --   same_rule      SameAnswer     rules/specs/Same.antt             two texts and the answer
@@ -16,7 +17,7 @@ use mathlib.Core.List.{List, _++_}
 use mathlib.Core.Logic.{_↔_}
 use mathlib.Core.Option.{some}
 use mathlib.Core.Path.{_≡_}
-use Prim.Native.Nat.{ℕ, _*_, _≤_}
+use Prim.Native.Nat.{ℕ, _*_, _≤_, _<_}
 use lib.ListN.{length, take, drop}
 use Rattle.limits.specs.Limits.{standardCap, tableRoom}
 use Rattle.traces.specs.Trace.{Trace}
@@ -25,7 +26,7 @@ use Rattle.formulas.specs.Tree.{Tree, nodes, formulaOf}
 use Rattle.formulas.specs.Meaning.{at, meaning, verdict}
 use Rattle.formulas.specs.Laws.{Means}
 use Rattle.rules.specs.Reading.{Admitted, Outcome, HasOutcome}
-use Rattle.rules.specs.Reading.Outcome.{rule}
+use Rattle.rules.specs.Reading.Outcome.{rule, refused}
 use Rattle.rules.specs.Contract.{Told}
 use Rattle.rules.specs.Same.{SameAnswer}
 use Rattle.rules.specs.declared.Read.{Read}
@@ -36,7 +37,7 @@ use Rattle.flows.specs.Lustre.{RunsAsLustre}
 use Rattle.agreement.specs.Agreement.{Observes}
 use Rattle.observers.specs.Demand.{Compiles}
 use Rattle.observers.specs.declared.Compiled.{Compiled}
-use Rattle.observers.specs.declared.Compiled.the-variants.{Equations}
+use Rattle.observers.specs.declared.Compiled.the-variants.{Equations, Refused}
 use Rattle.lustre.specs.Write.{AfterWrite, afterWrite, writeEffect}
 use Rattle.lustre.specs.Read.{AfterRead}
 use Rattle.lustre.specs.declared.Written.the-variants.{Length}
@@ -46,10 +47,13 @@ use Rattle.player.specs.Shows.{Shows}
 
 -- Demand 2: "A text is a rule exactly when document 01's limits, grammar and fragment have it, and it has one reading."
 pub record Reading : Type 0 where
+  -- The first by the form of `HasOutcome`; that reading has this outcome and no other is `one-outcome`.
   pub exactly : (text : List ℕ) (t : Tree) → HasOutcome text (rule t) ↔ Admitted text t
   -- Every text is a rule or has a refusal (demand 1), and one of them.
   pub some-outcome : (text : List ℕ) → (x : Outcome) × HasOutcome text x
   pub one-outcome : (text : List ℕ) (x y : Outcome) → HasOutcome text x → HasOutcome text y → x ≡ y
+  -- A refusal is 1 to 8, so that 0 can stand for none.
+  pub numbered : (text : List ℕ) (k : ℕ) → HasOutcome text (refused k) → (1 ≤ k) × (k ≤ 8)
   -- What is read has a formula, and so a meaning.
   pub formula : (text : List ℕ) (t : Tree) → HasOutcome text (rule t) → (f : Formula) × (formulaOf t ≡ some f)
   -- The contracts of reading and comparing settle the answers.
@@ -67,9 +71,14 @@ pub record Meaning (trace : Trace) : Type 1 where
 abbrev pub Running : Type 0
 Running = (t : List ℕ) (n : ℕ) → checked t n ≡ Passed → RunsAsLustre standardCap t n
 
--- Demand 3. A rule is compiled where there is room, and then the n equations at the front of the table, whatever stands
--- after them, observe its formula.
+-- Demand 3. A text with a refusal gets that, a rule with too short a table 9, and both leave the table as it was. A rule
+-- is compiled where there is room, and then the n equations at the front of the table, whatever stands after them,
+-- observe its formula.
 pub record Compiling : Type 0 where
+  pub refuses : {text before after : List ℕ} {r : Compiled} {k : ℕ} → Compiles text before r after
+      → HasOutcome text (refused k) → (r ≡ Refused k) × (after ≡ before)
+  pub no-room : {text before after : List ℕ} {r : Compiled} {t : Tree} → Compiles text before r after
+      → HasOutcome text (rule t) → length before < tableRoom → (r ≡ Refused 9) × (after ≡ before)
   pub compiles : {text before after : List ℕ} {r : Compiled} {t : Tree} → Compiles text before r after
       → HasOutcome text (rule t) → tableRoom ≤ length before → (n : ℕ) × (r ≡ Equations n)
   pub observes : {text before after : List ℕ} {n : ℕ} {t : Tree} {f : Formula}

@@ -6,9 +6,11 @@ use mathlib.Core.Path.{_≡_, refl, sym, ap, _∙_, subst}
 use mathlib.Core.List.{List}
 use mathlib.Core.Logic.{_↔_}
 use mathlib.Core.Option.{Option, none, some}
-use Prim.Native.Nat.{ℕ}
+use Prim.Native.Nat.{ℕ, _≤_}
+use native.Mathlib.Omega.{arith}
 use Rattle.words.specs.Split.{Out, splitOf}
 use Rattle.words.specs.Split.Out.{made}
+use Rattle.words.proofs.Bounds.{refusal-numbered}
 use Rattle.formulas.specs.Formula.{Formula}
 use Rattle.formulas.specs.Tree.{Tree, leads, formulaOf}
 use Rattle.grammar.specs.Grammar.{Rule}
@@ -85,6 +87,21 @@ one-outcome text x y p q = sym (computed text p) ∙ computed text q
 -- An answer that is computed is the one that document 01 tells.
 pub told : (text : List ℕ) (r : Read) → r ≡ answerOf (ruleOf text) → Told text r
 told text r e = record { outcome = ruleOf text; has = has-outcome text; answer = e }
+
+-- A refusal of reading is 1 to 8.
+numbered-as : (text : List ℕ) (x : Outcome) (k : ℕ) → HasOutcome text x → x ≡ refused k → (1 ≤ k) × (k ≤ 8)
+numbered-as text x k (no-words {n} e) q =
+    let same : n ≡ k = cc in
+    let low = refusal-numbered text n e in
+    (omega (arith, low .0), omega (arith, low .1))
+numbered-as text x k (over-limits e o) q = let same : _≡_ {A = ℕ} 5 k = cc in (omega arith, omega arith)
+numbered-as text x k (no-grammar e o h) q = let same : _≡_ {A = ℕ} 6 k = cc in (omega arith, omega arith)
+numbered-as text x k (outside e o r f) q = let same : _≡_ {A = ℕ} 7 k = cc in (omega arith, omega arith)
+numbered-as text x k (no-lead e o r f l) q = let same : _≡_ {A = ℕ} 8 k = cc in (omega arith, omega arith)
+numbered-as text x k (is-rule a) q = absurd (refused-rule (sym q))
+
+pub numbered : (text : List ℕ) (k : ℕ) → HasOutcome text (refused k) → (1 ≤ k) × (k ≤ 8)
+numbered text k h = numbered-as text (refused k) k h refl
 
 -- ---- demand 2
 

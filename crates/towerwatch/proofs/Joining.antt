@@ -5,7 +5,7 @@ use mathlib.Core.Bool.{Bool, true, false, false≢true}
 use mathlib.Core.List.{List, [], _∷_, _++_}
 use Prim.Native.Nat.{ℕ}
 use lib.Dec.{eqb}
-use Rattle.lists.specs.Line.{lineEnd}
+use Rattle.lists.specs.Text.{lineEnd}
 use Rattle.cards.specs.Lines.{Cut, cutAs, withLine, push, pushOn, cut, overLong}
 use Rattle.cards.specs.Says.{isOver}
 use Rattle.player.specs.Card.{World, lined}

@@ -185,7 +185,7 @@ reached-start =
       written = omega (arith, rank-first 0);
     }
 
--- What goes on after some bytes goes on after a piece more,
+-- What goes on after some bytes goes on after a piece more.
 goes-both : {u v w : World} {r s t o p : List ℕ} (c : List ℕ) → Goes u r o v s → Goes v (s ++ c) p w t
     → Goes u (r ++ c) (o ++ p) w t
 goes-both {u} {v} {w} {r} {s} {t} {o} {p} c g h =
@@ -198,7 +198,8 @@ goes-both {u} {v} {w} {r} {s} {t} {o} {p} c g h =
           ∙ sym (append-assoc o p _);
     }
 
--- and is after both where it is after the piece, which comes after bytes that do not end the card.
+-- After the bytes r, which do not end the card, comes the piece c: the world and the bytes left over are those after r
+-- and c together.
 module _ {v : World} (r : List ℕ) {s : List ℕ} (h : v ≡ fedWorld startWorld r) (l : s ≡ leftOver r)
     (f : isOver (v .watch .stage .phase) ≡ false) (c : List ℕ) where
   both : Joined startWorld r c
@@ -213,7 +214,7 @@ module _ {v : World} (r : List ℕ) {s : List ℕ} (h : v ≡ fedWorld startWorl
   rest-both : leftOver (s ++ c) ≡ leftOver (r ++ c)
   rest-both = ap (λ (x : List ℕ). leftOver (x ++ c)) l ∙ sym (both .rest)
 
-  -- So it ends.
+  -- Where the program ends after the piece, it ends after r and c.
   module _ {o : List ℕ} (g : Goes startWorld r o v s) (p : List ℕ) {none over : Type 0} (n : none → over) where
     ends-all : p ≡ prints v (s ++ c) → o ++ p ≡ prints startWorld (r ++ c)
     ends-all e = ap (λ (x : List ℕ). o ++ x) e ∙ sym (g .tells c)
@@ -242,7 +243,8 @@ reading-done S.Ended e = refl
 reading-done S.Over e = refl
 reading-done S.Stuck e = e
 
-module _ {w w' : World} {s s' out : List ℕ} {g h : ℕ} (r : Reached w s g h) (n : Next) (t : Once g h w s n w' s' out) where
+module _ {w w' : World} {s s' out : List ℕ} {g h : ℕ} (r : Reached w s g h) (n : Next)
+    (t : Once g h w s n w' s' out) where
   o : Takes h (t .piece) w s n w' s' out
   o = t .takes
 

@@ -32,16 +32,20 @@ pub record Fine (w : ℕ) : Type 0 where
   pub some : 0 < w
   pub low : w ≤ lastWord
 
+-- A refusal of the words is 1 to 4.
+abbrev pub Refusal : ℕ → Type 0
+Refusal n = (1 ≤ n) × (n ≤ 4)
+
 abbrev pub FineWord : Word → Type 0
 FineWord (Made w) = Fine w
-FineWord (Bad n) = Unit {0}
+FineWord (Bad n) = Refusal n
 
 pub record FineList (ws : List ℕ) : Type 0 where
   pub few : length ws ≤ wordLimit
   pub each : (i : ℕ) → i < length ws → Fine (numberAt ws i)
 
 abbrev pub FineOut : Out → Type 0
-FineOut (refused n) = Unit {0}
+FineOut (refused n) = Refusal n
 FineOut (made ws) = FineList ws
 
 -- A class is at most OTHER: the operators' words by a test over their table.
@@ -82,10 +86,10 @@ among-bound (k ∷ ks) n r =
 from-fine : (base max : ℕ) (q : Numeral) → 0 < base → base + max ≤ lastWord
     → ((v : ℕ) (l : List ℕ) → q ≡ is v l → v ≤ max) → FineWord (wordFrom base q)
 from-fine base max (is v []) s h b = record { some = omega arith; low = omega (arith, b v [] refl) }
-from-fine base max (is v (x ∷ l)) s h b = tt
-from-fine base max (above []) s h b = tt
-from-fine base max (above (x ∷ l)) s h b = tt
-from-fine base max missing s h b = tt
+from-fine base max (is v (x ∷ l)) s h b = (omega arith, omega arith)
+from-fine base max (above []) s h b = (omega arith, omega arith)
+from-fine base max (above (x ∷ l)) s h b = (omega arith, omega arith)
+from-fine base max missing s h b = (omega arith, omega arith)
 
 number-fine : (base max : ℕ) (l : List ℕ) → 0 < base → base + max ≤ lastWord → FineWord (numberOf base max l)
 unfolding numberOf
@@ -112,7 +116,7 @@ word-fine : (c : ℕ) (l : List ℕ) → 0 < c → c ≤ OTHER → FineWord (wor
 unfolding wordOf
 word-fine c l s h =
     chosen FineWord (eqb c RUN) (λ _. run-fine (run l))
-    (λ _. chosen FineWord (eqb c OTHER) (λ _. tt) (λ _. longest-fine c (numberAt l 1) s h))
+    (λ _. chosen FineWord (eqb c OTHER) (λ _. (omega arith, omega arith)) (λ _. longest-fine c (numberAt l 1) s h))
 
 -- One word more, where there are not yet so many.
 more-fine : (ws : List ℕ) (w : ℕ) → FineList ws → (length ws ≡ wordLimit → ⊥) → Fine w → FineList (ws ++ w ∷ [])
@@ -131,7 +135,7 @@ more-fine ws w h n f = record { few = simp length-append (omega (arith, h .few))
 add-fine : (w : Word) (ws : List ℕ) (rest : List ℕ → Out) → FineWord w → FineList ws → (length ws ≡ wordLimit → ⊥)
     → ((more : List ℕ) → FineList more → FineOut (rest more)) → FineOut (add w ws rest)
 add-fine (Made w) ws rest f h n go = go (ws ++ w ∷ []) (more-fine ws w h n f)
-add-fine (Bad k) ws rest f h n go = tt
+add-fine (Bad k) ws rest f h n go = f
 
 words-fine : (l : List ℕ) (p : ℕ) (ws : List ℕ) → FineList ws → FineOut (words l p ws)
 unfolding words
@@ -139,7 +143,7 @@ words-fine [] p ws h = h
 words-fine (b ∷ l) p ws h =
     let c = classOf b in
     chosen FineOut (begins p c)
-    (λ t. chosen FineOut (eqb (length ws) wordLimit) (λ _. tt)
+    (λ t. chosen FineOut (eqb (length ws) wordLimit) (λ _. (omega arith, omega arith))
     (λ n. add-fine (wordOf c (b ∷ l)) ws (λ more. words l c more)
     (word-fine c (b ∷ l) (class-some p c t) (class-small b)) h (eqb-false (length ws) wordLimit n)
     (λ more f. words-fine l c more f)))
@@ -148,10 +152,13 @@ words-fine (b ∷ l) p ws h =
 split-fine : (text : List ℕ) → FineOut (splitOf text)
 unfolding splitOf
 split-fine text =
-    chosen FineOut (eqb (length text) 0 || ltb textLimit (length text)) (λ _. tt)
+    chosen FineOut (eqb (length text) 0 || ltb textLimit (length text)) (λ _. (omega arith, omega arith))
     (λ _. words-fine text SPACE [] (record { few = omega arith; each = λ i h. absurd (omega arith) }))
 
 -- The theorems.
+pub refusal-numbered : (text : List ℕ) (n : ℕ) → splitOf text ≡ refused n → Refusal n
+refusal-numbered text n e = subst FineOut e (split-fine text)
+
 module _ (text ws : List ℕ) (e : splitOf text ≡ made ws) where
   fine : FineList ws
   fine = subst FineOut e (split-fine text)

@@ -6,7 +6,7 @@ use Prim.Native.Nat.{ℕ, _+_, _-_}
 use lib.ListN.{replicate}
 use Rattle.limits.specs.Limits.{textLimit, wordLimit}
 use Rattle.lists.specs.Text.{byte, bytes}
-use Rattle.lists.specs.Line.{lineEnd}
+use Rattle.lists.specs.Text.{lineEnd}
 use Rattle.lists.specs.Decimal.{isDigit, digitsAfter, numeral}
 use Rattle.words.specs.Word.{ROUND, ROUND-END, SQUARE, SQUARE-END, NOT, AND, OR, LE, LT, EQ, GT, GE}
 use Rattle.words.specs.Word.{BEGIN, KEPT, LEN, SUM, AGE, THEN, CHOP, EXISTS, PARAMETER, SIGNAL, LITERAL}

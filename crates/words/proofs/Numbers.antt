@@ -10,7 +10,7 @@ use lib.ListN.{length, drop, drop-of-length-le}
 use lib.Seq.{drop-cons}
 use borrow.Author.Tests.{lt-ltb, le-ltb}
 use Rattle.lists.specs.Number.{numberAt}
-use Rattle.lists.specs.Decimal.{DecimalAt}
+use Rattle.lists.specs.Place.{DecimalAt}
 use Rattle.lists.specs.Decimal.Numeral.{is, above}
 use Rattle.lists.proofs.Decimals.{is-of, above-of, missing-of, is-bounded}
 use Rattle.lists.specs.declared.Decimal.{Decimal}

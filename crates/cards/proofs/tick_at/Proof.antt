@@ -7,8 +7,9 @@ use lib.ListN.{length, getD, take, drop, length-drop}
 use lib.Seq.{getD-drop}
 use borrow.Author.Needs.{needs}
 use borrow.Author.Tests.{le-leb, lt-leb, eq-eqb, ne-eqb}
-use Rattle.lists.specs.Line.{lineEnd}
-use Rattle.cards.specs.Ticks.{tickLine, tickFirst}
+use Rattle.lists.specs.Text.{lineEnd}
+use Rattle.cards.specs.Ticks.{tickLine}
+use Rattle.cards.specs.Place.{tickFirst}
 use Rattle.cards.specs.declared.TickLine.the-variants.{Broken}
 use Rattle.cards.proofs.tick_at.Statement.{statement}
 use Rattle.cards.proofs.tick_at.Tie as tie

@@ -2,7 +2,7 @@
 use mathlib.Core.Path.{sym, ap, subst}
 use Prim.Native.Nat.{_≤_}
 use native.Mathlib.Omega.{arith}
-use Rattle.lustre.specs.Write.{lengthLimit}
+use Rattle.lustre.specs.Sizes.{lengthLimit}
 use Rattle.lustre.specs.Write.{writeReply}
 use Rattle.lustre.specs.declared.Written.{Written}
 use Rattle.firmware.specs.Face.{answer}

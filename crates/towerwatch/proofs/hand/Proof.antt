@@ -41,7 +41,8 @@ stuck c =
     taken-stuck (inv .0) (inv .1) (write .ensures) (omega arith) (c .if1 .taken)
 
 -- What the write took is within what was handed over.
-room : (c : tie.Else1 Inv-loop μ-loop) → loop-at (wrote c) .loop .from + wrote c .write .result ≤ loop-at (wrote c) .before .before .args .n
+room : (c : tie.Else1 Inv-loop μ-loop) → let loop = loop-at (wrote c) in
+    loop .loop .from + wrote c .write .result ≤ loop .before .before .args .n
 room c =
     let inv = loop-at (wrote c) .loop .inv in
     taken-room (inv .0) (inv .1) (wrote c .write .ensures)

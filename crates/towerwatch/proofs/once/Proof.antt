@@ -1,9 +1,10 @@
 -- `towerwatch::once` meets its contract: a read keeps what was left over, so the turn is one from there. Assumes
 -- nothing.
 use mathlib.Core.Path.{sym}
-use mathlib.Core.List.{[]}
+use mathlib.Core.List.{List, []}
 use native.Mathlib.Omega.{arith}
 use borrow.Author.Needs.{needs}
+use Prim.Native.Nat.{ℕ}
 use lib.ListN.{take, drop}
 use Rattle.feeder.specs.Feed.{Ready}
 use Rattle.towerwatch.proofs.Progress.{ready-read, ready-none, came-none}
@@ -49,6 +50,10 @@ taken c = state-back c .before .before .before .before .before
 ready : (c : tie.After-read) → Ready (c .read .last .0) (entry c .args .to) (entry c .args .out .now)
 ready c = ready-read (entry c .pre) (c .read .ensures .0 .0) (c .read .kept .0)
 
+-- The buffer after the bytes that were left over.
+abbrev rest : tie.After-read → List ℕ
+rest c = drop (entry c .args .to) (c .read .last .0)
+
 end-requires : tie.Need-end-requires
 end-requires c κs = (ready (ended c), over c .if1 .taken)
 
@@ -66,7 +71,7 @@ input-over c =
       ready-none (entry filled .pre) (end .ensures .0) (filled .read .kept .0) (end .kept .1 .1 .1 .1 .0),
       record {
         piece = [];
-        came = came-none _ (drop (entry filled .args .to) (filled .read .last .0)) (filled .read .ensures .1) (over lent .if1 .taken);
+        came = came-none _ (rest filled) (filled .read .ensures .1) (over lent .if1 .taken);
         takes = rw (sym (filled .read .ensures .0 .0)) (end .ensures .1 _ _ _ _ _ _);
       },
     )
@@ -78,7 +83,7 @@ piece-came c =
     let filled = read (taken c .before) in (
       piece .ensures .0,
       record {
-        piece = take (filled .read .result) (drop (entry filled .args .to) (filled .read .last .0));
+        piece = take (filled .read .result) (rest filled);
         came = filled .read .ensures .1;
         takes = rw (sym (filled .read .ensures .0 .0)) (piece .ensures .1);
       },
