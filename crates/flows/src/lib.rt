@@ -1,6 +1,7 @@
 // The flows of an equation table: a fresh state, and the step that runs a table for one tick, refusals 10 to 14. What
 // they mean is in specs/.
 use tables::Checked;
+use tables::Sort;
 use traces::Tick;
 ghost use mathlib.Core.Path.{_≡_};
 ghost use mathlib.Core.Bool.{_&&_, _||_, cond};
@@ -12,7 +13,7 @@ ghost use Rattle.traces.specs.Trace.{truth, nonzero, parameterAt, bit};
 ghost use Rattle.traces.specs.Compare.{opOf, compares};
 ghost use Rattle.lists.specs.Number.{numberAt};
 ghost use Rattle.tables.specs.Table.{all, kindOf, sortOf, equationAt, kindAt};
-ghost use Rattle.flows.specs.Flow.{increased, valueOf, flows, initial, freshState, nextState};
+ghost use Rattle.flows.specs.Flow.{increased, valueOf, flows, initial, inRange, freshState, nextState};
 ghost use Rattle.flows.specs.Step.{parameterFits, cellFits, cellsFit, freshChecked, stepChecked};
 ghost use Rattle.flows.specs.Step.{afterFresh, freshened, afterStep, afterTick, stepped};
 
@@ -211,13 +212,23 @@ fn parameters_fit(cap: u32, tick: Tick) -> bool
     true
 }
 
+// Whether x is in the range of that sort.
+fn in_range(cap: u32, sort: Sort, x: u32) -> bool
+    ensures { λ r. ⌜ r ≡ inRange cap sort x ⌝ }
+{
+    match sort {
+        Sort::Boolean => x < limits::TRUTHS,
+        Sort::Count => x <= cap,
+    }
+}
+
 // Whether x, if it is the cell of a memory, is in its sort's range.
 fn cell_fits(cap: u32, k: u32, x: u32) -> bool
     ensures { λ r. ⌜ r ≡ cellFits cap (kindOf k) x ⌝ }
 {
     match k {
-        tables::BOOLEAN_PRE => x < limits::TRUTHS,
-        tables::COUNT_PRE => x <= cap,
+        tables::BOOLEAN_PRE => in_range(cap, tables::sort_of(tables::BOOLEAN_PRE), x),
+        tables::COUNT_PRE => in_range(cap, tables::sort_of(tables::COUNT_PRE), x),
         _ => true,
     }
 }

@@ -203,7 +203,7 @@ fn gives(k: u32) -> Sort
 
 // The same for every number: one that is no kind's has a boolean flow. In each arm the row is known as the program is
 // compiled.
-fn sort_of(k: u32) -> Sort
+pub fn sort_of(k: u32) -> Sort
     ensures { λ r. ⌜ r ≡ sortOf (kindOf k) ⌝ }
 {
     match k {
