@@ -66,7 +66,8 @@ module _ (cap : ℕ) (low : cap ≤ literalCount) (m : ℕ) (few : m ≤ signalC
           → AsMeant f (traceOfTicks ps ks) k s
       unfolding afterTick flowAt
       tick-means k s r =
-          let here : s .call .tick .parameters ≡ ps = ap (λ (x : Tick). x .parameters) (sym (r .now)) ∙ same-at same k in
+          let here : s .call .tick .parameters ≡ ps =
+          ap (λ (x : Tick). x .parameters) (sym (r .now)) ∙ same-at same k in
           let small = admitted-small cap n (s .call .values) (s .call .tick) (r .admitted) in
           ap (λ (z : AfterStep). z .answer) (r .left)
           ∙ ap Verdict (verdicts ks same (subst (Small cap) here small) k)

@@ -162,7 +162,8 @@ pub extern "C" fn towerwatch_compile(text: &[u8], table: &mut [u32]) -> Answer
 // Same rule, two texts: 1 for yes, 0 for no.
 #[no_mangle]
 pub extern "C" fn towerwatch_same_rule(first: &[u8], second: &[u8]) -> Answer
-    ensures { λ r. ⌜ Given sameReply (λ x. x ≡ sameOf (ruleOf (now (first .entry))) (ruleOf (now (second .entry)))) r ⌝ }
+    ensures { λ r. ⌜ Given sameReply
+        (λ x. x ≡ sameOf (ruleOf (now (first .entry))) (ruleOf (now (second .entry)))) r ⌝ }
     ensures { λ r. ⌜ Given sameReply (SameAnswer (now (first .entry)) (now (second .entry))) r ⌝ }
 {
     same_answer(rules::same_rule(first, second))

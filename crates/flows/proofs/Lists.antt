@@ -129,8 +129,8 @@ module _ (cap : ℕ) (t : List ℕ) (n : ℕ) (passed : checked t n ≡ Passed) 
           let state = stateAt cap t n old trace k in
           let after = afterTick cap t n state (x .values) in
           let both : (trace k ≡ x .tick) × Follows trace (suc k) (ticks (steps cap t n (after (x .tick) .state) xs)) =
-          subst (λ (z : AfterStep). Follows trace k (tickIf (z .answer) (x .tick) (ticks (steps cap t n (z .state) xs))))
-          e f in
+          subst (λ (z : AfterStep). Follows trace k (tickIf (z .answer) (x .tick)
+          (ticks (steps cap t n (z .state) xs)))) e f in
           let next : after (trace k) ≡ after (x .tick) = ap after (both .0) in
           let here : Ran trace k (record { call = x; left = y }) =
           record { admitted = a; now = both .0; left = e ∙ sym next } in
@@ -140,7 +140,8 @@ module _ (cap : ℕ) (t : List ℕ) (n : ℕ) (passed : checked t n ≡ Passed) 
           (sym next) (both .1))))
       one-call k x xs (Failed r) a y e f rest =
           let state = stateAt cap t n old trace k in
-          let same : ticks (steps cap t n state xs) ≡ tickIf (y .answer) (x .tick) (ticks (steps cap t n (y .state) xs)) =
+          let same : ticks (steps cap t n state xs)
+          ≡ tickIf (y .answer) (x .tick) (ticks (steps cap t n (y .state) xs)) =
           sym (ap (λ (z : AfterStep). tickIf (z .answer) (x .tick) (ticks (steps cap t n (z .state) xs))) e) in
           skipped (ap (λ (z : AfterStep). z .answer) e)
           (subst (λ (z : AfterStep). EachTick (Ran trace) k (steps cap t n (z .state) xs)) (sym e)

@@ -64,8 +64,8 @@ trials =
     ∷ []
 
 -- Further rows on the same signals, their verdicts worked out by hand from document 01, "Interval meaning": `!`, `&`,
--- `|` and `0` in P; `!`, `&` and `|` of formulas, `&` before `|`; a second start, and none at tick 0; an age that breaks off, and one
--- that a start cuts; a lead that falls late; a `then` in a `then`.
+-- `|` and `0` in P; `!`, `&` and `|` of formulas; `&` that binds closer than `|`; a second start, and none at tick 0;
+-- an age that breaks off, and one that a start cuts; a lead that falls late; a `then` in a `then`.
 abbrev pub furtherTrials : List Trial
 furtherTrials =
     trial "end[!s0]" (test end (negP s0)) 1 first (five 0 0 1 0 0)

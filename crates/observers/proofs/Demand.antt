@@ -122,7 +122,8 @@ module _ (text before : List ℕ) where
           observed {n = length es} {after = sets before 0 (numbersOf es)} {t = t} {f = f} (has-rule e) is room
           (length-sets before 0 (numbersOf es))
           (ap (drop size) front ∙ drop-at (numbersOf es) others size (length-numbers es))
-          (λ rest. subst (λ (l : List ℕ). Observes standardCap (l ++ rest) (length es) f (nodes t)) (sym taken) (h rest))
+          (λ rest. subst (λ (l : List ℕ). Observes standardCap (l ++ rest) (length es) f (nodes t)) (sym taken)
+          (h rest))
 
 -- What the pass over the tree's records left is what compiling is to leave.
 pub emitted-rule : (text before : List ℕ) (t : Tree) → ruleOf text ≡ rule t → tableRoom ≤ length before

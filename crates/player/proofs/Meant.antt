@@ -136,7 +136,8 @@ module _ (ps t : List ℕ) (n : ℕ) where
     unfolding steps callsOf verdictsFrom
     first-answer = heads e
 
-    other-answers : answered (steps standardCap t n (one .state) (callsOf standardCap t n (one .state) (one .values) ks))
+    other-answers : answered
+        (steps standardCap t n (one .state) (callsOf standardCap t n (one .state) (one .values) ks))
         ≡ verdictsFrom vd (suc i) ks
     unfolding steps callsOf verdictsFrom
     other-answers = tails e

@@ -110,7 +110,8 @@ module _ (old table c v : List ℕ) (room : tableRoom ≤ length table) (room-c 
       ≡ owed (ruled table c v o (stageAt P.Count 0) ps) ls tail
   after-third second ps text {t} o ls e r =
       after-second second ps ((ruleHead ++ text) ∷ ls) e
-      ∙ silent-owed _ (ruleHead ++ text) ls tail (rule-lined table c v o ps (rule-short text t (computed text r)) room-c)
+      ∙ silent-owed _ (ruleHead ++ text) ls tail
+      (rule-lined table c v o ps (rule-short text t (computed text r)) room-c)
 
   -- Each case of what is shown.
   lines-printed : {ls : List (List ℕ)} {out : List ℕ} → LinesShow tail ls out

@@ -69,8 +69,8 @@ compiled-rule (observed {n} e is l same kept o) h room = (n, refl)
 one-formula : {x y : Option Formula} {f g : Formula} → x ≡ some f → y ≡ some g → x ≡ y → f ≡ g
 one-formula p q e = cc
 
-observed-rule : {text before after : List ℕ} {r : Compiled} {n : ℕ} {t : Tree} {f : Formula} → Compiles text before r after
-    → r ≡ Equations n → HasOutcome text (rule t) → formulaOf t ≡ some f
+observed-rule : {text before after : List ℕ} {r : Compiled} {n : ℕ} {t : Tree} {f : Formula}
+    → Compiles text before r after → r ≡ Equations n → HasOutcome text (rule t) → formulaOf t ≡ some f
     → (rest : List ℕ) → Observes standardCap (take (4 * n) after ++ rest) n f (nodes t)
 observed-rule (not-read e) q h is rest = absurd (not-refused h e)
 observed-rule (no-room e l) q h is rest = absurd (refused-equations q)

@@ -1,8 +1,8 @@
 -- What towerwatch promises, from the top. Each operation's contract says that what it was given, what it answers and
 -- what it leaves stand in one of the relations named below; the records say what is proved of these relations. What is
--- named here and the files that this one builds on have no parser of the grammar in them (words and the lines of cards are
--- read by short definitions on their bytes), no choice of equations, and nothing that only inner functions of the code
--- compute. Definitions only; proofs/Kept.antt proves all of it.
+-- named here and the files that this one builds on have no parser of the grammar in them (words and the lines of cards
+-- are read by short definitions on their bytes), no choice of equations, and nothing that only inner functions of the
+-- code compute. Definitions only; proofs/Kept.antt proves all of it.
 --
 --   read_rule      Told           rules/specs/Contract.antt         a text and the answer
 --   same_rule      SameAnswer     rules/specs/Same.antt             two texts and the answer
@@ -71,8 +71,8 @@ pub record Meaning (trace : Trace) : Type 1 where
 abbrev pub Running : Type 0
 Running = (t : List ℕ) (n : ℕ) → checked t n ≡ Passed → RunsAsLustre standardCap t n
 
--- Demand 3. A text with a refusal gets that, a rule with too short a table 9, and both leave the table as it was. A rule
--- is compiled where there is room, and then the n equations at the front of the table, whatever stands after them,
+-- Demand 3. A text with a refusal gets that, a rule with too short a table 9, and both leave the table as it was. A
+-- rule is compiled where there is room, and then the n equations at the front of the table, whatever stands after them,
 -- observe its formula.
 pub record Compiling : Type 0 where
   pub refuses : {text before after : List ℕ} {r : Compiled} {k : ℕ} → Compiles text before r after

@@ -1,4 +1,5 @@
--- The trial runs P1 to P13 and the further rows: of every row the text is read as its formula's tree, by computation. Assumes nothing.
+-- The trial runs P1 to P13 and the further rows: of every row the text is read as its formula's tree, by computation.
+-- Assumes nothing.
 use mathlib.Core.Path.{_≡_, refl}
 use mathlib.Core.List.{List, map}
 use Prim.Native.Nat.{ℕ, _<_}

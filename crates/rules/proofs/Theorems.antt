@@ -1,5 +1,6 @@
--- Reading a rule as document 01 states it (specs/Reading.antt: `HasOutcome`) and as it is computed (specs/Computed.antt:
--- `ruleOf`) are the same: every text has an outcome, it has one, and it is a rule exactly if limits, grammar and fragment have it.
+-- Reading a rule as document 01 states it (`HasOutcome`, specs/Reading.antt) and as it is computed (`ruleOf`,
+-- specs/Computed.antt) are the same: every text has an outcome, it has one, and it is a rule exactly if limits, grammar
+-- and fragment have it.
 -- Assumes nothing.
 use mathlib.Core.Bool.{Bool, true, false, cond}
 use mathlib.Core.Path.{_≡_, refl, sym, ap, _∙_, subst}

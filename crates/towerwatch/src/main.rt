@@ -2,7 +2,8 @@
 // memory (document 01, "towerwatch"). All but the reads and the writes is in `feeder`, where it is proved that what is
 // printed does not depend on the pieces that a card comes in. Here `once` promises that what it hands to the writes is
 // what its piece prints, and `run` that all of it together is what a card prints, and that it stops before its end only
-// after a write that failed (specs/Run.antt, and specs/Program.antt by what the card shows). The two system calls are in `streams`.
+// after a write that failed (specs/Run.antt, and by what the card shows specs/Program.antt). The two system calls are
+// in `streams`.
 use player::Watch;
 ghost use mathlib.Core.Bool.{cond};
 ghost use mathlib.Core.List.{List, []};
@@ -186,17 +187,17 @@ fn once(
     )
 }
 
-// Reads until the input ends, the card is over or a write fails.
+// Reads until the input ends, the card is over or a write fails. `ps` are the parameters.
 fn run(
     buf: &mut [u8],
-    parameters: &mut [u32; limits::PARAMETERS],
+    ps: &mut [u32; limits::PARAMETERS],
     table: &mut [u32],
     state: &mut [u32],
     values: &mut [u32],
     out: &mut [u8],
 ) -> Total
     requires { ⌜ Ready (now buf) 0 (now out) × (length (now out) ≡ outputRoom) ⌝ }
-    requires { ⌜ brought (startWorld .watch) parameters table state values ≡ startWorld ⌝ }
+    requires { ⌜ brought (startWorld .watch) ps table state values ≡ startWorld ⌝ }
     ensures { λ r. ⌜ Whole r ⌝ }
     ensures { λ r. ⌜ Program r ⌝ }
 {
@@ -205,18 +206,7 @@ fn run(
     let mut got = 0u64;
     let mut shown = 0u64;
     loop {
-        let n = once(
-            watch,
-            buf,
-            to,
-            parameters,
-            table,
-            state,
-            values,
-            out,
-            got,
-            shown,
-        );
+        let n = once(watch, buf, to, ps, table, state, values, out, got, shown);
         got += n.got as u64;
         shown += n.shown as u64;
         let stand = n.stand;

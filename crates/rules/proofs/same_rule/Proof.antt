@@ -89,7 +89,8 @@ one-tree c =
     let trees = second (c .before) in
     let both = first (second-call trees) in
     let args = start (first-call both) .args in
-    let e = compared (first-tree both) (second-tree trees) true (sym (c .before .same-numbers .ensures) ∙ c .if1 .taken) in
+    let told = sym (c .before .same-numbers .ensures) ∙ c .if1 .taken in
+    let e = compared (first-tree both) (second-tree trees) true told in
     (e, same-answer (args .first .now) (args .second .now) _ e)
 
 two-trees : tie.Need-returns-4
@@ -97,7 +98,8 @@ two-trees c =
     let trees = second (c .before) in
     let both = first (second-call trees) in
     let args = start (first-call both) .args in
-    let e = compared (first-tree both) (second-tree trees) false (sym (c .before .same-numbers .ensures) ∙ c .if1 .left) in
+    let told = sym (c .before .same-numbers .ensures) ∙ c .if1 .left in
+    let e = compared (first-tree both) (second-tree trees) false told in
     (e, same-answer (args .first .now) (args .second .now) _ e)
 
 pub same-rule-spec : {M : Type 1} → statement M

@@ -89,7 +89,7 @@ room c = lengths c .1 ∙ entry (loop-at (c .before)) .pre .0 .1
 
 reached : (c : tie.After-once Inv-loop μ-loop) →
     let loop = loop-at (c .before) .loop in
-    Reached (worldOf (loop .watch) (loop .parameters) (loop .table) (loop .state) (loop .values))
+    Reached (worldOf (loop .watch) (loop .ps) (loop .table) (loop .state) (loop .values))
     (take (loop .to) (loop .buf)) (loop .got) (loop .shown)
 reached c = loop-at (c .before) .loop .inv .1
 
