@@ -5,19 +5,19 @@
 use libc::STDIN_FILENO;
 use libc::STDOUT_FILENO;
 ghost use mathlib.Core.Path.{_≡_};
-ghost use Prim.Native.Nat.{_+_, _-_, _≤_};
+ghost use Prim.Native.Nat.{_+_, _-_, _≤_, _<_};
 ghost use lib.ListN.{length, take, drop};
 ghost use Rattle.streams.specs.Calls.{Came, Wrote};
 
-// What `came` and `wrote` (specs/Calls.antt) ask for. It is private, so that no other crate can name it.
+// What `read-made` and `write-made` (specs/Calls.antt) ask for. It is private, so that no other crate can name it.
 enum Call {
     Made,
 }
 
-// Reads on after the first `to` bytes of buf, which stay. Answers how many bytes came, 0 at the end of the input and
-// where a read fails.
+// Reads on after the first `to` bytes of buf, which stay. There is room for a byte at least, so 0 is answered at the end
+// of the input and where a read fails, and nowhere else.
 pub fn read(buf: &mut [u8], to: usize, at: u64) -> usize
-    requires { ⌜ to ≤ length (now buf) ⌝ }
+    requires { ⌜ to < length (now buf) ⌝ }
     ensures { λ r. ⌜ (take to (now (buf .exit)) ≡ take to (now (buf .entry)))
         × (to + r ≤ length (now (buf .entry))) ⌝ }
     ensures { λ r. ⌜ Came at (take r (drop to (now (buf .exit)))) ⌝ }

@@ -43,6 +43,10 @@ ready-read r e h =
       room = omega (arith, h, r .room);
     }
 
+-- There is room to read on.
+pub ready-room : {buf out : List ℕ} {to : ℕ} → Ready buf to out → to < length buf
+ready-room {buf} {to = to} r = omega (arith, length-take-le to buf (r .within), r .short .below, r .size)
+
 -- So they do where nothing is left over.
 pub ready-none : {buf buf' out out' : List ℕ} {to n : ℕ} → Ready buf to out → n ≡ 0 → length buf' ≡ length buf
     → length out' ≡ length out → Ready buf' n out'

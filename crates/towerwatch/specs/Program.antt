@@ -21,7 +21,7 @@ Showing over S.Ended i o = over × Shows i o
 Showing over S.Over i o = (more : List ℕ) → Shows (i ++ more) o
 Showing over S.Stuck i o = (over × Shows i o) ⊎ ((more : List ℕ) → (rest : List ℕ) × Shows (i ++ more) (o ++ rest))
 
--- A whole run. It is stuck if a write took nothing, and only then (`Turned`).
+-- A whole run. It is stuck exactly if one of the writes that its turns name took nothing (`Turned`).
 pub record Program (r : Total) : Type 0 where
   pub input : List ℕ
   pub output : List ℕ

@@ -1,5 +1,6 @@
--- The program's turns, each of a read and of the writes of what it prints. Definitions only. That a read brought some
--- bytes and that a write took some can only be had from the calls (`Came` and `Wrote` of the crate streams).
+-- The program's turns, each of a read and of writes. Definitions only. That a read brought some bytes and that a write
+-- took some can only be had from the calls (`Came` and `Wrote` of the crate streams); that a turn's writes are what its
+-- read prints is `Takes` (Run.antt).
 use mathlib.Core.List.{List, [], _++_}
 use mathlib.Core.Bool.{Bool, true, false}
 use Prim.Native.Nat.{ℕ, _+_, _<_}

@@ -24,7 +24,7 @@ returns c =
     let buf = start .args .buf .now in
     let to = start .args .to in (
       (
-        take-put to (length buf - to) buf (read .last .1 .0) (start .pre),
+        take-put to (length buf - to) buf (read .last .1 .0) (omega (arith, start .pre)),
         omega (arith, c .count .ensures .0 .0, read .kept .1 .0),
       ),
       record { call = read-made C.Made _ _ },

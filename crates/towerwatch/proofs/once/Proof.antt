@@ -7,7 +7,7 @@ use borrow.Author.Needs.{needs}
 use Prim.Native.Nat.{ℕ}
 use lib.ListN.{take, drop}
 use Rattle.feeder.specs.Feed.{Ready}
-use Rattle.towerwatch.proofs.Progress.{ready-read, ready-none, came-none}
+use Rattle.towerwatch.proofs.Progress.{ready-read, ready-none, ready-room, came-none}
 use Rattle.towerwatch.proofs.once.Statement.{statement}
 use Rattle.towerwatch.proofs.once.Tie as tie
 
@@ -17,8 +17,11 @@ use Rattle.towerwatch.proofs.once.Tie as tie
 abbrev known : tie.After-read → tie.After-slice-known5
 known c = c .before .before
 
+abbrev start : tie.After-slice-known5 → tie.Start
+start c = c .before .before .before .before .before
+
 abbrev entry : tie.After-read → tie.Start
-entry c = known c .before .before .before .before .before
+entry c = start (known c)
 
 -- From where the output is lent to `end`: where no byte came, and the read.
 abbrev over : tie.After-end-arg2 → tie.Then1
@@ -53,6 +56,9 @@ ready c = ready-read (entry c .pre) (c .read .ensures .0 .0) (c .read .kept .0)
 -- The buffer after the bytes that were left over.
 abbrev rest : tie.After-read → List ℕ
 rest c = drop (entry c .args .to) (c .read .last .0)
+
+read-requires : tie.Need-read-requires
+read-requires c κs = ready-room (start (c .before) .pre)
 
 end-requires : tie.Need-end-requires
 end-requires c κs = (ready (ended c), over c .if1 .taken)
@@ -93,7 +99,7 @@ pub once-spec : {M : Type 1} → statement M
 once-spec =
     tie.close
     (tie.spec
-    (λ c κs. search needs)
+    read-requires
     end-requires
     (λ c. search needs)
     (λ c. search needs)
