@@ -14,8 +14,8 @@ enum Call {
     Made,
 }
 
-// Reads on after the first `to` bytes of buf, which stay. There is room for a byte at least, so 0 is answered at the end
-// of the input and where a read fails, and nowhere else.
+// Reads on after the first `to` bytes of buf, which stay. There is room for a byte at least, so 0 is answered at the
+// end of the input and where a read fails, and nowhere else.
 pub fn read(buf: &mut [u8], to: usize, at: u64) -> usize
     requires { ⌜ to < length (now buf) ⌝ }
     ensures { λ r. ⌜ (take to (now (buf .exit)) ≡ take to (now (buf .entry)))

@@ -53,8 +53,7 @@ Stands over S.Over w s o w' s' = Ends over S.Over w s o
 Stands over S.Stuck w s o w' s' = Ends over S.Stuck w s o
 
 -- One turn from w, with the bytes s left over: the piece c comes in, or nothing at the end of the input, and the front
--- of out is handed over, after `at` bytes of the output. The program is stuck exactly if one of these
--- writes took none.
+-- of out is handed over, after `at` bytes of the output. The program is stuck exactly if one of these writes took none.
 pub record Takes (at : ℕ) (c : List ℕ) (w : World) (s : List ℕ) (r : Next) (w' : World) (s' out : List ℕ) : Type 0 where
   pub got : length c ≡ r .got
   pub more : isReading (r .stand) ≡ true → 0 < r .got
