@@ -1,5 +1,5 @@
--- The examples of document 01's table of kinds, column "text after `fN=`", and a whole text: the definitions write what
--- document 01 has. Assumes nothing.
+-- The texts that SPEC 5.3 has for the kinds, and a whole text (SPEC 9.1): the definitions write them so. Assumes
+-- nothing.
 use mathlib.Core.List.{List, [], _∷_}
 use mathlib.Core.Path.{_≡_, refl}
 use Prim.Native.Nat.{ℕ}
@@ -12,7 +12,7 @@ use Rattle.lustre.specs.Text.{valueText, lineRest, lineText, lines, foot
 abbrev endOf : ℕ → ℕ → ℕ → ℕ → List ℕ
 endOf k a b c = valueText (kindOf k) (record { kind = k; a = a; b = b; c = c })
 
--- Each row of the table.
+-- Each row of the table of SPEC 5.3.
 record Column : Type 0 where
   kind0 : endOf 0 5 0 0 ≡ bytes "s5"
   kind1 : endOf 1 0 0 0 ≡ bytes "b"
@@ -45,7 +45,7 @@ column =
       kind11 = refl;
     }
 
--- "the line `let`, a line per equation as `f0=b;`, then `a=fN;` with the last N, then `tel`"
+-- SPEC 9.1: a text of two equations.
 whole : textOf (1 ∷ 0 ∷ 0 ∷ 0 ∷ 3 ∷ 0 ∷ 0 ∷ 0 ∷ []) 2 ≡ bytes "let\nf0=b;\nf1=not f0;\na=f1;\ntel\n"
 unfolding textOf lines lineText lineRest foot valueText kindOf digits numberText
 whole = refl

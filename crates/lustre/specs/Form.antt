@@ -1,4 +1,5 @@
--- Forms: the texts that can follow `fN=` in a line, with the letters A, B and C where numbers stand. Definitions only.
+-- Forms: the texts that can follow `fN=` in a line (SPEC 5.3), with the letters A, B and C where numbers stand.
+-- Definitions only.
 -- The one line writer and the one line parser both walk them; that they give the text of specs/Text.antt is proved.
 use mathlib.Core.Bool.{Bool, true, false, not, _&&_, cond}
 use mathlib.Core.List.{List, [], _∷_, _++_}
@@ -174,7 +175,7 @@ pub record Plain (e : Equation) : Type 0 where
   pub known : formOf e < formCount
   pub fits : Fits (formAt (formOf e)) e
 
--- A table of 1 to 4,096 equations that have forms.
+-- A table of as many equations as SPEC 5.6 admits, all of which have forms.
 pub record PlainTable (t : List ℕ) (n : ℕ) : Type 0 where
   pub some : 0 < n
   pub few : n ≤ equationLimit

@@ -1,4 +1,4 @@
--- Numbers as texts: decimal numerals. Definitions only.
+-- Numbers as texts: decimal numerals (SPEC 9.4). Definitions only.
 use mathlib.Core.Bool.{cond}
 use mathlib.Core.List.{List, [], _∷_, _++_}
 use Prim.Native.Nat.{ℕ, zero, suc, _/_, _%_}
@@ -10,6 +10,6 @@ unfoldable pub digits : ℕ → ℕ → List ℕ
 digits zero x = digit x ∷ []
 digits (suc k) x = let more = digits k (x / 10) ++ (digit (x % 10) ∷ []) in cond (ltb x 10) (digit x ∷ []) more
 
--- "Numerals are decimal"; "Numbers have no needless 0."
+-- SPEC 9.4: the digits of a number, the first of them 0 for 0 alone (SPEC 2.8).
 unfoldable pub numberText : ℕ → List ℕ
 numberText x = digits x x

@@ -1,5 +1,5 @@
--- Reading Lustre text: which texts are read, what a call answers and the table that it leaves. Definitions only.
--- The sentences quoted are document 01's, from "Each operation and its refusals".
+-- Reading Lustre text (SPEC 8.7): which texts are read, what a call answers and the table that it leaves. Definitions
+-- only.
 use mathlib.Core.List.{List, _++_}
 use mathlib.Core.Path.{_≡_}
 use Prim.Native.Nat.{ℕ, _*_, _≤_, _<_}
@@ -12,7 +12,7 @@ use Rattle.lustre.specs.Text.{textOf}
 use Rattle.lustre.specs.declared.Loaded.{Loaded}
 use Rattle.lustre.specs.declared.Loaded.the-variants.{Equations, Refused}
 
--- "compiling and reading Lustre text give n"
+-- The numbers that stand for the answer's cases (SPEC 12.5): the result of SPEC 8.7 is n.
 abbrev pub loadReply : Loaded → Reply
 loadReply (Equations n) = gives n
 loadReply (Refused r) = refused r
@@ -24,10 +24,10 @@ pub record Writes (t : List ℕ) (n : ℕ) (text : List ℕ) : Type 0 where
 
 -- What reading answers, and the table that it leaves, by the lent text and the table as it was lent.
 pub data AfterRead (text table : List ℕ) : Loaded → List ℕ → Type 0 where
-  -- "16: no well-formed table writes exactly these bytes." A refusal "changes no lent memory".
+  -- SPEC 7.16: these bytes are the text of no table. A refusal keeps the table (SPEC 1.4).
   unread : ((t : List ℕ) (n : ℕ) → Writes t n text → ⊥) → AfterRead text table (Refused 16) table
-  -- "9: as in compile", where it says: "9: the lent table has under 16,384 numbers."
+  -- SPEC 7.9: the lent table has no room for the largest result.
   no-room : {t : List ℕ} {n : ℕ} → Writes t n text → length table < tableRoom → AfterRead text table (Refused 9) table
-  -- The first 4 n numbers are those of such a table. "Lent memory past a result is kept."
+  -- The first 4 n numbers are those of such a table. What stands behind them is kept (SPEC 1.5).
   read : {t : List ℕ} {n : ℕ} → Writes t n text → tableRoom ≤ length table
       → AfterRead text table (Equations n) (take (4 * n) t ++ drop (4 * n) table)

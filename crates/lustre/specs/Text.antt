@@ -1,4 +1,4 @@
--- The Lustre text of a table. Definitions only. The sentences quoted are document 01's, from "Equations".
+-- The Lustre text of a table, chapter 9 of the specification. Definitions only.
 use mathlib.Core.Bool.{Bool, true, false}
 use mathlib.Core.List.{List, [], _++_}
 use Prim.Native.Nat.{ℕ, zero, suc, _-_}
@@ -11,16 +11,16 @@ use Rattle.tables.specs.Table.Kind.{signal, start, constant, negation, conjunct
 use Rattle.tables.specs.Table.Kind.{countPre, capped, ifElse, compareLiteral, compareParameter, unknown}
 use Rattle.lustre.specs.Numerals.{numberText}
 
--- The name of the flow of equation x.
+-- The name of the flow of equation x (SPEC 9.2).
 abbrev pub flow : ℕ → List ℕ
 flow x = bytes "f" ++ numberText x
 
--- "In kinds 2 and 6 a 0 is written `false` and a 1 `true`."
+-- SPEC 9.3: the constants of kinds 2 and 6.
 abbrev pub truthText : Bool → List ℕ
 truthText false = bytes "false"
 truthText true = bytes "true"
 
--- "op is 0 `<=`, 1 `<`, 2 `=`, 3 `>`, 4 `>=`."
+-- SPEC 9.4: a comparison, spelled by SPEC 1.3.
 abbrev pub opText : Op → List ℕ
 opText le = bytes "<="
 opText lt = bytes "<"
@@ -28,7 +28,8 @@ opText eq = bytes "="
 opText gt = bytes ">"
 opText ge = bytes ">="
 
--- The table of kinds, column "text after `fN=`". No number is that of an unknown kind in a well-formed table.
+-- The texts of SPEC 5.3, by kind, which stand after `fN=` (SPEC 9.2). No number is that of an unknown kind in a
+-- well-formed table.
 unfoldable pub valueText : Kind → Equation → List ℕ
 valueText signal e = bytes "s" ++ numberText (e .a)
 valueText start e = bytes "b"
@@ -44,11 +45,11 @@ valueText compareLiteral e = flow (e .a) ++ opText (opOf (e .b)) ++ numberText (
 valueText compareParameter e = flow (e .a) ++ opText (opOf (e .b)) ++ bytes "k" ++ numberText (e .c)
 valueText unknown e = []
 
--- What follows `fN=` in the line of an equation; "each line ends in byte 10".
+-- What follows `fN=` in the line of an equation, up to its end: `;` and, as in every line, byte 10 (SPEC 9.1).
 unfoldable pub lineRest : Equation → List ℕ
 lineRest e = valueText (kindOf (e .kind)) e ++ bytes ";\n"
 
--- "a line per equation as `f0=b;`"
+-- SPEC 9.2: the line of equation i.
 unfoldable pub lineText : ℕ → Equation → List ℕ
 lineText i e = flow i ++ bytes "=" ++ lineRest e
 
@@ -57,10 +58,10 @@ unfoldable pub lines : List ℕ → ℕ → List ℕ
 lines t zero = []
 lines t (suc i) = lines t i ++ lineText i (equationAt t i)
 
--- "then `a=fN;` with the last N, then `tel`"
+-- SPEC 9.1: the two last lines, `a=` with the name of the last flow, and `tel`.
 unfoldable pub foot : ℕ → List ℕ
 foot n = bytes "a=" ++ flow (n - 1) ++ bytes ";\ntel\n"
 
--- "Its text is the line `let`, a line per equation as `f0=b;`, then `a=fN;` with the last N, then `tel`"
+-- SPEC 9.1: `let`, the equations' lines, and the two last ones.
 unfoldable pub textOf : List ℕ → ℕ → List ℕ
 textOf t n = bytes "let\n" ++ lines t n ++ foot n

@@ -1,5 +1,4 @@
--- Writing a table as Lustre text: the whole effect of a call as one record. Definitions only.
--- The sentences quoted are document 01's, from "Each operation and its refusals".
+-- Writing a table as Lustre text (SPEC 8.6): the whole effect of a call as one record. Definitions only.
 use mathlib.Core.List.{List, [], _∷_, _++_}
 use Prim.Native.Nat.{ℕ}
 use lib.Dec.{leb}
@@ -12,12 +11,12 @@ use Rattle.lustre.specs.Text.{textOf}
 use Rattle.lustre.specs.declared.Written.{Written}
 use Rattle.lustre.specs.declared.Written.the-variants.{Length, Refused}
 
--- "writing gives the length in bytes"
+-- The numbers that stand for the answer's cases (SPEC 12.5): the result of SPEC 8.6 is the length.
 abbrev pub writeReply : Written → Reply
 writeReply (Length l) = gives l
 writeReply (Refused r) = refused r
 
--- "Write as Lustre text. 10, 11; 15: the buffer is shorter than that text."
+-- The refusals of SPEC 8.6 in order: those of the table, then 15, where the buffer is too short (SPEC 7.15).
 abbrev pub writeTests : List ℕ → ℕ → List ℕ → List Test
 writeTests t n buffer = tableTests t n ++ (test 15 (leb (length (textOf t n)) (length buffer)) ∷ [])
 
@@ -33,11 +32,11 @@ pub record AfterWrite : Type 0 where
 abbrev pub afterWrite : Written → List ℕ → AfterWrite
 afterWrite r buffer = record { answer = r; buffer = buffer }
 
--- The text at the front of the buffer. "Lent memory past a result is kept."
+-- The text at the front of the buffer. What stands behind it is kept (SPEC 1.5).
 unfoldable pub afterText : List ℕ → List ℕ → AfterWrite
 afterText text buffer = afterWrite (Length (length text)) (text ++ drop (length text) buffer)
 
--- A refusal "changes no lent memory".
+-- SPEC 1.4: a refusal keeps the buffer.
 abbrev pub effectIf : Checked → List ℕ → ℕ → List ℕ → AfterWrite
 effectIf Passed t n buffer = afterText (textOf t n) buffer
 effectIf (Failed r) t n buffer = afterWrite (Refused r) buffer

@@ -1,7 +1,7 @@
-// Equation tables as Lustre text (document 01, "Equations", "Write as Lustre text", "Read Lustre text"): what a
-// table's text is, what writing and reading do, and that each undoes the other. specs/Text.antt, Write.antt and
-// Read.antt are what the two operations promise; they stand in the crates `lustre_write` and `lustre_read`. The forms
-// of a line, which the one writer and the one reader both walk, are here.
+// Equation tables as Lustre text: what a table's text is (SPEC 9.1 to SPEC 9.4), what writing (SPEC 8.6) and reading
+// (SPEC 8.7) do, and that each undoes the other (SPEC 12.2). specs/Text.antt, Write.antt and Read.antt are what the two
+// operations promise; they stand in the crates `lustre_write` and `lustre_read`. The forms of a line, which the one
+// writer and the one reader both walk, are here.
 ghost use mathlib.Core.Path.{_≡_};
 ghost use Prim.Native.Nat.{_<_};
 ghost use Rattle.limits.specs.Limits.{equationLimit};
@@ -19,7 +19,7 @@ pub enum Loaded {
     Refused(u32),
 }
 
-// The four numbers of an equation.
+// The four numbers of an equation (SPEC 5.1).
 pub struct Numbers {
     pub kind: u32,
     pub a: u32,
@@ -71,9 +71,9 @@ pub struct Form {
     pub text: [u8; FORM_WIDTH],
 }
 
-// Every form; those of one kind stand together, by the number that tells them apart.
+// Every form, by the kinds of SPEC 5.3; those of one kind stand together, by the number that tells them apart.
 const FORMS: [Form; FORM_COUNT] = [
-    // 0: signal A.
+    // 0: a signal.
     Form {
         settled: Numbers {
             kind: tables::SIGNAL,
@@ -84,7 +84,7 @@ const FORMS: [Form; FORM_COUNT] = [
         len: 4,
         text: *b"sA;\n                  ",
     },
-    // 1: start.
+    // 1: the start.
     Form {
         settled: Numbers {
             kind: tables::START,
@@ -95,7 +95,7 @@ const FORMS: [Form; FORM_COUNT] = [
         len: 3,
         text: *b"b;\n                   ",
     },
-    // 2: constant A.
+    // 2: a constant, a form for each.
     Form {
         settled: Numbers {
             kind: tables::CONSTANT,
@@ -116,7 +116,7 @@ const FORMS: [Form; FORM_COUNT] = [
         len: 6,
         text: *b"true;\n                ",
     },
-    // 3: not A.
+    // 3: not.
     Form {
         settled: Numbers {
             kind: tables::NOT,
@@ -127,7 +127,7 @@ const FORMS: [Form; FORM_COUNT] = [
         len: 8,
         text: *b"not fA;\n              ",
     },
-    // 4: A and B.
+    // 4: and.
     Form {
         settled: Numbers {
             kind: tables::AND,
@@ -138,7 +138,7 @@ const FORMS: [Form; FORM_COUNT] = [
         len: 11,
         text: *b"fA and fB;\n           ",
     },
-    // 5: A or B.
+    // 5: or.
     Form {
         settled: Numbers {
             kind: tables::OR,
@@ -149,7 +149,7 @@ const FORMS: [Form; FORM_COUNT] = [
         len: 10,
         text: *b"fA or fB;\n            ",
     },
-    // 6: boolean A one tick ago, C at the first tick.
+    // 6: a memory of a boolean, a form for each first value.
     Form {
         settled: Numbers {
             kind: tables::BOOLEAN_PRE,
@@ -170,7 +170,7 @@ const FORMS: [Form; FORM_COUNT] = [
         len: 15,
         text: *b"true->pre(fA);\n       ",
     },
-    // 7: count A one tick ago, 0 at the first tick.
+    // 7: a memory of a count.
     Form {
         settled: Numbers {
             kind: tables::COUNT_PRE,
@@ -181,7 +181,7 @@ const FORMS: [Form; FORM_COUNT] = [
         len: 12,
         text: *b"0->pre(fA);\n          ",
     },
-    // 8: count A, one more if boolean B.
+    // 8: a count that is increased, up to the cap.
     Form {
         settled: Numbers {
             kind: tables::CAPPED,
@@ -192,7 +192,7 @@ const FORMS: [Form; FORM_COUNT] = [
         len: 12,
         text: *b"cap(fA,fB);\n          ",
     },
-    // 9: if boolean A then count B, else 0.
+    // 9: a count or 0.
     Form {
         settled: Numbers {
             kind: tables::IF,
@@ -203,7 +203,7 @@ const FORMS: [Form; FORM_COUNT] = [
         len: 22,
         text: *b"if fA then fB else 0;\n",
     },
-    // 10: count A, op B, literal C.
+    // 10: a count and a literal, a form for each comparison.
     Form {
         settled: Numbers {
             kind: tables::COMPARE_LITERAL,
@@ -254,7 +254,7 @@ const FORMS: [Form; FORM_COUNT] = [
         len: 7,
         text: *b"fA>=C;\n               ",
     },
-    // 11: count A, op B, parameter C.
+    // 11: a count and a parameter, a form for each comparison.
     Form {
         settled: Numbers {
             kind: tables::COMPARE_PARAMETER,

@@ -1,4 +1,5 @@
-// Cases of writing and reading Lustre text. Each prints a line; what it must print is written from document 01.
+// Cases of writing (SPEC 8.6) and reading (SPEC 8.7) Lustre text. Each prints a line; what it must print is written by
+// hand from the specification.
 use libc::STDOUT_FILENO;
 use lustre::Loaded;
 use lustre::Written;
@@ -21,7 +22,8 @@ fn say_kept(kept: bool) {
     }
 }
 
-// Says whether each number from k on is 7, as in a table that nobody has written.
+// Says whether each number from k on is 7, as in a table that nobody has written: what stands behind a result is kept
+// (SPEC 1.5), and with a refusal all (SPEC 1.4).
 fn say_numbers_from(table: &[u32], k: usize) {
     let fresh = [7u32; limits::TABLE];
     if table.len() <= limits::TABLE {
@@ -74,7 +76,7 @@ fn reads_short(name: &[u8], text: &[u8]) {
     say_loaded(loaded, &table);
 }
 
-// Compares what was written with the text, and what it is read back as with the table.
+// Compares what was written with the text, and what it is read back as with the table (SPEC 12.2).
 fn compare(table: &[u32], n: usize, bytes: &[u8], text: &[u8]) {
     if check::same(bytes, text) {
         say(b", text as expected");
@@ -142,7 +144,7 @@ fn writes_enough(name: &[u8], table: &[u32], n: usize, text: &[u8]) {
     say_written(written, table, n, &buffer, text);
 }
 
-// Kinds 0 to 2, with both constants.
+// Kinds 0 to 2 (SPEC 5.3), with both constants (SPEC 9.3).
 fn leaves() {
     writes(b"signal", &[0, 63, 0, 0], 1, b"let\nf0=s63;\na=f0;\ntel\n");
     writes(b"start", &[1, 0, 0, 0], 1, b"let\nf0=b;\na=f0;\ntel\n");
@@ -172,7 +174,7 @@ fn connectives() {
     );
 }
 
-// Kinds 6 to 9.
+// Kinds 6 to 9: a memory may name a flow of a later equation, and its own (SPEC 5.4).
 fn memories() {
     writes(
         b"false before",
@@ -194,7 +196,7 @@ fn memories() {
     );
 }
 
-// Kind 10, with each operator.
+// Kind 10, with each comparison (SPEC 9.4).
 fn literals() {
     writes(
         b"literals, op 0 to 2",
@@ -210,7 +212,7 @@ fn literals() {
     );
 }
 
-// Kind 11, with each operator.
+// Kind 11, with each comparison.
 fn parameters() {
     writes(
         b"parameters, op 0 to 2",
@@ -226,14 +228,14 @@ fn parameters() {
     );
 }
 
-// Writing refused by 10,
+// Writing refused by 10 (SPEC 7.10),
 fn write_sizes() {
     writes(b"no equation", &[1, 0, 0, 0], 0, b"");
     writes(b"one equation too many", &[1, 0, 0, 0], 4097, b"");
     writes(b"table too short", &[1, 0, 0, 0, 1, 0, 0], 2, b"");
 }
 
-// by 11,
+// by 11 (SPEC 7.11): a kind that SPEC 5.3 does not have, SPEC 5.1, SPEC 5.4 and SPEC 5.5 broken,
 fn write_rules() {
     writes(b"unknown kind", &[12, 0, 0, 0], 1, b"");
     writes(b"unused number", &[1, 0, 0, 1], 1, b"");
@@ -241,7 +243,7 @@ fn write_rules() {
     writes(b"last a count", &[7, 0, 0, 0], 1, b"");
 }
 
-// and by 15.
+// and by 15 (SPEC 7.15).
 fn write_room() {
     writes_short(b"11 before 15", &[7, 0, 0, 0], 1, b"");
     writes_short(b"one byte short", &[1, 0, 0, 0], 1, b"");
@@ -253,7 +255,7 @@ fn write_room() {
     );
 }
 
-// Texts that are read, and 9.
+// Texts that are read, and 9 (SPEC 7.9).
 fn read_room() {
     reads(
         b"eleven",
@@ -263,7 +265,7 @@ fn read_room() {
     reads_short(b"16 before 9", b"let\nf0=b;\na=f0;\ntel");
 }
 
-// Texts that no well-formed table writes: a needless 0,
+// Texts that no well-formed table has (SPEC 7.16): a number with a 0 in front (SPEC 2.8),
 fn needless_zeros() {
     reads(b"needless 0 in a line number", b"let\nf00=b;\na=f0;\ntel\n");
     reads(b"needless 0 in a signal", b"let\nf0=s05;\na=f0;\ntel\n");
@@ -277,14 +279,14 @@ fn needless_zeros() {
     );
 }
 
-// a wrong number of a line,
+// a wrong number of a line (SPEC 9.2) or of the last flow (SPEC 9.1),
 fn wrong_numbers() {
     reads(b"wrong line number", b"let\nf1=b;\na=f1;\ntel\n");
     reads(b"line left out", b"let\nf0=b;\nf2=b;\na=f2;\ntel\n");
     reads(b"wrong last number", b"let\nf0=b;\nf1=b;\na=f0;\ntel\n");
 }
 
-// something missing or too much,
+// something missing or too much (SPEC 9.1),
 fn wrong_frames() {
     reads(b"empty", b"");
     reads(b"last byte 10 missing", b"let\nf0=b;\na=f0;\ntel");
@@ -293,7 +295,7 @@ fn wrong_frames() {
     reads(b"no line", b"let\na=f0;\ntel\n");
 }
 
-// another spelling,
+// another spelling (SPEC 9.2, and of a comparison SPEC 9.4),
 fn wrong_spellings() {
     reads(b"no semicolon", b"let\nf0=b\na=f0;\ntel\n");
     reads(b"a space", b"let\nf0= b;\na=f0;\ntel\n");
@@ -303,7 +305,7 @@ fn wrong_spellings() {
     );
 }
 
-// operands against the rules,
+// operands against SPEC 5.4, and a last equation against SPEC 5.5,
 fn wrong_operands() {
     reads(
         b"wrong sort",
@@ -318,7 +320,7 @@ fn wrong_operands() {
     reads(b"last a count", b"let\nf0=0->pre(f0);\na=f0;\ntel\n");
 }
 
-// numbers above their range.
+// numbers above the ranges of SPEC 5.3.
 fn wrong_ranges() {
     reads(b"signal 64", b"let\nf0=s64;\na=f0;\ntel\n");
     reads(

@@ -1,5 +1,5 @@
-// Read Lustre text into a table (document 01, "Read Lustre text"; refusals 16 and 9). Which texts are read, and what
-// reading does, stand in crate `lustre`, specs/Text.antt and specs/Read.antt.
+// Read Lustre text into a table (SPEC 8.7), with the refusals 16 (SPEC 7.16) and 9 (SPEC 7.9). Which texts are read,
+// and what reading does, stand in crate `lustre`, specs/Text.antt and specs/Read.antt.
 use lists::Decimal;
 use lists::read_decimal;
 use lustre::FORM_COUNT;
@@ -227,7 +227,8 @@ fn read_table(text: &[u8], table: &mut [u32]) -> Proposal
     Proposal::Table(n)
 }
 
-// Read Lustre text into a table. The text is read into a table of its own first, so that a refusal changes nothing.
+// Reads Lustre text into a table (SPEC 8.7). The text is read into a table of its own first, so that a refusal changes
+// nothing (SPEC 1.4).
 pub fn read_lustre(text: &[u8], table: &mut [u32]) -> Loaded
     ensures { λ r. ⌜ AfterRead (now (text .entry)) (now (table .entry)) r (now (table .exit)) ⌝ }
 {

@@ -1,5 +1,5 @@
-// Write a table as Lustre text (document 01, "Write as Lustre text"; refusal 15). What the text of a table is, and what
-// writing does, stand in crate `lustre`, specs/Text.antt and specs/Write.antt.
+// Write a table as Lustre text (SPEC 8.6), with refusal 15 (SPEC 7.15). What the text of a table is, and what writing
+// does, stand in crate `lustre`, specs/Text.antt and specs/Write.antt.
 use lists::number_at;
 use lustre::Numbers;
 use lustre::Written;
@@ -125,7 +125,7 @@ fn write_end(e: Numbers, out: &mut [u8]) -> usize
     write_form(&text[..len], e, out)
 }
 
-// The line of equation i, into the unfilled tail of the text.
+// The line of equation i, into the part of the buffer that is not filled yet; its length is returned (SPEC 12.5).
 fn write_line(table: &[u32], i: usize, out: &mut [u8]) -> usize
     requires { ⌜ (i < equationLimit) × Plain (equationAt (now table) i) ⌝ }
     ensures { λ r. ⌜ Placed lineRoom (lineText i (equationAt (now (table .entry)) i))
@@ -180,7 +180,7 @@ fn write_checked(table: &[u32], n: usize, text: &mut [u8]) -> Written
     Written::Length(len)
 }
 
-// Write a table as Lustre text.
+// Writes a table as Lustre text (SPEC 8.6).
 pub fn write_lustre(table: &[u32], n: usize, text: &mut [u8]) -> Written
     ensures { λ r. ⌜ afterWrite r (now (text .exit)) ≡ writeEffect (now (table .entry)) n (now (text .entry)) ⌝ }
 {
