@@ -1,5 +1,5 @@
--- "16 lowercase hexadecimal digits whose bit j is signal j" (document 01, "towerwatch"): of the number that a tick
--- line has, bit 4 · i + b is bit b of the i-th digit from the right. Assumes nothing.
+-- Which digit has which signal (SPEC 10.6): of the number that a tick line has, bit 4 · i + b is bit b of the i-th
+-- digit from the right. Assumes nothing.
 use mathlib.Core.Path.{_≡_, refl, _∙_, sym, ap}
 use mathlib.Core.Bool.{Bool, true, false}
 use mathlib.Core.List.{List, [], _∷_}

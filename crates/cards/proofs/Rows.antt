@@ -12,13 +12,14 @@ use Rattle.cards.specs.Says.{editionOf}
 use Rattle.cards.specs.declared.Count.the-variants as K
 use Rattle.cards.specs.declared.TickLine.the-variants as T
 
+-- SPEC 10.2: the edition's line.
 edition : editionOf (bytes "edition=1") ≡ true
 edition = refl
 
 no-edition : editionOf (bytes "edition=12") ≡ false
 no-edition = refl
 
--- "`k=` eight numbers 0 to 999,999 with commas"
+-- SPEC 10.3: eight parameters, no fewer, no more, none above its range.
 eight : parametersOf (bytes "k=0,10,200,3000,40000,500000,6,999999")
     ≡ are (0 ∷ 10 ∷ 200 ∷ 3000 ∷ 40000 ∷ 500000 ∷ 6 ∷ 999999 ∷ [])
 unfolding parametersOf hasPrefix numbers beforeComma atEnd number numeral digitsAfter isDigit
@@ -36,7 +37,7 @@ too-large : parametersOf (bytes "k=0,0,0,0,0,0,0,1000000") ≡ broken
 unfolding parametersOf hasPrefix numbers beforeComma atEnd number numeral digitsAfter isDigit
 too-large = refl
 
--- "`ticks=` 0 to 999,999", "decimal numbers have no needless 0"
+-- SPEC 10.5: the number of ticks, its digits by SPEC 2.8.
 five : countOf (bytes "ticks=5") ≡ K.Is 5
 unfolding countOf hasPrefix wholly number numeral digitsAfter isDigit
 five = refl
@@ -53,7 +54,7 @@ nothing : countOf (bytes "ticks=") ≡ K.Broken
 unfolding countOf hasPrefix wholly number numeral digitsAfter isDigit
 nothing = refl
 
--- "whose bit j is signal j": signal 0, signals 0 and 1, signal 63, signal 32
+-- SPEC 10.6: signal 0, signals 0 and 1, signal 63, signal 32
 signal-0 : tickLine (bytes "t=1,0000000000000001") ≡ T.Is 1 1
 unfolding tickLine hexes hexOf isDigit
 signal-0 = refl

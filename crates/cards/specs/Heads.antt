@@ -1,10 +1,10 @@
--- How the lines before the ticks begin. Definitions only. The texts are document 01's, from "towerwatch".
+-- How the lines before the ticks begin, and the refusals of a card's lines. Definitions only.
 use mathlib.Core.List.{List}
 use Prim.Native.Nat.{ℕ}
 use lib.ListN.{length, drop}
 use Rattle.lists.specs.Text.{bytes}
 
--- The whole first line, and how the other three begin.
+-- The whole first line (SPEC 10.2), and how the other three begin (SPEC 10.3, SPEC 10.4, SPEC 10.5).
 abbrev pub editionLine : List ℕ
 editionLine = bytes "edition=1"
 
@@ -21,7 +21,8 @@ countHead = bytes "ticks="
 abbrev pub afterHead : List ℕ → List ℕ → List ℕ
 afterHead head l = drop (length head) l
 
--- "A broken, missing or over-long line is 17 in the four first lines, 18 later"
+-- SPEC 10.7: which refusal a line gets that fails. 17 is for the four first lines (SPEC 7.17), 18 for the others and
+-- for bytes behind them (SPEC 7.18).
 abbrev pub headRefusal : ℕ
 headRefusal = 17
 

@@ -1,5 +1,4 @@
--- Over-long lines, and bytes cut into lines. Definitions only. The sentence quoted is document 01's, from
--- "towerwatch".
+-- Over-long lines, and bytes cut into lines (SPEC 10.1). Definitions only.
 use mathlib.Core.Bool.{Bool, cond}
 use mathlib.Core.List.{List, [], _∷_}
 use Prim.Native.Nat.{ℕ}
@@ -8,8 +7,8 @@ use lib.ListN.{length}
 use Rattle.limits.specs.Limits.{lineLimit}
 use Rattle.lists.specs.Text.{lineEnd}
 
--- "Lines end in byte 10 and have at most 4,096 bytes with it": a line that is given without its byte 10 is over-long
--- from so many bytes on.
+-- SPEC 10.1: a line's byte 10 counts as one of its bytes, so a line that is given without it is over-long from so many
+-- bytes on.
 abbrev pub overLong : List ℕ → Bool
 overLong l = leb lineLimit (length l)
 

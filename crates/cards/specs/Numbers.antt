@@ -1,5 +1,4 @@
--- Decimal numbers on a card, and the lines `k=` and `ticks=`. Definitions only.
--- The sentences quoted are document 01's, from "towerwatch".
+-- Decimal numbers on a card, and the lines `k=` (SPEC 10.3) and `ticks=` (SPEC 10.5). Definitions only.
 use mathlib.Core.Bool.{Bool, true, false, cond}
 use mathlib.Core.List.{List, [], _∷_, _++_}
 use Prim.Native.Nat.{ℕ, zero, suc, _-_}
@@ -22,7 +21,7 @@ parsed (is v l) = done v l
 parsed (above l) = none
 parsed missing = none
 
--- "0 to 999,999", and "decimal numbers have no needless 0".
+-- A number of SPEC 10.3 or SPEC 10.5: at most 999,999, its digits by SPEC 2.8.
 unfoldable pub number : List ℕ → Parsed
 number l = parsed (numeral lastLiteral l)
 
@@ -63,7 +62,7 @@ numbers (suc m) got l = thenListed (beforeComma (number l)) (λ v r. numbers m (
 abbrev pub lastParameter : ℕ
 lastParameter = parameterCount - 1
 
--- "`k=` eight numbers 0 to 999,999 with commas"
+-- SPEC 10.3: the eight parameters.
 unfoldable pub parametersOf : List ℕ → Listed
 parametersOf l = cond (hasPrefix parametersHead l) (numbers lastParameter [] (afterHead parametersHead l)) broken
 
@@ -73,6 +72,6 @@ wholly none = K.Broken
 wholly (done v []) = K.Is v
 wholly (done v (b ∷ l)) = K.Broken
 
--- "`ticks=` 0 to 999,999"
+-- SPEC 10.5: how many ticks follow.
 unfoldable pub countOf : List ℕ → Count
 countOf l = cond (hasPrefix countHead l) (wholly (number (afterHead countHead l))) K.Broken

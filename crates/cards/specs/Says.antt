@@ -1,6 +1,6 @@
 -- What a line of a card says (`lineSays`), the line that comes next after it (`stageAfter`), and what the end of the
 -- input says (`endSays`): the card as lines, with no table, no state and no step. A rule's own refusal and a step's are
--- the player's. Definitions only. The sentences quoted are document 01's, from "towerwatch".
+-- the player's. Definitions only.
 use mathlib.Core.Bool.{Bool, true, false, cond}
 use mathlib.Core.List.{List}
 use Prim.Native.Nat.{ℕ, _-_}
@@ -58,6 +58,7 @@ isOver P.Count = false
 isOver P.Ticks = false
 isOver P.Over = true
 
+-- What a line says that fails (SPEC 10.7): nothing once the card is over.
 abbrev pub brokenBy : Phase → Says
 brokenBy P.Edition = refused headRefusal
 brokenBy P.Parameters = refused headRefusal
@@ -66,30 +67,30 @@ brokenBy P.Count = refused headRefusal
 brokenBy P.Ticks = refused tickRefusal
 brokenBy P.Over = nothing
 
--- The first line: "`edition=1`", these bytes and no other.
+-- The first line (SPEC 10.2): these bytes and no other.
 abbrev pub editionOf : List ℕ → Bool
 editionOf l = same l editionLine
 
--- The second line: "`k=` eight numbers".
+-- The second line (SPEC 10.3).
 abbrev pub parametersSay : Listed → Says
 parametersSay (are ps) = parameters ps
 parametersSay broken = refused headRefusal
 
--- The fourth line: "`ticks=` 0 to 999,999".
+-- The fourth line (SPEC 10.5).
 abbrev pub countSays : Count → Says
 countSays (K.Is k) = count k
 countSays K.Broken = refused headRefusal
 
--- "then that many lines `t=` [..]",
+-- A tick line (SPEC 10.6),
 abbrev pub tickSays : TickLine → Says
 tickSays (T.Is start signals) = tick start signals
 tickSays T.Broken = refused tickRefusal
 
--- where so many ticks are left: "bytes after the last tick are 18".
+-- where so many ticks are left: with none left, any line is one too many (SPEC 10.8).
 abbrev pub tickIn : ℕ → List ℕ → Says
 tickIn left l = cond (eqb left 0) (refused tickRefusal) (tickSays (tickLine l))
 
--- What a line of the right length says, where so many ticks are left: "`watch=` rule text" in the third line.
+-- What a line says that is not too long, where so many ticks are left. The third has the rule's text (SPEC 10.4).
 abbrev pub saysIn : Phase → ℕ → List ℕ → Says
 saysIn P.Edition left l = cond (editionOf l) edition (refused headRefusal)
 saysIn P.Parameters left l = parametersSay (parametersOf l)
@@ -98,11 +99,11 @@ saysIn P.Count left l = countSays (countOf l)
 saysIn P.Ticks left l = tickIn left l
 saysIn P.Over left l = nothing
 
--- "Checks go line by line": what a line says, given without its byte 10.
+-- SPEC 10.9, one line after another: what a line says, given without its byte 10.
 unfoldable pub lineSays : Stage → List ℕ → Says
 lineSays k l = cond (overLong l) (brokenBy (k .phase)) (saysIn (k .phase) (k .left) l)
 
--- The stage after a line, where so many ticks were left before it. "A refusal prints [..], and ends".
+-- The stage after a line, where so many ticks were left before it. After a refusal the card is over (SPEC 10.10).
 abbrev pub stageAfter : ℕ → Says → Stage
 stageAfter left edition = stageAt P.Parameters 0
 stageAfter left (parameters ps) = stageAt P.Rule 0
@@ -112,8 +113,8 @@ stageAfter left (tick start signals) = stageAt P.Ticks (left - 1)
 stageAfter left (refused r) = stageAt P.Over 0
 stageAfter left nothing = stageAt P.Over 0
 
--- What the end of the input says, after so many bytes with no byte 10: a line is missing or broken, unless every tick
--- was read and nothing comes after the last.
+-- What the end of the input says, after so many bytes with no byte 10: a line fails (SPEC 10.7), unless every tick was
+-- read and nothing comes after the last (SPEC 10.8).
 abbrev pub endIn : Phase → ℕ → ℕ → Says
 endIn P.Edition left n = brokenBy P.Edition
 endIn P.Parameters left n = brokenBy P.Parameters

@@ -1,5 +1,4 @@
--- A tick line. Definitions only. "`t=` start (0 or 1), comma, 16 lowercase hexadecimal digits whose bit j is signal j"
--- (document 01, "towerwatch").
+-- A tick line (SPEC 10.6). Definitions only.
 use mathlib.Core.Bool.{_&&_, cond}
 use mathlib.Core.List.{List, [], _∷_}
 use Prim.Native.Nat.{ℕ, _+_, _-_, _*_}
@@ -11,7 +10,7 @@ use Rattle.lists.specs.Text.{byte}
 use Rattle.cards.specs.declared.TickLine.{TickLine}
 use Rattle.cards.specs.declared.TickLine.the-variants.{Is, Broken}
 
--- A lowercase hexadecimal digit's value, 16 for any other byte.
+-- The value of a hexadecimal digit `0` to `9` or `a` to `f` (SPEC 10.6), 16 for any other byte.
 unfoldable pub hexOf : ℕ → ℕ
 hexOf b =
     cond (isDigit b) (digitValue b)

@@ -1,5 +1,4 @@
-// Decimal numbers at a place of a line, and how a line begins. The sentences quoted are document 01's, from
-// "towerwatch".
+// Decimal numbers at a place of a line, and how a line begins.
 use lists::Decimal;
 ghost use mathlib.Core.Path.{_≡_};
 ghost use lib.ListN.{drop};
@@ -29,7 +28,7 @@ pub fn has_prefix(s: &[u8], w: &[u8]) -> bool
     true
 }
 
-// The decimal number at a place: "0 to 999,999", and "decimal numbers have no needless 0".
+// The decimal number at a place, as SPEC 10.3 and SPEC 10.5 ask for it: at most 999,999, its digits by SPEC 2.8.
 pub fn decimal_at(s: &[u8], at: usize) -> Number
     ensures { λ r. ⌜ ReadsAs r (now (s .entry)) (number (drop at (now (s .entry)))) ⌝ }
 {

@@ -1,6 +1,6 @@
 // Cards: what a line of a card says. A light machine over bytes: which line comes next, how many ticks are left, and
 // for each line what it says or its refusal. No table, no state and no step is in it; the definition is `lineSays` in
-// specs/Says.antt. The sentences quoted are document 01's, from "towerwatch".
+// specs/Says.antt.
 mod decimals;
 
 use decimals::Number;
@@ -21,7 +21,7 @@ const LAST: usize = limits::PARAMETERS - 1;
 // The bytes of a tick line, its byte 10 not counted.
 pub const TICK_LINE: usize = 20;
 
-// The first line of a card, and how the next three begin.
+// The first line of a card (SPEC 10.2), and how the next three begin (SPEC 10.3, SPEC 10.4, SPEC 10.5).
 const EDITION_LINE: [u8; 9] = *b"edition=1";
 
 const PARAMETERS_HEAD: [u8; 2] = *b"k=";
@@ -30,7 +30,7 @@ pub const RULE_HEAD: [u8; 6] = *b"watch=";
 
 const COUNT_HEAD: [u8; 6] = *b"ticks=";
 
-// "A broken, missing or over-long line is 17 in the four first lines, 18 later"
+// SPEC 10.7: the refusal of one of the four first lines, and of one after them.
 const HEAD_REFUSAL: u32 = 17;
 
 const TICK_REFUSAL: u32 = 18;
@@ -91,7 +91,7 @@ fn plain(content: Content) -> LineRead
     }
 }
 
-// "`k=` eight numbers 0 to 999,999 with commas"
+// SPEC 10.3: the line of the parameters.
 fn parameters_line(s: &[u8]) -> LineRead
     ensures { λ r. ⌜ (saysBy (r .content) (r .parameters) (now (s .entry))
         ≡ parametersSay (parametersOf (now (s .entry))))
@@ -124,7 +124,7 @@ fn parameters_line(s: &[u8]) -> LineRead
     }
 }
 
-// "`ticks=` 0 to 999,999"
+// SPEC 10.5: the line of the number of ticks.
 fn count_line(s: &[u8]) -> Count
     ensures { λ r. ⌜ r ≡ countOf (now (s .entry)) ⌝ }
 {
@@ -140,7 +140,7 @@ fn count_line(s: &[u8]) -> Count
     Count::Is(value)
 }
 
-// A lowercase hexadecimal digit's value, 16 for any other byte.
+// The value of a hexadecimal digit of SPEC 10.6, 16 for any other byte.
 fn hex_digit(b: u8) -> u64
     ensures { λ r. ⌜ r ≡ hexOf b ⌝ }
 {
@@ -159,7 +159,7 @@ fn hex_digit(b: u8) -> u64
     (b % 16 + b / 64 * 9) as u64
 }
 
-// "`t=` start (0 or 1), comma, 16 lowercase hexadecimal digits whose bit j is signal j"
+// SPEC 10.6: a tick line.
 fn tick_line(s: &[u8]) -> TickLine
     ensures { λ r. ⌜ r ≡ tickLine (now (s .entry)) ⌝ }
 {
@@ -198,7 +198,7 @@ fn tick_line(s: &[u8]) -> TickLine
     }
 }
 
-// "`edition=1`"
+// SPEC 10.2: the first line.
 fn edition_line(s: &[u8]) -> bool
     ensures { λ r. ⌜ r ≡ editionOf (now (s .entry)) ⌝ }
 {
@@ -222,7 +222,7 @@ pub fn tick_at(s: &[u8], at: usize) -> TickLine
     tick_line(&s[at..stop])
 }
 
-// What a broken, missing or over-long line says.
+// What a line says that fails (SPEC 10.7): nothing once the card is over.
 pub fn broken(p: Phase) -> Content
     ensures { λ r. ⌜ ((ps l : List ℕ) → saysBy r ps l ≡ brokenBy p) ⌝ }
 {
@@ -247,7 +247,7 @@ fn count_content(s: &[u8]) -> Content
     }
 }
 
-// What a line says at the ticks, where so many of them are left: "bytes after the last tick are 18".
+// What a line says at the ticks, where so many of them are left: with none left, any line is refused (SPEC 10.8).
 fn tick_content(left: u32, s: &[u8]) -> Content
     ensures { λ r. ⌜ ((ps l : List ℕ) → saysBy r ps l ≡ tickIn left (now (s .entry))) ⌝ }
 {
@@ -261,7 +261,7 @@ fn tick_content(left: u32, s: &[u8]) -> Content
     }
 }
 
-// "Checks go line by line": what a line says, given without its byte 10.
+// SPEC 10.9, one line after another: what a line says, given without its byte 10.
 pub fn read_line(stage: Stage, s: &[u8]) -> LineRead
     ensures { λ r. ⌜ (saysBy (r .content) (r .parameters) (now (s .entry)) ≡ lineSays stage (now (s .entry)))
         × ((r .content ≡ Content.Parameters → ⊥) → r .parameters ≡ replicate parameterCount 0) ⌝ }

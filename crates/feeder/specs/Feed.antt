@@ -1,4 +1,4 @@
--- What handing over a piece of a card does, whatever comes after it. Definitions only.
+-- What handing over a piece of a card does, whatever comes after it (SPEC 11.2). Definitions only.
 use mathlib.Core.Bool.{cond}
 use mathlib.Core.List.{List, [], _∷_, _++_}
 use mathlib.Core.Path.{_≡_}

@@ -25,6 +25,6 @@ pub data Run : World → List ℕ → List (List ℕ) → List ℕ → Type 0 wh
       → Run w s (c ∷ cs) (o ++ p)
   over : {w : World} {s : List ℕ} {cs : List (List ℕ)} → w .watch .stage .phase ≡ P.Over → Run w s cs []
 
--- In whatever pieces a card comes, what is printed is what the definition says of all its bytes.
+-- SPEC 11.2: in whatever pieces a card comes, what is printed is what the definition says of all its bytes.
 pub record Program : Type 0 where
   pub prints : {cs : List (List ℕ)} {o : List ℕ} → Run startWorld [] cs o → o ≡ printed (concat cs)

@@ -1,6 +1,5 @@
 // The feeder: hands a card to the player piece by piece, and puts what its lines print into a buffer. What a line does
-// is `player`'s; what a piece of a card does is defined in specs/Feed.antt. The sentence quoted is document 01's, from
-// "towerwatch".
+// is `player`'s; what a piece of a card does is defined in specs/Feed.antt.
 use cards::Phase;
 use cards::Stage;
 use cards::TickLine;
@@ -75,8 +74,7 @@ fn put_refusal(out: &mut [u8], at: usize, refusal: u32) -> usize
     put_word(out, at, &long)
 }
 
-// Puts an output to a place of out, and answers the place after it: "It prints `verdict=` and 0 or 1 for each tick.
-// A refusal prints `refused=` and its number".
+// Puts the line of an output (SPEC 10.10) to a place of out, and answers the place after it.
 fn put(out: &mut [u8], at: usize, d: Output) -> usize
     requires { ⌜ at + length (outputBytes d) ≤ length (now out) ⌝ }
     ensures { λ r. ⌜ (r ≡ at + length (outputBytes d))

@@ -8,7 +8,7 @@ use Rattle.player.specs.Card.{played, lined, owed, prints, printed}
 use Rattle.player.specs.Output.{refusalDigits, outputBytes}
 use Rattle.player.specs.declared.Output.the-variants as O
 
--- "A refusal prints `refused=` and its number": one digit and two.
+-- SPEC 10.10: the number of a refusal, of one digit and of two.
 refusal-1 : outputBytes (O.Refused 1) ≡ bytes "refused=1" ++ (10 ∷ [])
 unfolding outputBytes refusalDigits
 refusal-1 = refl
@@ -33,7 +33,7 @@ verdict-1 : outputBytes (O.Verdict 1) ≡ bytes "verdict=1" ++ (10 ∷ [])
 unfolding outputBytes
 verdict-1 = refl
 
--- No bytes at all, a first line that is broken, and one with no line end: the first line is missing or broken.
+-- No bytes at all, a first line that is broken, and one with no line end: the first line fails (SPEC 10.7).
 empty : printed [] ≡ bytes "refused=17" ++ (10 ∷ [])
 unfolding printed prints owed cut outputBytes refusalDigits
 empty = refl

@@ -1,6 +1,5 @@
 -- What the program prints for a card, as a definition on the card's bytes: `printed`. What a line says is
 -- `lineSays` of the crate cards; here it is played (`played`): a rule is compiled, a tick is a step. Definitions only.
--- The sentences quoted are document 01's, from "towerwatch".
 use mathlib.Core.List.{List, [], _∷_, _++_}
 use mathlib.Core.Path.{_≡_}
 use Prim.Native.Nat.{ℕ, _+_, _<_}
@@ -78,7 +77,7 @@ withWatch k w = worldOf k (w .parameters) (w .table) (w .state) (w .values)
 abbrev pub movedOn : Watch → Output → World → Effect
 movedOn k o w = effectOf o (withWatch k w)
 
--- "and ends": the card is over after this output.
+-- SPEC 10.10: nothing is printed after a refusal. The card is over after this output.
 abbrev pub overWatch : Watch
 overWatch = watchOf (stageAt P.Over 0) 0
 
@@ -118,7 +117,7 @@ madeAs (C.Refused r) t c = afterRule (C.Refused r) t c
 abbrev pub madeBy : AfterCompile → List ℕ → AfterRule
 madeBy k c = madeAs (k .answer) (k .table) c
 
--- "a rule's own refusal falls at its line": compiled, and its fresh state made.
+-- SPEC 10.9: at its line a rule is judged. It is compiled, and its fresh state made.
 unfoldable pub ruleMade : List ℕ → List ℕ → List ℕ → AfterRule
 ruleMade text t c = madeBy (compiled text t) c
 
@@ -167,7 +166,7 @@ playedTo k nothing w = endedBy O.Quiet w
 unfoldable pub played : World → Says → Effect
 played w s = playedTo (stageAfter (w .watch .stage .left) s) s w
 
--- "Checks go line by line": what a line does, given without its byte 10.
+-- SPEC 10.9, one line after another: what a line does, given without its byte 10.
 unfoldable pub lined : World → List ℕ → Effect
 lined w l = played w (lineSays (w .watch .stage) l)
 
@@ -178,7 +177,7 @@ pub record WholeLine (s : List ℕ) (at to : ℕ) : Type 0 where
 
 -- ---- what is printed
 
--- "A refusal prints `refused=` and its number, and ends."
+-- What is printed for a line that ends the card: a refusal (SPEC 10.10), or nothing.
 abbrev pub lastOutput : Says → Output
 lastOutput edition = O.Quiet
 lastOutput (parameters ps) = O.Quiet

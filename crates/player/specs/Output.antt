@@ -1,4 +1,4 @@
--- The lines that are printed. Definitions only. The sentence quoted is document 01's, from "towerwatch".
+-- The lines that are printed (SPEC 10.10). Definitions only.
 use mathlib.Core.Bool.{cond}
 use mathlib.Core.List.{List, [], _∷_, _++_}
 use Prim.Native.Nat.{ℕ, _/_, _%_}
@@ -13,7 +13,7 @@ use Rattle.player.specs.declared.Output.the-variants as O
 unfoldable pub refusalDigits : ℕ → List ℕ
 refusalDigits r = cond (ltb r 10) (digit (r % 10) ∷ []) (digit (r / 10 % 10) ∷ digit (r % 10) ∷ [])
 
--- "It prints `verdict=` and 0 or 1 for each tick. A refusal prints `refused=` and its number". A verdict is one digit.
+-- SPEC 10.10: the line of a verdict, which is one digit, and the line of a refusal.
 unfoldable pub outputBytes : Output → List ℕ
 outputBytes O.Quiet = []
 outputBytes (O.Verdict v) = bytes "verdict=" ++ (digit (v % 10) ∷ lineEnd ∷ [])

@@ -1,5 +1,5 @@
 -- What a card prints, top down: its lines, its rule's outcome and the interval meaning, with no table, state or step.
--- Definitions only. The sentences quoted are document 01's, from "towerwatch".
+-- Definitions only.
 use mathlib.Core.Bool.{true, false}
 use mathlib.Core.List.{List, [], _∷_, _++_}
 use mathlib.Core.Option.{some}
@@ -28,8 +28,7 @@ use Rattle.player.specs.declared.Output.the-variants as O
 
 -- ---- lines that are not as they have to be
 
--- Not "`edition=1`", not "`k=` eight numbers [..]", not "`watch=` rule text", not "`ticks=` 0 to 999,999", not "`t=`
--- start (0 or 1), comma, 16 lowercase hexadecimal digits".
+-- Not the line of SPEC 10.2, of SPEC 10.3, of SPEC 10.4, of SPEC 10.5, of SPEC 10.6.
 abbrev pub NoEdition : List ℕ → Type 0
 NoEdition l = l ≡ editionLine → ⊥
 
@@ -45,7 +44,7 @@ NoCount l = countOf l ≡ K.Broken
 abbrev pub NoTick : List ℕ → Type 0
 NoTick l = tickLine l ≡ T.Broken
 
--- "A broken, missing or over-long line": the first of these lines, Broken being what makes it a broken one.
+-- SPEC 10.7: the first of these lines fails, Broken being what makes it a broken one.
 pub data Fails (Broken : List ℕ → Type 0) : List (List ℕ) → Type 0 where
   broken : {l : List ℕ} {ls : List (List ℕ)} → Broken l → Fails Broken (l ∷ ls)
   missing : Fails Broken []
@@ -63,27 +62,28 @@ pub data TickLines (ps : List ℕ) : List (List ℕ) → List Tick → Type 0 wh
 -- end, and this is printed for them.
 pub data Closes : ℕ → List (List ℕ) → List ℕ → Output → Type 0 where
   whole : Closes zero [] [] O.Quiet
-  -- "bytes after the last tick are 18"
+  -- SPEC 10.8: a byte behind the last tick, with a line end after it or not.
   line-after : {l : List ℕ} {ls : List (List ℕ)} {tail : List ℕ} → Closes zero (l ∷ ls) tail (O.Refused tickRefusal)
   bytes-after : {b : ℕ} {tail : List ℕ} → Closes zero [] (b ∷ tail) (O.Refused tickRefusal)
-  -- "A broken, missing or over-long line is 17 in the four first lines, 18 later"
+  -- SPEC 10.7: a tick line fails.
   tick-fails : {left : ℕ} {ls : List (List ℕ)} {tail : List ℕ} → Fails NoTick ls
       → Closes (suc left) ls tail (O.Refused tickRefusal)
 
--- A line `verdict=` for each tick from the one numbered i on, v j being the verdict of the tick numbered j.
+-- SPEC 10.10: a line for each tick from the one numbered i on, v j being the verdict of the tick numbered j.
 unfoldable pub verdictLines : (ℕ → ℕ) → ℕ → List Tick → List ℕ
 verdictLines v i [] = []
 verdictLines v i (k ∷ ks) = outputBytes (O.Verdict (v i)) ++ verdictLines v (suc i) ks
 
 -- ---- the card
 
--- "A refusal prints `refused=` and its number, and ends."
+-- SPEC 10.10: the line of a refusal; nothing comes after it.
 abbrev pub refusalLine : ℕ → List ℕ
 refusalLine k = outputBytes (O.Refused k)
 
--- What is printed for these lines and then these bytes with no line end. "Checks go line by line".
+-- What is printed for these lines and then these bytes with no line end. Each case has all lines before the one that it
+-- is about as they have to be (SPEC 10.9).
 pub data LinesShow (tail : List ℕ) : List (List ℕ) → List ℕ → Type 0 where
-  -- "A broken, missing or over-long line is 17 in the four first lines": the first, the second,
+  -- SPEC 10.7: one of the four first lines fails, the first, the second,
   edition-fails : {ls : List (List ℕ)} → Fails NoEdition ls → LinesShow tail ls (refusalLine headRefusal)
   parameters-fail : {ls : List (List ℕ)} → Fails NoParameters ls
       → LinesShow tail (editionLine ∷ ls) (refusalLine headRefusal)
@@ -94,12 +94,12 @@ pub data LinesShow (tail : List ℕ) : List (List ℕ) → List ℕ → Type 0 w
   count-fails : {second ps text : List ℕ} {t : Tree} {ls : List (List ℕ)} → parametersOf second ≡ are ps
       → HasOutcome text (rule t) → Fails NoCount ls
       → LinesShow tail (editionLine ∷ second ∷ (ruleHead ++ text) ∷ ls) (refusalLine headRefusal)
-  -- "a rule's own refusal falls at its line"
+  -- SPEC 10.9: the rule is refused, at its line and by its number.
   rule-refused : {second ps text : List ℕ} {k : ℕ} {ls : List (List ℕ)} → parametersOf second ≡ are ps
       → overLong (ruleHead ++ text) ≡ false → HasOutcome text (refused k)
       → LinesShow tail (editionLine ∷ second ∷ (ruleHead ++ text) ∷ ls) (refusalLine k)
-  -- "It prints `verdict=` and 0 or 1 for each tick": the verdict of the rule's formula by the interval meaning, for the
-  -- ticks up to the last or up to a refusal.
+  -- SPEC 10.10: the verdict of the rule's formula by the interval meaning (SPEC 4.10), for the ticks up to the last or
+  -- up to a refusal.
   verdicts : {second ps text fourth : List ℕ} {t : Tree} {f : Formula} {ls rest : List (List ℕ)} {ks : List Tick}
       {left : ℕ} {o : Output} → parametersOf second ≡ are ps → HasOutcome text (rule t) → formulaOf t ≡ some f
       → countOf fourth ≡ K.Is (length ks + left) → TickLines ps ls ks → Closes left rest tail o

@@ -1,6 +1,5 @@
 // The player: what one line of a card does. It compiles a card's rule and steps its observer at each tick line. What a
-// line says is `cards`'; what a card prints is defined in specs/Card.antt. The sentences quoted are document 01's, from
-// "towerwatch".
+// line says is `cards`'; what a card prints is defined in specs/Card.antt.
 use cards::Content;
 use cards::Phase;
 use cards::Stage;
@@ -35,8 +34,8 @@ pub struct Answered {
     pub output: Output,
 }
 
-// "a rule's own refusal falls at its line": the rule text of the line at a place is compiled, and its fresh state made.
-// The card reader hands it out as a part of the bytes.
+// The rule text of the line at a place, a part of the bytes (SPEC 10.4), is compiled, and its fresh state made: the
+// rule is judged at its line (SPEC 10.9).
 fn rule_line(bytes: &[u8], at: usize, table: &mut [u32], state: &mut [u32]) -> Compiled
     ensures { λ r. ⌜ afterRule r (now (table .exit)) (now (state .exit))
         ≡ ruleMade (ruleFrom (now (bytes .entry)) at) (now (table .entry)) (now (state .entry)) ⌝ }

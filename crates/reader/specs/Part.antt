@@ -5,7 +5,6 @@ use lib.ListN.{length}
 use Rattle.lists.specs.Line.{lineFrom}
 use Rattle.cards.specs.Heads.{ruleHead}
 
--- What stands after `watch=` at a place, up to the line's end (document 01, "towerwatch": "`watch=` rule
--- text", "Lines end in byte 10").
+-- SPEC 10.4: what stands after `watch=` at a place, up to the line's end.
 abbrev pub ruleFrom : List ℕ → ℕ → List ℕ
 ruleFrom s at = lineFrom s (at + length ruleHead)

@@ -1,6 +1,5 @@
-// The card reader: it holds the bytes that are lent and the place of a line in them, and hands out the rule text as
-// that part of the bytes (document 01: "The reader hands out the rule text as that part of the card it was given"). No
-// byte is copied.
+// The card reader (its form: SPEC 12.5): it holds the bytes that are lent and the place of a line in them. The rule's
+// text is a part of these bytes (SPEC 10.4): none is copied.
 ghost use mathlib.Core.Path.{_≡_};
 ghost use Rattle.reader.specs.Part.{ruleFrom};
 
