@@ -1,4 +1,5 @@
-// The functions that C calls: thin over the proved operations, on slices and numbers (include/towerwatch.h).
+// The functions that C calls (SPEC 13.1; include/towerwatch.h): thin over the proved operations, on slices and numbers,
+// which is the form of SPEC 12.5.
 use flows::Fresh;
 use flows::Stepped;
 use lustre::Loaded;
@@ -19,7 +20,7 @@ ghost use Rattle.lustre.specs.Read.{AfterRead, loadReply};
 ghost use Rattle.firmware.specs.Face.{answer, Given};
 ghost use Rattle.firmware.specs.Sizes.{small, short, few};
 
-// An answer as C gets it: the refusal's number, 0 for none, and the result, 0 where there is none.
+// An answer as C gets it: the refusal's number, 0 for none, and the result, 0 where there is none (SPEC 1.4).
 #[repr(C)]
 pub struct Answer {
     pub refusal: u32,
@@ -58,7 +59,7 @@ fn step_answer(s: Stepped) -> Answer
     }
 }
 
-// Make a fresh state of the table's n equations.
+// Makes a fresh state of the table's n equations (SPEC 8.4).
 #[no_mangle]
 pub extern "C" fn towerwatch_fresh_state(table: &[u32], n: usize, state: &mut [u32]) -> Answer
     ensures { λ r. ⌜ Given freshReply (λ x. afterFresh x (now (state .exit))
@@ -67,7 +68,7 @@ pub extern "C" fn towerwatch_fresh_state(table: &[u32], n: usize, state: &mut [u
     fresh_answer(flows::fresh_state(table, n, state))
 }
 
-// One step: a tick of the table's n equations.
+// One step: a tick of the table's n equations (SPEC 8.5).
 #[no_mangle]
 pub extern "C" fn towerwatch_step(
     table: &[u32],
@@ -139,7 +140,7 @@ fn same_answer(s: Same) -> Answer
     }
 }
 
-// Read a rule: its node count.
+// Reads a rule: how many nodes (SPEC 8.1).
 #[no_mangle]
 pub extern "C" fn towerwatch_read_rule(text: &[u8]) -> Answer
     ensures { λ r. ⌜ Given readReply (λ x. x ≡ answerOf (ruleOf (now (text .entry)))) r ⌝ }
@@ -148,7 +149,7 @@ pub extern "C" fn towerwatch_read_rule(text: &[u8]) -> Answer
     read_answer(rules::read_rule(text))
 }
 
-// Compile a rule into a table: how many equations.
+// Compiles a rule into a table: how many equations (SPEC 8.2).
 #[no_mangle]
 pub extern "C" fn towerwatch_compile(text: &[u8], table: &mut [u32]) -> Answer
     ensures { λ r. ⌜ Given compileReply (λ x. afterCompile x (now (table .exit))
@@ -159,7 +160,7 @@ pub extern "C" fn towerwatch_compile(text: &[u8], table: &mut [u32]) -> Answer
     compiled_answer(observers::compile_rule(text, table))
 }
 
-// Same rule, two texts: 1 for yes, 0 for no.
+// Compares two texts: 1 where they are the same rule, else 0 (SPEC 8.3).
 #[no_mangle]
 pub extern "C" fn towerwatch_same_rule(first: &[u8], second: &[u8]) -> Answer
     ensures { λ r. ⌜ Given sameReply
@@ -203,7 +204,7 @@ fn loaded_answer(l: Loaded) -> Answer
     }
 }
 
-// Write the table's n equations as Lustre text: the length in bytes.
+// Writes the table's n equations as Lustre text: how many bytes (SPEC 8.6).
 #[no_mangle]
 pub extern "C" fn towerwatch_write_lustre(table: &[u32], n: usize, text: &mut [u8]) -> Answer
     ensures { λ r. ⌜ Given writeReply (λ x. afterWrite x (now (text .exit))
@@ -212,7 +213,7 @@ pub extern "C" fn towerwatch_write_lustre(table: &[u32], n: usize, text: &mut [u
     written_answer(lustre_write::write_lustre(table, n, text))
 }
 
-// Read Lustre text into a table: how many equations.
+// Reads Lustre text into a table: how many equations (SPEC 8.7).
 #[no_mangle]
 pub extern "C" fn towerwatch_read_lustre(text: &[u8], table: &mut [u32]) -> Answer
     ensures { λ r. ⌜ Given loadReply (λ x. AfterRead (now (text .entry)) (now (table .entry)) x

@@ -45,35 +45,34 @@ use Rattle.lustre.specs.declared.Loaded.{Loaded}
 use Rattle.lustre.specs.declared.Loaded.the-variants.{Equations as Loads}
 use Rattle.player.specs.Shows.{Shows}
 
--- Demand 2: "A text is a rule exactly when document 01's limits, grammar and fragment have it, and it has one reading."
+-- SPEC 12.2 (demand 2), its part on texts: which of them are rules, and that each of these has one tree.
 pub record Reading : Type 0 where
   -- The first by the form of `HasOutcome`; that reading has this outcome and no other is `one-outcome`.
   pub exactly : (text : List ℕ) (t : Tree) → HasOutcome text (rule t) ↔ Admitted text t
-  -- Every text is a rule or has a refusal (demand 1), and one of them.
+  -- SPEC 12.1 (demand 1): every text is a rule or has a refusal, and one of them.
   pub some-outcome : (text : List ℕ) → (x : Outcome) × HasOutcome text x
   pub one-outcome : (text : List ℕ) (x y : Outcome) → HasOutcome text x → HasOutcome text y → x ≡ y
   -- A refusal is 1 to 8, so that 0 can stand for none.
   pub numbered : (text : List ℕ) (k : ℕ) → HasOutcome text (refused k) → (1 ≤ k) × (k ≤ 8)
   -- What is read has a formula, and so a meaning.
   pub formula : (text : List ℕ) (t : Tree) → HasOutcome text (rule t) → (f : Formula) × (formulaOf t ≡ some f)
-  -- The contracts of reading and comparing settle the answers.
+  -- The contracts of reading and comparing settle the answers (SPEC 12.4).
   pub one-answer : (text : List ℕ) (r r′ : Read) → Told text r → Told text r′ → r ≡ r′
   pub one-comparison : (a b : List ℕ) (r r′ : Same) → SameAnswer a b r → SameAnswer a b r′ → r ≡ r′
 
--- The interval meaning has document 01's clauses, each as a law, and what has these laws is the meaning.
+-- The interval meaning has the clauses SPEC 4.1 to SPEC 4.10, each as a law, and what has these laws is the meaning.
 pub record Meaning (trace : Trace) : Type 1 where
   pub clauses : Means trace (λ p i. at trace p i ≡ true) (λ f b e. meaning trace f b e ≡ true) (verdict trace)
   pub only : (At : Prop → ℕ → Type 0) (On : Formula → ℕ → ℕ → Type 0) (v : Formula → ℕ → ℕ) → Means trace At On v
       → (f : Formula) (e : ℕ) → v f e ≡ verdict trace f e
 
--- Demand 2: "Running a table gives each equation, tick by tick, the value Lustre gives it, with counts held at one
--- million."
+-- SPEC 12.2 (demand 2), its part on runs of a table: SPEC 6.4, with counts up to the cap (SPEC 5.2).
 abbrev pub Running : Type 0
 Running = (t : List ℕ) (n : ℕ) → checked t n ≡ Passed → RunsAsLustre standardCap t n
 
--- Demand 3. A text with a refusal gets that, a rule with too short a table 9, and both leave the table as it was. A
--- rule is compiled where there is room, and then the n equations at the front of the table, whatever stands after them,
--- observe its formula.
+-- SPEC 12.3 (demand 3). A text with a refusal gets that, a rule with too short a table 9 (SPEC 7.9), and both leave the
+-- table as it was. A rule is compiled where there is room, and then the n equations at the front of the table, whatever
+-- stands after them, observe its formula.
 pub record Compiling : Type 0 where
   pub refuses : {text before after : List ℕ} {r : Compiled} {k : ℕ} → Compiles text before r after
       → HasOutcome text (refused k) → (r ≡ Refused k) × (after ≡ before)
@@ -85,8 +84,7 @@ pub record Compiling : Type 0 where
       → Compiles text before (Equations n) after → HasOutcome text (rule t) → formulaOf t ≡ some f
       → (rest : List ℕ) → Observes standardCap (take (4 * n) after ++ rest) n f (nodes t)
 
--- Demand 2: "A table written as Lustre text and read back is that table, and a text that is read and written back is
--- that text."
+-- SPEC 12.2 (demand 2), its part on Lustre text: writing and reading undo each other.
 pub record RoundTrips : Type 0 where
   pub table : (t : List ℕ) (n l : ℕ) (buffer before after : List ℕ) (r : Loaded)
       → writeEffect t n buffer .answer ≡ Length l → tableRoom ≤ length before
@@ -95,15 +93,17 @@ pub record RoundTrips : Type 0 where
   pub text : (text before after buffer : List ℕ) (n : ℕ) → AfterRead text before (Loads n) after
       → length text ≤ length buffer
       → writeEffect after n buffer ≡ afterWrite (Length (length text)) (text ++ drop (length text) buffer)
-  -- The contract of reading settles the answer and the table.
+  -- The contract of reading settles the answer and the table (SPEC 12.4).
   pub one-answer : (text before after after′ : List ℕ) (r r′ : Loaded) → AfterRead text before r after
       → AfterRead text before r′ after′ → (r ≡ r′) × (after ≡ after′)
 
--- Cards: every card shows something, and one thing.
+-- Cards (SPEC 11.1): every card shows something, and one thing.
 pub record Cards : Type 0 where
   pub some-output : (card : List ℕ) → (out : List ℕ) × Shows card out
   pub one-output : (card out out′ : List ℕ) → Shows card out → Shows card out′ → out ≡ out′
 
+-- All of it. SPEC 12.1 (demand 1): that each call gets its result or its first refusal, and with a refusal keeps what
+-- it was lent, is in the relations named above; that they settle the answer, in the parts here that say that it is one.
 pub record Promises : Type 1 where
   pub reading : Reading
   pub meaning : (trace : Trace) → Meaning trace

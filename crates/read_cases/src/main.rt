@@ -1,5 +1,6 @@
-// Reads each line of standard input as a rule text and prints what reading it answers. The lines of `stdin` and
-// `stdout` are written by hand from document 01: its "Run only" list, P1 to P13, and texts for each refusal and their
+// Reads each line of standard input as a rule text and prints what reading it answers (SPEC 8.1). The lines of `stdin`
+// and `stdout` are written by hand from the specification: the texts of SPEC 14.2, the rules of SPEC 14.1, and texts
+// for each of the refusals SPEC 7.1, SPEC 7.2, SPEC 7.3, SPEC 7.4, SPEC 7.5, SPEC 7.6, SPEC 7.7, SPEC 7.8 and their
 // order.
 use libc::STDIN_FILENO;
 use libc::STDOUT_FILENO;

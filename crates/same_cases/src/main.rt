@@ -1,5 +1,6 @@
-// Reads pairs of lines of standard input as two rule texts and prints whether they are the same rule. The lines of
-// `stdin` and `stdout` are written by hand from document 01.
+// Reads pairs of lines of standard input as two rule texts and prints whether they are the same rule (SPEC 8.3), which
+// brackets and spaces do not change (SPEC 3.7). The lines of `stdin` and `stdout` are written by hand from the
+// specification.
 use libc::STDIN_FILENO;
 use libc::STDOUT_FILENO;
 use rules::Same;

@@ -21,11 +21,13 @@ pub write-made : Call → (at : ℕ) (o : List ℕ) (k : ℕ) → WriteMade at o
 unfolding WriteMade
 write-made call at o k = tt
 
--- A read brought the bytes c, after `at` bytes of the input: no bytes at its end, and where the read failed.
+-- A read brought the bytes c, after `at` bytes of the input: no bytes at its end, and where the read failed
+-- (SPEC 11.3).
 pub record Came (at : ℕ) (c : List ℕ) : Type 0 where
   pub call : ReadMade at c
 
--- A write was handed the bytes o, after `at` bytes of the output, and took the first k of them: none where it failed.
+-- A write was handed the bytes o, after `at` bytes of the output, and took the first k of them: none where it failed
+-- (SPEC 11.3).
 pub record Wrote (at : ℕ) (o : List ℕ) (k : ℕ) : Type 0 where
   pub call : WriteMade at o k
   pub took : k ≤ length o

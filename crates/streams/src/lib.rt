@@ -15,7 +15,7 @@ enum Call {
 }
 
 // Reads on after the first `to` bytes of buf, which stay. There is room for a byte at least, so 0 is answered at the
-// end of the input and where a read fails, and nowhere else.
+// end of the input and where a read fails (SPEC 11.3), and nowhere else.
 pub fn read(buf: &mut [u8], to: usize, at: u64) -> usize
     requires { ⌜ to < length (now buf) ⌝ }
     ensures { λ r. ⌜ (take to (now (buf .exit)) ≡ take to (now (buf .entry)))

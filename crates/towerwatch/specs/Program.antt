@@ -1,5 +1,6 @@
--- What a whole run of the program promises: the system calls that were made, and that what was handed to the writes is
--- what the card shows that the reads brought (player, specs/Shows.antt). Definitions only.
+-- What a whole run of the program promises (SPEC 11.1): the system calls that were made, and that what was handed to
+-- the writes is what the card shows that the reads brought (player, specs/Shows.antt). The card of SPEC 14.3 is the
+-- crate's `stdin`, and what it prints its `stdout`. Definitions only.
 use mathlib.Core.List.{List, [], _++_}
 use mathlib.Core.Path.{_≡_}
 use mathlib.Core.Logic.{_⊎_}
@@ -14,7 +15,7 @@ use Rattle.towerwatch.specs.declared.Stand.the-variants as S
 
 -- The bytes i came in, and o was handed over. At the end of the input, which `over` says, o is all that the card i
 -- shows; once the card is over, the same, whatever is still to come; after a write that took nothing, all that the card
--- shows, at the end of the input, or its front, whatever is still to come.
+-- shows, at the end of the input, or its front, whatever is still to come (SPEC 11.2).
 abbrev pub Showing : Type 0 → Stand → List ℕ → List ℕ → Type 0
 Showing over S.Reading i o = ⊥
 Showing over S.Ended i o = over × Shows i o

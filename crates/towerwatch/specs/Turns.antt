@@ -16,16 +16,16 @@ isDone S.Ended = true
 isDone S.Over = true
 isDone S.Stuck = false
 
--- The bytes o are handed to writes, after `at` bytes of the output, to each of them all that the one before did not
--- take: until all are taken (true), or until a write takes none (false).
+-- SPEC 11.3, writes: the bytes o are handed to them, after `at` bytes of the output, to each of them all that the one
+-- before did not take: until all are taken (true), or until a write takes none (false).
 pub data Handed : ℕ → List ℕ → Bool → Type 0 where
   all : {at : ℕ} → Handed at [] true
   some : {at k : ℕ} {o : List ℕ} {done : Bool} → Wrote at o k → 0 < k → Handed (at + k) (drop k o) done
       → Handed at o done
   none : {at : ℕ} {o : List ℕ} → Wrote at o 0 → 0 < length o → Handed at o false
 
--- Turns one after another: reads brought the bytes i, and the bytes o were handed to writes, the last of them all taken
--- or not. A turn after one in which a write took none there is not.
+-- SPEC 11.2, pieces: turns one after another. Reads brought the bytes i, and the bytes o were handed to writes, the
+-- last of them all taken or not. A turn after one in which a write took none there is not.
 pub data Turned : List ℕ → List ℕ → Bool → Type 0 where
   start : Turned [] [] true
   turn : {i o c p : List ℕ} {done : Bool} → Turned i o true → Came (length i) c → Handed (length o) p done

@@ -1,9 +1,9 @@
 // The program `towerwatch`: reads a card from standard input and prints what it says, piece by piece and in constant
-// memory (document 01, "towerwatch"). All but the reads and the writes is in `feeder`, where it is proved that what is
-// printed does not depend on the pieces that a card comes in. Here `once` promises that what it hands to the writes is
-// what its piece prints, and `run` that all of it together is what a card prints, and that it stops before its end only
+// memory (SPEC 11.1). All but the reads and the writes is in `feeder`, where it is proved that what is printed does not
+// depend on the pieces that a card comes in (SPEC 11.2). Here `once` promises that what it hands to the writes is what
+// its piece prints, and `run` that all of it together is what a card prints, and that it stops before its end only
 // after a write that failed (specs/Run.antt, and by what the card shows specs/Program.antt). The two system calls are
-// in `streams`.
+// in `streams`. The card of SPEC 14.3 is the crate's test.
 use player::Watch;
 ghost use mathlib.Core.Bool.{cond};
 ghost use mathlib.Core.List.{List, []};
@@ -47,8 +47,8 @@ struct Total {
     stand: Stand,
 }
 
-// Hands over the first n bytes, in as many writes as it takes, and answers whether all were taken. So many bytes of the
-// output came before.
+// Hands over the first n bytes, in as many writes as it takes (SPEC 11.3), and answers whether all were taken. So many
+// bytes of the output came before.
 fn hand(out: &[u8], n: usize, at: u64) -> bool
     requires { ⌜ n ≤ length (now out) ⌝ }
     ensures { λ r. ⌜ Handed at (take n (now (out .entry))) r ⌝ }
@@ -219,7 +219,8 @@ fn run(
     }
 }
 
-// The table has room for the largest rule, state and values for its equations; out is longer than buf by a refusal.
+// The table has room for the largest rule, state and values for its equations; out is longer than buf by a refusal. The
+// exit status is 0, however the run ended (SPEC 11.3).
 fn main() {
     let mut buf = [0u8; 32768];
     let mut out = [0u8; OUTPUT];
