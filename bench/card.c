@@ -1,6 +1,6 @@
-/* A hand-written C program of towerwatch's job: a card from standard input, its verdicts to standard output, with one read
-   buffer, one write buffer and a table for hexadecimal digits, over compiler.c and interpreter.c. Its steps have all refusals,
-   or with `unchecked` are the bare ticks. `make RULE` prints a card of 999,999 ticks. */
+/* A hand-written C program of towerwatch's job (SPEC 11.1): a card from standard input, its verdicts to standard
+   output, with one read buffer, one write buffer and a table for hexadecimal digits, over compiler.c and interpreter.c.
+   Its steps have all refusals, or with `unchecked` are the bare ticks. `make RULE` prints a card of 999,999 ticks. */
 #include <stdio.h>
 #include <stdlib.h>
 #include <string.h>
@@ -60,7 +60,7 @@ static uint8_t *line(size_t *length, uint32_t number) {
     }
 }
 
-/* The decimal number at *p, at most 999,999, without a needless 0. */
+/* The decimal number at *p, at most 999,999, its digits by SPEC 2.8. */
 static uint32_t number_at(uint8_t **p, uint8_t *stop) {
     uint8_t *q = *p;
     if (q == stop || *q < '0' || *q > '9') refuse(17);

@@ -1,4 +1,4 @@
-//! The archive's functions (include/towerwatch.h) behind safe ones.
+//! The archive's functions (SPEC 13.1; include/towerwatch.h) behind safe ones.
 
 #[repr(C)]
 #[derive(Clone, Copy, PartialEq, Eq, Debug)]

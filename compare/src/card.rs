@@ -1,5 +1,4 @@
-//! What a card prints, written from document 01 ("towerwatch"): a reader of cards of its own, and verdicts by the
-//! interval meaning.
+//! What a card prints: a reader of cards of its own, and verdicts by the interval meaning.
 
 pub mod make;
 
@@ -17,7 +16,7 @@ pub enum Place {
     After,
 }
 
-/// What is wrong there.
+/// What is wrong there: a line fails (SPEC 10.7), a rule is refused (SPEC 10.9), or there is too much (SPEC 10.8).
 #[derive(Clone, Copy, PartialEq, Eq, PartialOrd, Ord, Debug)]
 pub enum Why {
     /// No byte of the line is there.
@@ -38,7 +37,7 @@ pub enum Why {
 pub struct End(pub Place, pub Why);
 
 impl End {
-    /// "17 in the four first lines, 18 later".
+    /// The refusal's number: the rule's own, 18 (SPEC 7.18) or 17 (SPEC 7.17).
     fn number(self) -> u32 {
         match self {
             End(_, Why::Refused(number)) => number,
@@ -55,6 +54,7 @@ pub struct Printed {
 }
 
 impl Printed {
+    /// SPEC 10.10: the lines that are printed.
     pub fn bytes(&self) -> Vec<u8> {
         let mut text: String = self.verdicts.iter().map(|v| format!("verdict={v}\n")).collect();
         if let Some(end) = self.end {
@@ -64,7 +64,7 @@ impl Printed {
     }
 }
 
-/// "Lines end in byte 10 and have at most 4,096 bytes with it": takes the next line, and answers it without its end.
+/// SPEC 10.1: takes the next line, and answers it without its end.
 fn line<'a>(card: &mut &'a [u8]) -> Result<&'a [u8], Why> {
     let end = card.iter().take(4096).position(|b| *b == 10);
     match end {
@@ -79,7 +79,7 @@ fn line<'a>(card: &mut &'a [u8]) -> Result<&'a [u8], Why> {
     }
 }
 
-/// A decimal number 0 to 999,999 with no needless 0.
+/// A decimal number up to 999,999, its digits by SPEC 2.8.
 fn decimal(digits: &[u8]) -> Option<u32> {
     let fine = matches!(digits.len(), 1..=6) && digits.iter().all(u8::is_ascii_digit);
     if !fine || digits.len() > 1 && digits[0] == b'0' {
@@ -88,11 +88,13 @@ fn decimal(digits: &[u8]) -> Option<u32> {
     Some(digits.iter().fold(0, |x, b| 10 * x + u32::from(b - b'0')))
 }
 
+/// SPEC 10.3: the eight parameters.
 fn parameters(line: &[u8]) -> Option<[u32; 8]> {
     let numbers: Option<Vec<u32>> = line.strip_prefix(b"k=")?.split(|b| *b == b',').map(decimal).collect();
     numbers?.try_into().ok()
 }
 
+/// SPEC 10.6: a tick.
 fn tick(line: &[u8]) -> Option<Moment> {
     let [b't', b'=', start @ (b'0' | b'1'), b',', digits @ ..] = line else { return None };
     let is_digit = |b: &u8| matches!(b, b'0'..=b'9' | b'a'..=b'f');
@@ -103,7 +105,7 @@ fn tick(line: &[u8]) -> Option<Moment> {
     Some(Moment { start: *start == b'1', signals: u64::from_str_radix(digits, 16).unwrap() })
 }
 
-/// The four first lines: parameters, rule and number of ticks.
+/// The four first lines: edition (SPEC 10.2), parameters, rule (SPEC 10.4) and number of ticks (SPEC 10.5).
 fn head(card: &mut &[u8]) -> Result<([u32; 8], Rule, u32), End> {
     let broken = |place| End(place, Why::Broken);
     if line(card).map_err(|w| End(Place::Edition, w))? != b"edition=1" {

@@ -1,4 +1,4 @@
-//! Rules as document 01 has them: trees, node counts, leads.
+//! Rules: trees (SPEC 3.7), node counts, leads.
 
 pub mod make;
 pub mod meaning;
@@ -61,7 +61,7 @@ pub const OPS: [(Op, &str); 5] = [(Op::Le, "<="), (Op::Lt, "<"), (Op::Eq, "="), 
 pub const TESTS: [(Test, &str); 5] =
     [(Test::Begin, "begin"), (Test::End, "end"), (Test::Point, "point"), (Test::Held, "held"), (Test::Kept, "kept")];
 
-/// "The five comparisons", of plain whole numbers.
+/// SPEC 1.3: a comparison of whole numbers.
 pub fn compare(op: Op, x: u64, n: u64) -> bool {
     match op {
         Op::Le => x <= n,
@@ -72,7 +72,7 @@ pub fn compare(op: Op, x: u64, n: u64) -> bool {
     }
 }
 
-/// "Each atom, `!`, `&`, `|` and `then` outside square brackets is one node."
+/// SPEC 3.8: how many nodes a rule has.
 pub fn nodes(r: &Rule) -> u32 {
     match r {
         Rule::Test(..) | Rule::Len(..) | Rule::Sum(..) | Rule::Age(..) => 1,
@@ -82,7 +82,7 @@ pub fn nodes(r: &Rule) -> u32 {
     }
 }
 
-/// "A lead is made of `begin`, `kept`, `len` and `sum` with `<=` or `<`, and `&`, `|`, brackets."
+/// SPEC 3.9: leads.
 fn is_lead(r: &Rule) -> bool {
     match r {
         Rule::Test(t, _) => matches!(t, Test::Begin | Test::Kept),
@@ -92,7 +92,7 @@ fn is_lead(r: &Rule) -> bool {
     }
 }
 
-/// "The D left of a `then` must be a lead."
+/// SPEC 3.10: the left part of each `then` is a lead.
 fn has_leads(r: &Rule) -> bool {
     match r {
         Rule::Test(..) | Rule::Len(..) | Rule::Sum(..) | Rule::Age(..) => true,

@@ -1,4 +1,4 @@
-//! Equation tables, written from document 01: which are well formed, a fresh state, one step.
+//! Equation tables: which are well formed, a fresh state (SPEC 8.4), one step (SPEC 8.5).
 
 pub mod lustre;
 pub mod make;
@@ -6,16 +6,17 @@ pub mod make;
 use crate::archive::{Answer, Tick};
 use crate::rule::{compare, OPS};
 
+/// SPEC 5.2: whether the flow of an equation of this kind is a count.
 pub fn is_count(kind: u32) -> bool {
     matches!(kind, 7 | 8 | 9)
 }
 
-/// Equation i: kind, A, B, C.
+/// SPEC 5.1: equation i as kind, A, B, C.
 fn equation(table: &[u32], i: usize) -> [u32; 4] {
     [table[4 * i], table[4 * i + 1], table[4 * i + 2], table[4 * i + 3]]
 }
 
-/// Whether equation i of n is as document 01 has it: operands of the right sort, unused numbers 0.
+/// Whether equation i of n has the operands that SPEC 5.3 and SPEC 5.4 ask for, and is 0 elsewhere (SPEC 5.1).
 fn is_fine(table: &[u32], n: usize, i: usize) -> bool {
     let kind = |x: u32| table[4 * x as usize];
     let boolean = |x: u32, limit: usize| (x as usize) < limit && kind(x) < 12 && !is_count(kind(x));
@@ -40,11 +41,11 @@ fn is_fine(table: &[u32], n: usize, i: usize) -> bool {
 /// Why a table is refused.
 #[derive(Clone, Copy, PartialEq, Eq, PartialOrd, Ord, Debug)]
 pub enum Flaw {
-    /// 10: no table of so many equations.
+    /// 10 (SPEC 7.10): no table of so many equations.
     Size,
-    /// 11: the first equation that is not fine has this kind (12 for any kind that there is not).
+    /// 11 (SPEC 7.11): the first equation that is not fine has this kind (12 for any kind that there is not).
     Equation(u32),
-    /// 11: the last equation is a count.
+    /// 11: the last equation is a count (SPEC 5.5).
     LastIsCount,
 }
 
@@ -54,6 +55,7 @@ impl Flaw {
     }
 }
 
+/// What is wrong with a table, if anything: its length (SPEC 5.6), an equation, the sort of the last one.
 pub fn flaw(table: &[u32], n: usize) -> Option<Flaw> {
     if n == 0 || n > 4096 || table.len() < 4 * n {
         return Some(Flaw::Size);
@@ -64,7 +66,7 @@ pub fn flaw(table: &[u32], n: usize) -> Option<Flaw> {
     is_count(table[4 * (n - 1)]).then_some(Flaw::LastIsCount)
 }
 
-/// All refusals of a fresh state that apply, in their order.
+/// All refusals of a fresh state that apply, in the order of SPEC 8.4.
 pub fn fresh_refusals(table: &[u32], n: usize, state: &[u32]) -> Vec<u32> {
     let mut refusals: Vec<u32> = flaw(table, n).into_iter().map(Flaw::refusal).collect();
     if state.len() < n {
@@ -73,7 +75,7 @@ pub fn fresh_refusals(table: &[u32], n: usize, state: &[u32]) -> Vec<u32> {
     refusals
 }
 
-/// Makes a fresh state.
+/// SPEC 8.4: makes a fresh state. Only the cells of memories (SPEC 5.7) are written.
 pub fn fresh_state(table: &[u32], n: usize, state: &mut [u32]) -> Answer {
     if let Some(refusal) = fresh_refusals(table, n, state).first() {
         return Answer::refused(*refusal);
@@ -88,7 +90,7 @@ pub fn fresh_state(table: &[u32], n: usize, state: &mut [u32]) -> Answer {
     Answer::given(0)
 }
 
-/// All refusals of a step that apply, in their order.
+/// All refusals of a step that apply, in the order of SPEC 8.5: of the table, then SPEC 7.12, SPEC 7.13, SPEC 7.14.
 pub fn step_refusals(table: &[u32], n: usize, state: &[u32], values: &[u32], tick: &Tick) -> Vec<u32> {
     let flaw = flaw(table, n);
     let outside = |i: usize| table[4 * i] == 6 && state[i] > 1 || table[4 * i] == 7 && state[i] > 1_000_000;
@@ -103,7 +105,7 @@ pub fn step_refusals(table: &[u32], n: usize, state: &[u32], values: &[u32], tic
     refusals
 }
 
-/// The flow of equation i, after those before it.
+/// SPEC 5.3: the flow of equation i, after those before it.
 fn flow(table: &[u32], i: usize, flows: &[u32], cell: u32, tick: &Tick) -> u32 {
     let [k, a, b, c] = equation(table, i);
     let of = |x: u32| flows[x as usize];
@@ -124,7 +126,7 @@ fn flow(table: &[u32], i: usize, flows: &[u32], cell: u32, tick: &Tick) -> u32 {
     }
 }
 
-/// One step.
+/// SPEC 8.5: one step. It fills the values (SPEC 5.9), and each memory's cell with what that gives next (SPEC 5.8).
 pub fn step(table: &[u32], n: usize, state: &mut [u32], values: &mut [u32], tick: &Tick) -> Answer {
     if let Some(refusal) = step_refusals(table, n, state, values, tick).first() {
         return Answer::refused(*refusal);

@@ -24,7 +24,7 @@ pub enum Outcome {
     /// A step of a random table, and of a rule's table.
     Step(u32),
     RuleStep(u32),
-    /// A refused step with start set, which does not count.
+    /// A refused step with start set, which is no start (SPEC 6.2).
     RefusedStart,
     /// The verdict of a rule with this root at a tick after a start.
     Verdict(Root, u32),

@@ -1,4 +1,5 @@
-//! Whole cards: the program `towerwatch` is started for each, and has to print what document 01 says of it.
+//! Whole cards: the program `towerwatch` is started for each, and has to print what SPEC 10.10 has for it (SPEC 11.1),
+//! in whatever pieces it gets the card (SPEC 11.2), and to end with exit status 0 (SPEC 11.3).
 
 use super::{same, show, Run};
 use crate::card::make::random_card;

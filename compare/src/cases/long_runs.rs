@@ -1,4 +1,5 @@
-//! Runs past the cap of counts: the verdicts of counts far above it, against numbers next to it.
+//! Runs past the cap of counts (SPEC 5.2): the verdicts have to be those of counts with no cap (SPEC 4.8), far above
+//! it, against numbers next to it.
 
 use super::{same, show, Run};
 use crate::archive::{self, Answer, Tick};

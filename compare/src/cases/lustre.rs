@@ -1,4 +1,4 @@
-//! Tables written as Lustre text, and texts, damaged or not, read back.
+//! Tables written as Lustre text (SPEC 8.6), and texts, damaged or not, read back (SPEC 8.7).
 
 use super::{same, show, Run};
 use crate::archive::{self, Answer};

@@ -1,4 +1,5 @@
-//! Random rules: read, compiled, and run over random ticks with refused calls among them.
+//! Random rules: read, compiled, and run over random ticks with refused calls among them (SPEC 6.1), which are no ticks
+//! (SPEC 6.2). The verdicts have to be those of the interval meaning (SPEC 12.3).
 
 use super::{same, show, Run};
 use crate::archive::{self, Answer, Tick};
@@ -18,7 +19,7 @@ struct Ticks {
     steady: u64,
 }
 
-/// A rule with its ticks and the verdicts that document 01 has for them.
+/// A rule with its ticks and the verdicts that SPEC 4.10 has for them.
 struct Plan {
     rule: Rule,
     parameters: [u32; 8],
@@ -63,7 +64,8 @@ struct Bench {
 }
 
 impl Bench {
-    /// Reads and compiles the rule, and makes the fresh state over numbers that stood there.
+    /// Reads and compiles the rule, counts its memories (SPEC 12.3), and makes the fresh state over numbers that stood
+    /// there.
     fn new(run: &mut Run, text: &[u8], nodes: u32, name: String) -> Bench {
         let mut table = run.junk.clone();
         let answer = archive::compile(text, &mut table);
@@ -81,7 +83,8 @@ impl Bench {
         let values = run.random.numbers(n + 3);
         Bench { name, table, n, state, values }
     }
-    /// A call that is refused: for a parameter, or for a short state or values.
+    /// A call that is refused: for a parameter (SPEC 7.13), or for a short state or values (SPEC 7.12). All that was
+    /// lent stays (SPEC 1.4).
     fn refused_call(&mut self, run: &mut Run, parameters: &[u32; 8]) {
         let random = &mut run.random;
         let mut tick = Tick { start: random.pick(&[0, 1]), signals: random.next(), parameters: *parameters };

@@ -1,4 +1,4 @@
-//! Random tables, damaged or not, under fresh state and steps with buffers of any length.
+//! Random tables, damaged or not, under fresh state (SPEC 8.4) and steps (SPEC 8.5) with buffers of any length.
 
 use super::{same, Run};
 use crate::archive::{self, Tick};

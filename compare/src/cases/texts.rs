@@ -1,4 +1,4 @@
-//! Reading and compiling random and damaged texts, and comparing two.
+//! Reading (SPEC 8.1) and compiling (SPEC 8.2) random and damaged texts, and comparing two (SPEC 8.3).
 
 use super::{same, show, Run};
 use crate::archive::{self, Answer};
@@ -24,7 +24,8 @@ pub fn text_case(run: &mut Run, number: u64) {
     compile_case(run, &text, wanted.refusal, number);
 }
 
-/// Compiling it into a table of some length: what reading refuses, then 9.
+/// Compiling it into a table of some length: what reading refuses, then 9 (SPEC 7.9). What stands behind the table's
+/// equations is kept (SPEC 1.5).
 fn compile_case(run: &mut Run, text: &[u8], read_refusal: u32, number: u64) {
     let length = run.random.pick(&[0, 1, 16383, 16384, 16390]);
     let before = &run.junk[..length];

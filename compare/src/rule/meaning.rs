@@ -1,4 +1,4 @@
-//! The interval meaning (document 01), straight from its sentences: slow and plain.
+//! The interval meaning, straight from its clauses: slow and plain.
 
 use super::{compare, Num, Prop, Rule, Test};
 
@@ -7,6 +7,7 @@ pub struct Moment {
     pub signals: u64,
 }
 
+/// SPEC 4.1: a proposition at a tick with these signals.
 pub fn holds(p: &Prop, signals: u64) -> bool {
     match p {
         Prop::Constant(c) => *c,
@@ -17,6 +18,7 @@ pub fn holds(p: &Prop, signals: u64) -> bool {
     }
 }
 
+/// SPEC 4.8: the number that a count is compared with.
 fn value(n: Num, parameters: &[u32; 8]) -> u64 {
     match n {
         Num::Literal(n) => u64::from(n),
@@ -24,7 +26,8 @@ fn value(n: Num, parameters: &[u32; 8]) -> u64 {
     }
 }
 
-/// The rule on ticks b to e.
+/// The rule on ticks b to e: tests at the ends (SPEC 4.2) and throughout (SPEC 4.3), counts (SPEC 4.4, SPEC 4.5),
+/// formulas joined (SPEC 4.7) and `then` (SPEC 4.6).
 pub fn meaning(r: &Rule, trace: &[Moment], parameters: &[u32; 8], b: usize, e: usize) -> bool {
     let at = |p: &Prop, i: usize| holds(p, trace[i].signals);
     match r {
@@ -51,12 +54,12 @@ pub fn meaning(r: &Rule, trace: &[Moment], parameters: &[u32; 8], b: usize, e: u
     }
 }
 
-/// The latest tick with start set, up to e.
+/// SPEC 4.9: where the interval of tick e begins.
 pub fn started(trace: &[Moment], e: usize) -> Option<usize> {
     (0..=e).rev().find(|i| trace[*i].start)
 }
 
-/// The verdict at tick e.
+/// SPEC 4.10: the verdict at tick e.
 pub fn verdict(r: &Rule, trace: &[Moment], parameters: &[u32; 8], e: usize) -> u32 {
     match started(trace, e) {
         None => 1,

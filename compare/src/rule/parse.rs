@@ -1,4 +1,4 @@
-//! Reading a rule text (document 01, "Grammar" and "Read a rule"): refusals 5 to 8, after those of its words.
+//! Reading a rule text (SPEC 8.1): refusals 5 to 8 (SPEC 7.5, SPEC 7.6, SPEC 7.7, SPEC 7.8), after those of its words.
 
 use super::words::{words, Word};
 use super::{has_leads, Num, Op, Prop, Rule};
@@ -24,6 +24,7 @@ impl Parser<'_> {
         }
         None
     }
+    /// SPEC 3.1.
     fn f(&mut self) -> Option<Rule> {
         let left = self.d()?;
         if self.eat(Word::Then).is_some() {
@@ -34,6 +35,7 @@ impl Parser<'_> {
         }
         Some(left)
     }
+    /// SPEC 3.2.
     fn d(&mut self) -> Option<Rule> {
         let mut left = self.c()?;
         while self.eat(Word::Or).is_some() {
@@ -41,6 +43,7 @@ impl Parser<'_> {
         }
         Some(left)
     }
+    /// SPEC 3.3.
     fn c(&mut self) -> Option<Rule> {
         let mut left = self.u()?;
         while self.eat(Word::And).is_some() {
@@ -48,6 +51,7 @@ impl Parser<'_> {
         }
         Some(left)
     }
+    /// SPEC 3.4, with the atoms of SPEC 3.5.
     fn u(&mut self) -> Option<Rule> {
         match self.next()? {
             Word::Not => Some(Rule::Not(Box::new(self.u()?))),
@@ -92,6 +96,7 @@ impl Parser<'_> {
         self.eat(Word::SquareClose)?;
         Some(p)
     }
+    /// SPEC 3.6, in three functions as for formulas.
     fn pd(&mut self) -> Option<Prop> {
         let mut left = self.pc()?;
         while self.eat(Word::Or).is_some() {
@@ -121,7 +126,7 @@ impl Parser<'_> {
     }
 }
 
-/// The most round brackets that are open at some word, and how many of `!`, `then`, `chop`, `exists` there are.
+/// SPEC 2.10: the most round brackets that are open at a word, and how many of the four counted words there are.
 fn extent(words: &[Word]) -> (usize, usize) {
     let (mut open, mut most, mut counted) = (0usize, 0, 0);
     for w in words {
@@ -172,7 +177,7 @@ pub enum Limit {
     Operators,
 }
 
-/// The limits that a text with a rule reaches exactly: 2,048 bytes, 240 words, 16 brackets, 32 operators.
+/// The limits that a text with a rule reaches exactly: of SPEC 2.1, of SPEC 2.9, and the two of SPEC 2.10.
 pub fn limits(text: &[u8]) -> Vec<Limit> {
     let words = words(text).expect("a text with a rule");
     let (open, counted) = extent(&words);

@@ -1,4 +1,5 @@
-//! Texts that mostly are no rules: random words, rules outside the fragment, damaged bytes, and texts at the limits.
+//! Texts that mostly are no rules: random words, rules outside the fragment (SPEC 3.10), damaged bytes, and texts at
+//! the limits.
 
 use super::make::random_rule;
 use super::{text_of, Rule};

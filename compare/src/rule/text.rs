@@ -1,4 +1,4 @@
-//! Texts of rules, with spaces and brackets that do not change the tree.
+//! Texts of rules, with spaces and brackets that do not change the tree (SPEC 3.7).
 
 use super::{Num, Op, Prop, Rule, OPS, TESTS};
 use crate::random::Random;

@@ -1,4 +1,4 @@
-//! The words of a rule text (document 01, "Rule text"): refusals 1 to 4.
+//! The words of a rule text: refusals 1 to 4 (SPEC 7.1, SPEC 7.2, SPEC 7.3, SPEC 7.4).
 
 use super::{Op, Test, TESTS};
 
@@ -24,7 +24,7 @@ pub enum Word {
     Parameter(u32),
 }
 
-/// A number with no needless 0, up to max: else 2 or 3.
+/// A number up to max, its digits by SPEC 2.8: else 2 or 3.
 fn number(digits: &[u8], max: u64) -> Result<u32, u32> {
     if digits.is_empty() || digits.iter().any(|b| !b.is_ascii_digit()) {
         return Err(2);
@@ -39,6 +39,7 @@ fn number(digits: &[u8], max: u64) -> Result<u32, u32> {
     Ok(value as u32)
 }
 
+/// The word of a run: a name (SPEC 2.5), a signal or a parameter (SPEC 2.6), a literal (SPEC 2.7).
 fn run_word(run: &[u8]) -> Result<Word, u32> {
     for (test, name) in TESTS {
         if run == name.as_bytes() {
@@ -60,7 +61,7 @@ fn run_word(run: &[u8]) -> Result<Word, u32> {
     }
 }
 
-/// The word at the front of a text that has no space there, and its length.
+/// The word at the front of a text that has no space there, and its length: an operator (SPEC 2.3) or a run (SPEC 2.4).
 fn first_word(text: &[u8]) -> Result<(Word, usize), u32> {
     let is_run = |b: u8| b.is_ascii_lowercase() || b.is_ascii_digit();
     let followed = text.get(1) == Some(&b'=');
@@ -85,7 +86,8 @@ fn first_word(text: &[u8]) -> Result<(Word, usize), u32> {
     })
 }
 
-/// The words of a text, or the first of the refusals 1 to 4.
+/// The words of a text, with spaces between (SPEC 2.2), or the first of the refusals 1 to 4, in the order of SPEC 8.1:
+/// the length of the text (SPEC 2.1), then word by word the number of words (SPEC 2.9) and each word.
 pub fn words(text: &[u8]) -> Result<Vec<Word>, u32> {
     if text.is_empty() || text.len() > 2048 {
         return Err(1);

@@ -1,9 +1,9 @@
-//! Lustre text of tables, both ways (document 01, "Equations").
+//! Lustre text of tables, both ways.
 
 use super::{equation as numbers_of, flaw};
 use crate::rule::OPS;
 
-/// The Lustre text of a well-formed table.
+/// SPEC 9.1, with the lines of SPEC 9.2: the Lustre text of a well-formed table.
 pub fn lustre(table: &[u32], n: usize) -> Vec<u8> {
     let mut text = String::from("let\n");
     for i in 0..n {
@@ -13,6 +13,7 @@ pub fn lustre(table: &[u32], n: usize) -> Vec<u8> {
     text.into_bytes()
 }
 
+/// The texts of SPEC 5.3, with the constants of SPEC 9.3 and numbers and comparisons by SPEC 9.4.
 fn right_side([k, a, b, c]: [u32; 4]) -> String {
     match k {
         0 => format!("s{a}"),
@@ -90,7 +91,7 @@ fn compared(right: &str) -> Option<[u32; 4]> {
     None
 }
 
-/// The table whose text is exactly these bytes.
+/// SPEC 8.7: the table whose text these bytes are, if there is one (SPEC 7.16).
 pub fn read_lustre(text: &[u8]) -> Option<Vec<u32>> {
     let mut table = Vec::new();
     for line in std::str::from_utf8(text).ok()?.split('\n') {
