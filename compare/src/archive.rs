@@ -55,6 +55,7 @@ pub fn fresh_state(table: &[u32], n: usize, state: &mut [u32]) -> Answer {
     unsafe { towerwatch_fresh_state(table.as_ptr(), table.len(), n, state.as_mut_ptr(), state.len()) }
 }
 
+/// SPEC 1.1: a tick as numbers.
 pub struct Tick {
     pub start: u32,
     pub signals: u64,

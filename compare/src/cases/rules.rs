@@ -108,7 +108,8 @@ impl Bench {
             run.tally.add(Outcome::RefusedStart);
         }
     }
-    /// A tick, whose verdict is the interval meaning's and whose flows and cells are the table's.
+    /// A tick, whose step is not refused (SPEC 6.5), whose verdict is the interval meaning's, and whose flows and cells
+    /// are the table's (SPEC 6.4).
     fn tick(&mut self, run: &mut Run, plan: &Plan, e: usize) {
         let start = if plan.trace[e].start { run.random.pick(&[1, 1, 7, u32::MAX]) } else { 0 };
         let tick = Tick { start, signals: plan.trace[e].signals, parameters: plan.parameters };
