@@ -1,7 +1,7 @@
 //! Compares the archive's functions and the program with evaluators written from docs/SPECIFICATION.md and not from our
-//! code, on random and damaged inputs. Every lent number is checked after every call (SPEC 12.1). It stops at the first
-//! difference and prints the case; it fails too where some outcome came up too rarely to say that it was compared
-//! (tally.rs).
+//! code, on random and damaged inputs (SPEC 14.4). Every lent number is checked after every call (SPEC 12.1). It stops
+//! at the first difference and prints the case; it fails too where some outcome came up too rarely to say that it was
+//! compared (tally.rs).
 //!
 //!     compare PROGRAM [PERCENT [SEED]]      PROGRAM is towerwatch; PERCENT of the gate's cases (100 if not said,
 //!                                           cases.rs has their numbers); SEED 1 if not said
