@@ -1,5 +1,5 @@
--- Laws that pin the interval meaning: what it is on a single tick, and that a lead only goes from true to false.
--- Assumes nothing.
+-- Laws that pin the interval meaning: what it is on a single tick, and that a lead which is false stays false as the
+-- interval grows (SPEC 3.9). Assumes nothing.
 use mathlib.Core.Path.{_≡_, refl, ap, _∙_}
 use mathlib.Core.Bool.{Bool, true, false, _||_, cond, false≢true, and-eq-true-iff, or-true}
 use Prim.Native.Nat.{ℕ, zero, suc, _-_, _≤_}
@@ -106,7 +106,7 @@ module _ (trace : Trace) (same : (i j : ℕ) → (trace i) .parameters ≡ (trac
   later : (b e : ℕ) → b ≤ e → suc e - b ≡ suc (e - b)
   later b e h = omega arith
 
-  -- A lead that is true on b to e + 1 is true on b to e: it only goes from true to false.
+  -- SPEC 3.9: a lead that is true on b to e + 1 is true on b to e.
   pub lead-falls : (f : Formula) → lead (raw f) ≡ true → (b e : ℕ) → b ≤ e →
       meaning trace f b (suc e) ≡ true → meaning trace f b e ≡ true
   lead-falls (test begin p) l b e h m = m

@@ -54,7 +54,7 @@ CHOP = 16
 abbrev pub EXISTS : ℕ
 EXISTS = 17
 
--- The tests and the counts, numbered in document 01's order.
+-- The tests and the counts, numbered in the order of SPEC 3.5.
 abbrev pub testNumber : Test → ℕ
 testNumber begin = 0
 testNumber end = 1
@@ -66,7 +66,7 @@ abbrev pub countNumber : Count → ℕ
 countNumber sum = 0
 countNumber age = 1
 
--- What a count is compared with: a literal or a parameter.
+-- What a count is compared with (SPEC 3.5).
 abbrev pub LITERAL : ℕ
 LITERAL = 0
 

@@ -1,6 +1,5 @@
--- The numbers that a rule can name: "`s` with a number (signal 0 to 63) or `k` with a number (parameter 0 to 7).
--- A literal is 0 to 999,999." Literals are below a limit, which is `literalCount` where a text is read.
--- Definitions only.
+-- The numbers that a rule can name: signals and parameters (SPEC 2.6), and literals (SPEC 2.7) below a limit, which is
+-- `literalCount` where a text is read. Definitions only.
 use mathlib.Core.Bool.{Bool, true, _&&_}
 use Prim.Native.Nat.{ℕ}
 use lib.Dec.{ltb}

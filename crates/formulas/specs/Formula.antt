@@ -1,15 +1,14 @@
--- Rules of the fragment: propositions P and formulas F (000, sections 2 and 6). Definitions only.
+-- Rules of the fragment (SPEC 3.10): propositions P and formulas F. Definitions only.
 use mathlib.Core.Bool.{Bool}
 use Prim.Native.Nat.{ℕ}
 use Rattle.traces.specs.Compare.{Op}
 
--- "n a literal or a parameter"
+-- SPEC 3.5: n, which a count is compared with.
 pub data Num : Type 0 where
   literal : ℕ → Num
   parameter : ℕ → Num
 
--- "P: like D, C and U with its own round brackets, over `!`, `0`, `1` and signals."
--- A constant is `0` or `1`.
+-- SPEC 3.6: propositions. A constant is `0` or `1`.
 pub data Prop : Type 0 where
   constant : Bool → Prop
   signal : ℕ → Prop
@@ -17,15 +16,15 @@ pub data Prop : Type 0 where
   andP : Prop → Prop → Prop
   orP : Prop → Prop → Prop
 
--- The atoms `begin[P]`, `end[P]`, `point[P]`, `held[P]`, `kept[P]`,
+-- SPEC 3.5: the tests, which have a P,
 pub data Test : Type 0 where
   begin end point held kept : Test
 
--- and `sum[P]` op n, `age[P]` op n.
+-- and the counts, which have a P, a comparison and n.
 pub data Count : Type 0 where
   sum age : Count
 
--- "U: `!` U, or .., or an atom", "joined by `|`", "U joined by `&`", "D `then` F"
+-- SPEC 3.7: a rule's tree: atoms, and what `!`, `&`, `|` and `then` make of formulas.
 pub data Formula : Type 0 where
   test : Test → Prop → Formula
   len : Op → Num → Formula

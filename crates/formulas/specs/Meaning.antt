@@ -1,5 +1,4 @@
--- The interval meaning of a formula on ticks b to e, b <= e, of a trace (document 01, "Interval meaning").
--- Definitions only.
+-- The interval meaning (SPEC 4.1 to SPEC 4.10) of a formula on an interval b to e of a trace. Definitions only.
 use mathlib.Core.Bool.{Bool, true, false, not, _&&_, _||_, cond}
 use mathlib.Core.Option.{Option, none, some}
 use Prim.Native.Nat.{ℕ, zero, suc, _-_}
@@ -14,7 +13,7 @@ use Rattle.formulas.specs.Formula.Test.{begin, end, point, held, kept}
 use Rattle.formulas.specs.Formula.Count.{sum, age}
 use Rattle.formulas.specs.Formula.Formula.{test, len, count, neg, and, or, then}
 
--- "`!`, `&`, `|`: not, and, or, .. of P at a tick. In P, `0` is never, `1` always, a signal its bit at the tick."
+-- SPEC 4.1: P at a tick. A constant is its truth value, a signal says whether it is on.
 abbrev pub holds : Prop → Tick → Bool
 holds (constant c) k = c
 holds (signal j) k = signalAt k j
@@ -22,7 +21,7 @@ holds (negP p) k = not (holds p k)
 holds (andP p q) k = holds p k && holds q k
 holds (orP p q) k = holds p k || holds q k
 
--- The value of n: "A parameter is its value at these ticks."
+-- SPEC 4.8: the value of n, a literal's own or what the parameter is at the tick.
 abbrev pub value : Num → Tick → ℕ
 value (literal n) k = n
 value (parameter j) k = parameterAt k j
@@ -40,7 +39,7 @@ abbrev pub tally : (ℕ → Bool) → ℕ → ℕ → ℕ
 tally p i zero = 0
 tally p i (suc n) = cond (p i) (suc (tally p (suc i) n)) (tally p (suc i) n)
 
--- How many numbers in a row up to and including e have p, of at most n + 1.
+-- How many numbers have p without a gap, counted back from e itself, of at most n + 1.
 abbrev pub streak : (ℕ → Bool) → ℕ → ℕ → ℕ
 streak p zero n = cond (p zero) 1 0
 streak p (suc e) zero = cond (p (suc e)) 1 0
@@ -51,13 +50,10 @@ module _ (trace : Trace) where
   abbrev pub at : Prop → ℕ → Bool
   at p i = holds p (trace i)
 
-  -- The formula on ticks b to e:
-  -- "`begin[P]`: P at b. `end[P]`: P at e. `point[P]`: b = e and P at b.
-  --  `kept[P]`: P at each i, b <= i < e. `held[P]`: that, and b < e.
-  --  `len`: e − b. `sum[P]`: how many i with b <= i < e have P.
-  --  `age[P]`: how many ticks in a row up to and including e, none before b, have P.
-  --  L `then` F: some m, b <= m < e, has L on b to m, not L on b to m+1, and F on m+1 to e.
-  --  `!`, `&`, `|`: not, and, or, of F on the interval"
+  -- The formula on b to e. SPEC 4.2: `begin` and `end` ask for P at that end, `point` for a single tick with P.
+  -- SPEC 4.3: `kept` asks for P at every tick before e, `held` for such a tick as well. SPEC 4.4, SPEC 4.5: `sum` leaves
+  -- out e, `age` begins with it. SPEC 4.8: these and `len` are compared with the value of n at e. SPEC 4.7: `!`, `&`,
+  -- `|`. SPEC 4.6: `then` asks for an m after which the left part is false, and the right part begins.
   abbrev pub meaning : Formula → ℕ → ℕ → Bool
   meaning (test begin p) b e = at p b
   meaning (test end p) b e = at p e
@@ -73,16 +69,16 @@ module _ (trace : Trace) where
   meaning (then l f) b e =
       any (λ m. meaning l b m && (not (meaning l b (suc m)) && meaning f (suc m) e)) b (e - b)
 
-  -- "b is the latest tick with start set, e the present one."
+  -- SPEC 4.9: the latest start up to e, if there is one.
   abbrev pub latest : ℕ → Option ℕ
   latest zero = cond (starts (trace zero)) (some zero) none
   latest (suc e) = cond (starts (trace (suc e))) (some (suc e)) (latest e)
 
-  -- "Before the first start the verdict is 1."
+  -- SPEC 4.10: without a start 1, else what holds from that start on.
   abbrev pub since : (ℕ → Bool) → Option ℕ → ℕ
   since on none = 1
   since on (some b) = truth (on b)
 
-  -- The verdict at tick e: "1 if the rule holds on b to e and 0 if it doesn't".
+  -- SPEC 4.10: the verdict at tick e.
   abbrev pub verdict : Formula → ℕ → ℕ
   verdict f e = since (λ b. meaning f b e) (latest e)

@@ -1,5 +1,5 @@
--- The tree that a rule text's grammar gives, with all that the grammar has: propositions inside square brackets,
--- formulas outside, and `chop` and `exists`, which the fragment leaves out. Definitions only.
+-- The tree that a rule text's grammar gives (SPEC 3.7), with all that the grammar has: propositions inside square
+-- brackets, formulas outside, and `chop` and `exists`, which the fragment leaves out (SPEC 3.10). Definitions only.
 use mathlib.Core.Bool.{Bool, true, false, _&&_}
 use mathlib.Core.Option.{Option, none, some}
 use Prim.Native.Nat.{ℕ, _+_}
@@ -23,8 +23,7 @@ pub data Tree : Type 0 where
   len : Op → Num → Tree
   count : Count → Tree → Op → Num → Tree
 
--- "Each atom, `!`, `&`, `|` and `then` outside square brackets is one node."
--- (`chop` and `exists` are none; what an atom has in square brackets is not looked at.)
+-- SPEC 3.8: the number of nodes. `chop` and `exists` are none; what an atom has in square brackets is not looked at.
 abbrev pub nodes : Tree → ℕ
 nodes (constant c) = 0
 nodes (signal j) = 0
@@ -38,7 +37,7 @@ nodes (test k p) = 1
 nodes (len o n) = 1
 nodes (count k p o n) = 1
 
--- "with `<=` or `<`"
+-- SPEC 3.9: the comparisons that a lead may have.
 abbrev pub upper : Op → Bool
 upper le = true
 upper lt = true
@@ -59,7 +58,7 @@ abbrev pub leadCount : Count → Bool
 leadCount sum = true
 leadCount age = false
 
--- "A lead is made of `begin`, `kept`, `len` and `sum` with `<=` or `<`, and `&`, `|`, brackets."
+-- SPEC 3.9: leads, of these atoms and `len`, by `&` and `|` alone.
 abbrev pub lead : Tree → Bool
 lead (constant c) = false
 lead (signal j) = false
@@ -73,7 +72,7 @@ lead (test k p) = leadTest k
 lead (len o n) = upper o
 lead (count k p o n) = leadCount k && upper o
 
--- "The D left of a `then` must be a lead": of every `then`, wherever it stands.
+-- SPEC 3.10: every `then`, wherever it stands, has a lead on its left.
 abbrev pub leads : Tree → Bool
 leads (constant c) = true
 leads (signal j) = true
@@ -111,7 +110,7 @@ propOf (test k p) = none
 propOf (len o n) = none
 propOf (count k p o n) = none
 
--- The formula of a tree; one with `chop` or `exists` has none, and so no meaning.
+-- SPEC 3.7: the formula of a tree; one with `chop` or `exists` has none, and so no meaning.
 abbrev pub formulaOf : Tree → Option Formula
 formulaOf (constant c) = none
 formulaOf (signal j) = none

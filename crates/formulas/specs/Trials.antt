@@ -1,6 +1,6 @@
--- The trial runs P1 to P13 (document 01, "Trial runs") as rows of one table, further rows for what those leave out, and
--- the verdicts that the meaning gives for a row. Every crate that shows something of the trial runs cites these rows.
--- Definitions only.
+-- The trial runs P1 to P13 (SPEC 14.1) as rows of one table, further rows for what those leave out, and the verdicts
+-- that the meaning gives for a row. Every crate that shows something of the trial runs cites these rows. Definitions
+-- only.
 use mathlib.Core.Bool.{true, false}
 use mathlib.Core.List.{List, [], _∷_}
 use Prim.Native.Nat.{ℕ, zero, suc}
@@ -33,7 +33,7 @@ trial t f n ss vs = record { text = t; formula = f; nodes = n; starts = ss; verd
 abbrev pub five : ℕ → ℕ → ℕ → ℕ → ℕ → List ℕ
 five a b c d e = a ∷ b ∷ c ∷ d ∷ e ∷ []
 
--- "start at tick 0 only unless said"
+-- The starts where a row names no others: tick 0 alone.
 abbrev pub first : List ℕ
 first = five 1 0 0 0 0
 
@@ -43,7 +43,7 @@ s0 = signal 0
 abbrev pub s1 : Prop
 s1 = signal 1
 
--- P1 to P13. 11 starts at 1 and 3, 13 at 0 and 3.
+-- SPEC 14.1: P1 to P13.
 abbrev pub trials : List Trial
 trials =
     trial "kept[s0]" (test kept s0) 1 first (five 1 1 1 0 0)
@@ -63,9 +63,9 @@ trials =
     (five 0 1 1 0 1)
     ∷ []
 
--- Further rows on the same signals, their verdicts worked out by hand from document 01, "Interval meaning": `!`, `&`,
--- `|` and `0` in P; `!`, `&` and `|` of formulas; `&` that binds closer than `|`; a second start, and none at tick 0;
--- an age that breaks off, and one that a start cuts; a lead that falls late; a `then` in a `then`.
+-- Further rows on the same signals, their verdicts worked out by hand from SPEC 4.1 to SPEC 4.10: `!`, `&`, `|` and `0`
+-- in P; `!`, `&` and `|` of formulas; `&` that binds closer than `|`; a second start, and none at tick 0; an age that
+-- breaks off, and one that a start cuts; a lead that falls late; a `then` in a `then`.
 abbrev pub furtherTrials : List Trial
 furtherTrials =
     trial "end[!s0]" (test end (negP s0)) 1 first (five 0 0 1 0 0)
@@ -94,11 +94,11 @@ furtherTrials =
 abbrev pub blank : Trial
 blank = trial "" (len le (literal 0)) 0 [] []
 
--- "s0 = 1,1,0,1,1 and s1 = 0,0,1,0,1"
+-- SPEC 14.1: signals 0 and 1 at the five ticks, as bits 0 and 1.
 abbrev pub signals : List ℕ
 signals = five 1 1 2 1 3
 
--- "k0 = 0", and the other parameters too.
+-- SPEC 14.1: `k0` is 0, and so are the other parameters here.
 abbrev pub noughts : List ℕ
 noughts = replicate parameterCount 0
 

@@ -1,11 +1,11 @@
--- The numbers of document 01 that several crates name, each in this one place. Definitions only.
+-- The numbers of the specification that several crates name, each in this one place. Definitions only.
 use Prim.Native.Nat.{ℕ, _*_, _-_}
 
--- "1 to 2,048 bytes"
+-- SPEC 2.1: the bytes that a rule text can have.
 abbrev pub textLimit : ℕ
 textLimit = 2048
 
--- "at most 240 words"
+-- SPEC 2.9: the words that a rule can have.
 abbrev pub wordLimit : ℕ
 wordLimit = 240
 
@@ -16,42 +16,42 @@ recordLimit = 2 * wordLimit
 abbrev pub arenaLimit : ℕ
 arenaLimit = 4 * recordLimit
 
--- "signal 0 to 63"
+-- SPEC 2.6: how many signals there are, numbered from 0.
 abbrev pub signalCount : ℕ
 signalCount = 64
 
--- "a boolean (0, 1)"
+-- SPEC 5.2: how many values a boolean has.
 abbrev pub truthCount : ℕ
 truthCount = 2
 
--- "op is 0 `<=`, 1 `<`, 2 `=`, 3 `>`, 4 `>=`."
+-- SPEC 5.3: how many comparisons an equation can name; SPEC 1.3 has them.
 abbrev pub comparisonCount : ℕ
 comparisonCount = 5
 
--- "A literal is 0 to 999,999.", for every cap.
+-- SPEC 2.7: how many literals there are, from 0 on, for every cap.
 abbrev pub literalCount : ℕ
 literalCount = 1000000
 
--- The highest literal, and the highest number of a card.
+-- The highest literal (SPEC 2.7), and the highest number of a card (SPEC 10.3, SPEC 10.5).
 abbrev pub lastLiteral : ℕ
 lastLiteral = literalCount - 1
 
--- "parameter 0 to 7"
+-- SPEC 2.6: how many parameters there are, numbered from 0.
 abbrev pub parameterCount : ℕ
 parameterCount = 8
 
--- "a count (0 to 1,000,000)": the cap of document 01; the definitions of a step take any.
+-- SPEC 5.2: the cap of counts; the definitions of a step take any.
 abbrev pub standardCap : ℕ
 standardCap = 1000000
 
--- "A table has 1 to 4,096 equations."
+-- SPEC 5.6: the equations that a table can have.
 abbrev pub equationLimit : ℕ
 equationLimit = 4096
 
--- "9: the lent table has under 16,384 numbers": four for each equation.
+-- SPEC 7.9: the numbers that a table lent for a result needs, four for each equation (SPEC 5.6).
 abbrev pub tableRoom : ℕ
 tableRoom = 4 * equationLimit
 
--- "at most 4,096 bytes with it": a line of a card, with its byte 10.
+-- SPEC 10.1: the bytes that a line of a card can have, its byte 10 included.
 abbrev pub lineLimit : ℕ
 lineLimit = 4096

@@ -1,7 +1,7 @@
--- An operation's reply as document 01 has it. Definitions only.
+-- An operation's reply. Definitions only.
 use Prim.Native.Nat.{ℕ}
 
--- "A refusal gives its number and no other result (0 elsewhere)"
+-- SPEC 1.4: the refusal's number, 0 where there is none, and the result, 0 beside a refusal.
 pub record Reply : Type 0 where
   pub refusal : ℕ
   pub result : ℕ

@@ -1,5 +1,5 @@
-// The numbers of document 01 that several crates name, each in this one place. specs/Limits.antt has the same
-// numbers.
+// The numbers of the specification that several crates name, each in this one place. specs/Limits.antt has the same
+// numbers, with their clauses.
 
 // The bytes that a rule text can have.
 pub const TEXT: usize = 2048;
@@ -26,7 +26,7 @@ pub const PARAMETERS: usize = 8;
 // The highest literal, and the highest number of a card.
 pub const LAST_LITERAL: u32 = LITERALS - 1;
 
-// The highest count. The definitions of a step take any cap, and this is the one of document 01.
+// The highest count (SPEC 5.2). The definitions of a step take any cap, and this is the one of the specification.
 pub const CAP: u32 = 1000000;
 
 // The equations that a table can have.

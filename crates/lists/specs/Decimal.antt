@@ -34,7 +34,7 @@ digitsAfter max v (b ∷ l) =
     let more = digitsAfter max (v * 10 + digitValue b) l in
     cond (isDigit b) more (settled max v (b ∷ l))
 
--- The number at the front, up to max. After a first digit 0 no digit is read.
+-- The number at the front, up to max. SPEC 2.8: after a first digit 0 no digit is read.
 unfoldable pub numeral : ℕ → List ℕ → Numeral
 numeral max [] = missing
 numeral max (b ∷ l) = cond (eqb b (byte "0")) (is 0 l) (cond (isDigit b) (digitsAfter max (digitValue b) l) missing)

@@ -1,11 +1,11 @@
--- The bytes of a quoted text, so that specifications can write texts as document 01 does. Definitions only.
+-- The bytes of a text in quotes, so that definitions can write texts by their characters. Definitions only.
 use mathlib.Core.List.{List}
 use Prim.Native.Nat.{ℕ}
 use Prim.Native.Char.{code}
 use Prim.Native.String.{String}
 use Rattle.lists.specs.Number.{numberAt}
 
--- The codes of a text's characters: for the characters of document 01, its bytes.
+-- The codes of a text's characters: for characters of ASCII, its bytes.
 abbrev pub bytes : String → List ℕ
 bytes String.[] = List.[]
 bytes (String._∷_ c s) = List._∷_ (code c) (bytes s)
@@ -14,6 +14,6 @@ bytes (String._∷_ c s) = List._∷_ (code c) (bytes s)
 abbrev pub byte : String → ℕ
 byte s = numberAt (bytes s) 0
 
--- "Lines end in byte 10" (document 01, "towerwatch" and "Equations").
+-- SPEC 10.1: the byte at the end of a card's line; SPEC 9.1: of a line of Lustre text too.
 abbrev pub lineEnd : ℕ
 lineEnd = 10

@@ -1,15 +1,15 @@
--- The five comparisons of document 01, in the order of equation kind 10. Definitions only.
+-- The five comparisons, in the order of their numbers. Definitions only.
 use mathlib.Core.Bool.{Bool}
 use mathlib.Core.List.{List, [], _∷_}
 use Prim.Native.Nat.{ℕ}
 use lib.Dec.{leb, ltb, eqb}
 use lib.ListN.{getD}
 
--- "op is one of the five comparisons"
+-- SPEC 1.3: the comparisons,
 pub data Op : Type 0 where
   le lt eq gt ge : Op
 
--- "op is 0 `<=`, 1 `<`, 2 `=`, 3 `>`, 4 `>=`."
+-- by number, from 0 on.
 abbrev pub ops : List Op
 ops = le ∷ lt ∷ eq ∷ gt ∷ ge ∷ []
 
@@ -25,7 +25,7 @@ opNumber eq = 2
 opNumber gt = 3
 opNumber ge = 4
 
--- "compared with n as plain whole numbers, with no cap"
+-- SPEC 1.3, SPEC 4.8: x compared with n; both are whole numbers, of any size.
 abbrev pub compares : Op → ℕ → ℕ → Bool
 compares le x n = leb x n
 compares lt x n = ltb x n

@@ -5,12 +5,12 @@ use Prim.Native.Nat.{ℕ, zero, suc, _/_, _%_, _^_}
 use lib.ListN.{getD}
 use Rattle.traces.specs.declared.Tick.{Tick}
 
--- "A flow is a boolean (0, 1)": a truth value as a number.
+-- SPEC 5.2: a truth value as a number.
 abbrev pub truth : Bool → ℕ
 truth true = 1
 truth false = 0
 
--- "any number but 0 is yes"
+-- A number as a truth value: 0 alone is no (SPEC 1.1).
 abbrev pub nonzero : ℕ → Bool
 nonzero zero = false
 nonzero (suc n) = true
@@ -19,23 +19,23 @@ nonzero (suc n) = true
 abbrev pub bit : ℕ → ℕ → ℕ
 bit x j = x / 2 ^ j % 2
 
--- "a signal its bit at the tick"
+-- SPEC 1.1: signal j is on where bit j of the signals is 1.
 abbrev pub signalAt : Tick → ℕ → Bool
 signalAt k j = nonzero (bit (k .signals) j)
 
--- "A parameter is its value at these ticks."
+-- SPEC 1.1: the value of parameter j at a tick.
 abbrev pub parameterAt : Tick → ℕ → ℕ
 parameterAt k j = getD (k .parameters) j 0
 
--- "start (any number but 0 is yes)"
+-- SPEC 1.1: the tick is a start.
 abbrev pub starts : Tick → Bool
 starts k = nonzero (k .start)
 
--- A tick of its numbers.
+-- SPEC 1.1: a tick of its numbers.
 abbrev pub tickOf : ℕ → ℕ → List ℕ → Tick
 tickOf start signals ps = record { start = start; signals = signals; parameters = ps }
 
--- A trace gives the tick of each number, from 0 on.
+-- SPEC 1.2: a trace gives the tick of each number, from 0 on.
 abbrev pub Trace : Type 0
 Trace = ℕ → Tick
 

@@ -2,7 +2,7 @@
 ghost use mathlib.Core.Path.{_≡_};
 ghost use Rattle.traces.specs.Trace.{tickOf};
 
-// The numbers of `<=`, `<`, `=`, `>`, `>=`.
+// SPEC 1.3: the numbers of `<=`, `<`, `=`, `>`, `>=`.
 pub const AT_MOST: u32 = 0;
 
 pub const BELOW: u32 = 1;
@@ -13,8 +13,7 @@ pub const ABOVE: u32 = 3;
 
 pub const AT_LEAST: u32 = 4;
 
-// One tick of a trace (document 01, "Each operation and its refusals": "A step takes start (any number but 0 is yes),
-// 64 signal bits, eight parameters").
+// One tick of a trace (SPEC 1.1): the start, which 0 alone is not, a bit for each signal, and the parameters.
 pub struct Tick {
     pub start: u32,
     pub signals: u64,

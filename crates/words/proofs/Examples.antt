@@ -54,7 +54,7 @@ HELD = BEGIN + 3
 
 unfoldable pub examples : List Example
 examples =
-    -- two rules of document 01
+    -- the rules of trial runs 7 and 10 (SPEC 14.1)
     splits (bytes "kept[s0] then end[s1]")
     (KEPT ∷ SQUARE ∷ signal 0 ∷ SQUARE-END ∷ THEN ∷ END ∷ SQUARE ∷ signal 1 ∷ SQUARE-END ∷ []) ∷
     splits (bytes "!(len <= 1 then len <= 1)")
@@ -64,12 +64,12 @@ examples =
     (BEGIN ∷ END ∷ POINT ∷ HELD ∷ KEPT ∷ LEN ∷ SUM ∷ AGE ∷ THEN ∷ CHOP ∷ EXISTS ∷ []) ∷
     splits (bytes "()[]!&|< = > <=>=")
     (ROUND ∷ ROUND-END ∷ SQUARE ∷ SQUARE-END ∷ NOT ∷ AND ∷ OR ∷ LT ∷ EQ ∷ GT ∷ LE ∷ GE ∷ []) ∷
-    -- how long a text is
+    -- how long a text is (SPEC 2.1)
     refuses [] 1 ∷
     refuses (spaces (textLimit + 1)) 1 ∷
     splits (spaces textLimit) [] ∷
     splits (bytes "   ") [] ∷
-    -- numbers at the ends of their ranges
+    -- numbers at the ends of their ranges (SPEC 7.3)
     splits (bytes "s0") (signal 0 ∷ []) ∷
     splits (bytes "s63") (signal 63 ∷ []) ∷
     refuses (bytes "s64") 3 ∷
@@ -78,7 +78,7 @@ examples =
     splits (bytes "0") (literal 0 ∷ []) ∷
     splits (bytes "999999") (literal 999999 ∷ []) ∷
     refuses (bytes "1000000") 3 ∷
-    -- a needless 0, also where the number is above its range
+    -- a first 0 with digits behind it (SPEC 2.8), also where the number is too high
     refuses (bytes "s064") 2 ∷
     refuses (bytes "k08") 2 ∷
     refuses (bytes "00") 2 ∷
@@ -88,21 +88,21 @@ examples =
     refuses (bytes "1a") 2 ∷
     refuses (bytes "s1s2") 2 ∷
     refuses (bytes "beginend") 2 ∷
-    -- bytes of which no word can be made: `B`, tab and line end
+    -- bytes that are in no word (SPEC 7.2): `B`, tab and line end
     refuses (bytes "Begin") 2 ∷
     refuses (9 ∷ []) 2 ∷
     refuses (lineEnd ∷ []) 2 ∷
-    -- the longest match
+    -- operators of one byte and of two (SPEC 2.3)
     splits (bytes "<=") (LE ∷ []) ∷
     splits (bytes ">=") (GE ∷ []) ∷
     splits (bytes "=<") (EQ ∷ LT ∷ []) ∷
     splits (bytes "<==") (LE ∷ EQ ∷ []) ∷
     splits (bytes "> =") (GT ∷ EQ ∷ []) ∷
     splits (bytes "len<=3") (LEN ∷ LE ∷ literal 3 ∷ []) ∷
-    -- the earliest word counts
+    -- the first word that is refused decides (SPEC 8.1)
     refuses (bytes "x 1000000") 2 ∷
     refuses (bytes "1000000 x") 3 ∷
-    -- one word too many, well made or not, and a bad word before it
+    -- one word too many, be it a word or not (SPEC 7.4), and a bad word before it
     splits (rounds wordLimit) (replicate wordLimit ROUND) ∷
     refuses (rounds (wordLimit + 1)) 4 ∷
     refuses (rounds wordLimit ++ bytes "x") 4 ∷

@@ -1,4 +1,4 @@
--- How a text is split into words, and refusals 1 to 4 (document 01, "Rule text" and "Read a rule"). Definitions only.
+-- How a text is split into words (SPEC 2.1 to SPEC 2.9), and refusals 1 to 4. Definitions only.
 use mathlib.Core.Bool.{Bool, not, _&&_, _||_, cond}
 use mathlib.Core.List.{List, [], _∷_, _++_}
 use Prim.Native.Nat.{ℕ, suc, _+_, _-_}
@@ -16,8 +16,8 @@ use Rattle.words.specs.Word.{BEGIN, PARAMETER, SIGNAL, LITERAL, keywords
 use Rattle.words.specs.declared.Word.{Word}
 use Rattle.words.specs.declared.Word.the-variants.{Made, Bad}
 
--- What class of byte stands in a text. "Space (byte 32) only separates"; a letter or a digit belongs to a run; an
--- operator byte is the number of the word that it is by itself; of any other byte no word can be made.
+-- What class of byte stands in a text. SPEC 2.2: a space is in no word. SPEC 2.4: a letter or a digit belongs to a run.
+-- SPEC 2.3: an operator byte is the number of the word that it is by itself. SPEC 7.2: any other byte makes no word.
 abbrev pub SPACE : ℕ
 SPACE = 0
 
@@ -27,7 +27,7 @@ RUN = 40
 abbrev pub OTHER : ℕ
 OTHER = 50
 
--- The operator bytes, each with its word.
+-- SPEC 2.3: the operator bytes, each with its word.
 pub record Operator : Type 0 where
   pub sign : ℕ
   pub word : ℕ
@@ -44,14 +44,15 @@ abbrev pub wordAmong : List Operator → ℕ → ℕ
 wordAmong [] b = OTHER
 wordAmong (o ∷ os) b = cond (eqb b (o .sign)) (o .word) (wordAmong os b)
 
--- "a longest run of `a` to `z` and `0` to `9`"
+-- SPEC 2.4: a letter or a digit.
 abbrev pub inRun : ℕ → Bool
 inRun b = within (byte "a") (byte "z") b || isDigit b
 
 unfoldable pub classOf : ℕ → ℕ
 classOf b = cond (inRun b) RUN (cond (eqb b (byte " ")) SPACE (wordAmong operators b))
 
--- A byte of class c goes on with the word of the byte before it, of class p: a run goes on, and `=` after `<` or `>`.
+-- A byte of class c goes on with the word of the byte before it, of class p: a run goes on (SPEC 2.4), and `=` after
+-- `<` or `>` (SPEC 2.3).
 abbrev pub goesOn : ℕ → ℕ → Bool
 goesOn p c = (eqb p RUN && eqb c RUN) || ((eqb p LT || eqb p GT) && eqb c EQ)
 
@@ -59,7 +60,7 @@ goesOn p c = (eqb p RUN && eqb c RUN) || ((eqb p LT || eqb p GT) && eqb c EQ)
 abbrev pub begins : ℕ → ℕ → Bool
 begins p c = not (eqb c SPACE) && not (goesOn p c)
 
--- The longest run at the front of a text.
+-- SPEC 2.4: the run at the front of a text, all of it.
 unfoldable pub run : List ℕ → List ℕ
 run [] = []
 run (b ∷ l) = let r = b ∷ run l in cond (eqb (classOf b) RUN) r []
@@ -68,7 +69,7 @@ run (b ∷ l) = let r = b ∷ run l in cond (eqb (classOf b) RUN) r []
 abbrev pub spelledOr : List ℕ → List ℕ → ℕ → ℕ → ℕ
 spelledOr r spelling word other = cond (same r spelling) word other
 
--- Which keyword a run is, numbered from n on; 0 if it is none.
+-- SPEC 2.5: which keyword a run is, numbered from n on; 0 if it is none.
 unfoldable pub keywordAmong : List (List ℕ) → ℕ → List ℕ → ℕ
 keywordAmong [] n r = 0
 keywordAmong (k ∷ ks) n r = let other = keywordAmong ks (suc n) r in spelledOr r k n other
@@ -76,8 +77,8 @@ keywordAmong (k ∷ ks) n r = let other = keywordAmong ks (suc n) r in spelledOr
 unfoldable pub keywordOf : List ℕ → ℕ
 keywordOf r = keywordAmong keywords BEGIN r
 
--- The word of a number, base + n, where nothing stands after it: "2 where no word can be made or a number begins with a
--- needless 0; 3 where a number is above its range". After a needless 0 the other digits stand.
+-- The word of a number, base + n. SPEC 7.2: there is no number, or a byte is left behind it, as after a first 0 with
+-- digits behind it (SPEC 2.8). SPEC 7.3: the number is too high.
 abbrev pub wordFrom : ℕ → Numeral → Word
 wordFrom base (is n []) = Made (base + n)
 wordFrom base (is n (b ∷ l)) = Bad 2
@@ -89,7 +90,8 @@ wordFrom base missing = Bad 2
 unfoldable pub numberOf : ℕ → ℕ → List ℕ → Word
 numberOf base max l = wordFrom base (numeral max l)
 
--- "Such a run is [a keyword], a literal, `s` with a number (signal 0 to 63) or `k` with a number (parameter 0 to 7)."
+-- The word that a run is: a keyword (SPEC 2.5), by its first byte a signal or a parameter (SPEC 2.6), or else a literal
+-- (SPEC 2.7).
 unfoldable pub runOf : List ℕ → Word
 runOf r =
     cond (ltb 0 (keywordOf r)) (Made (keywordOf r))
@@ -97,12 +99,12 @@ runOf r =
     (cond (eqb (numberAt r 0) (byte "k")) (numberOf PARAMETER (parameterCount - 1) (drop 1 r))
     (numberOf LITERAL lastLiteral r)))
 
--- "by longest match": `<` and `>` with a `=` behind them.
+-- SPEC 2.3: `<` and `>` take in a `=` behind them.
 abbrev pub longest : ℕ → ℕ → Word
 longest c next =
     Made (cond (eqb c LT && eqb next (byte "=")) LE (cond (eqb c GT && eqb next (byte "=")) GE c))
 
--- The word at the front of a text whose first byte is of class c.
+-- The word at the front of a text whose first byte is of class c; of some bytes none begins (SPEC 7.2).
 unfoldable pub wordOf : ℕ → List ℕ → Word
 wordOf c l = cond (eqb c RUN) (runOf (run l)) (cond (eqb c OTHER) (Bad 2) (longest c (numberAt l 1)))
 
@@ -116,8 +118,8 @@ abbrev pub add : Word → List ℕ → (List ℕ → Out) → Out
 add (Made w) ws rest = rest (ws ++ w ∷ [])
 add (Bad n) ws rest = refused n
 
--- "Then word by word, whichever word is earliest: 4 at the 241st word, well made or not; 2 ..; 3 ..".
--- p is the class of the byte before, ws the words so far.
+-- SPEC 8.1: word by word, up to the first refusal. SPEC 7.4: after the last word that there is room for (SPEC 2.9), one
+-- more is not looked at. p is the class of the byte before, ws the words so far.
 unfoldable pub words : List ℕ → ℕ → List ℕ → Out
 words [] p ws = made ws
 words (b ∷ l) p ws =
@@ -125,6 +127,6 @@ words (b ∷ l) p ws =
     let none = words l (classOf b) ws in
     cond (begins p (classOf b)) (cond (eqb (length ws) wordLimit) (refused 4) one) none
 
--- "1: the text is empty or over 2,048 bytes."
+-- SPEC 7.1: there is no byte, or more than a text can have (SPEC 2.1).
 unfoldable pub splitOf : List ℕ → Out
 splitOf text = cond (eqb (length text) 0 || ltb textLimit (length text)) (refused 1) (words text SPACE [])

@@ -1,4 +1,4 @@
--- The words of a rule text and their numbers (document 01, "Rule text"). Definitions only.
+-- The words of a rule text (SPEC 2.3 to SPEC 2.7) and their numbers. Definitions only.
 use mathlib.Core.Bool.{Bool, _&&_, _||_}
 use mathlib.Core.List.{List, [], _∷_}
 use Prim.Native.Nat.{ℕ, _+_, _-_}
@@ -6,7 +6,7 @@ use lib.Dec.{leb}
 use Rattle.limits.specs.Limits.{signalCount, parameterCount, lastLiteral}
 use Rattle.lists.specs.Text.{bytes}
 
--- "A word is `( ) [ ] ! & | <= < = > >=` by longest match, or a longest run of `a` to `z` and `0` to `9`."
+-- SPEC 2.3: the operators.
 abbrev pub ROUND : ℕ
 ROUND = 1
 
@@ -28,7 +28,7 @@ AND = 6
 abbrev pub OR : ℕ
 OR = 7
 
--- The comparisons are numbered from here on in the order of equation kind 10.
+-- The comparisons are numbered from here on in the order of SPEC 1.3.
 abbrev pub LE : ℕ
 LE = 8
 
@@ -44,7 +44,7 @@ GT = 11
 abbrev pub GE : ℕ
 GE = 12
 
--- "Such a run is `begin end point held kept len sum age then chop exists`": numbered from BEGIN on.
+-- SPEC 2.5: the names, numbered from BEGIN on.
 abbrev pub BEGIN : ℕ
 BEGIN = 13
 
@@ -74,8 +74,8 @@ keywords =
     bytes "begin" ∷ bytes "end" ∷ bytes "point" ∷ bytes "held" ∷ bytes "kept" ∷ bytes "len" ∷ bytes "sum" ∷
     bytes "age" ∷ bytes "then" ∷ bytes "chop" ∷ bytes "exists" ∷ []
 
--- "a literal, `s` with a number (signal 0 to 63) or `k` with a number (parameter 0 to 7). A literal is 0 to 999,999."
--- Parameter n is the word PARAMETER + n, signal n the word SIGNAL + n, and literal n the word LITERAL + n.
+-- SPEC 2.6: parameter n is the word PARAMETER + n, signal n the word SIGNAL + n. SPEC 2.7: literal n is the word
+-- LITERAL + n.
 abbrev pub PARAMETER : ℕ
 PARAMETER = 32
 
@@ -93,25 +93,25 @@ lastWord = LITERAL + lastLiteral
 abbrev pub within : ℕ → ℕ → ℕ → Bool
 within lo hi w = leb lo w && leb w hi
 
--- "op is one of the five comparisons"
+-- SPEC 3.5: a comparison.
 unfoldable pub isOp : ℕ → Bool
 isOp w = within LE GE w
 
 unfoldable pub isSignal : ℕ → Bool
 isSignal w = within SIGNAL (SIGNAL + (signalCount - 1)) w
 
--- "n a literal or a parameter"
+-- SPEC 3.5: what stands for n.
 unfoldable pub isNum : ℕ → Bool
 isNum w = within PARAMETER (PARAMETER + (parameterCount - 1)) w || leb LITERAL w
 
--- "`0`, `1`" as P has them
+-- SPEC 3.6: the constants of P.
 unfoldable pub isBit : ℕ → Bool
 isBit w = within LITERAL (LITERAL + 1) w
 
--- `begin end point held kept`
+-- SPEC 3.5: a test, `begin` to `kept`.
 unfoldable pub isTest : ℕ → Bool
 isTest w = within BEGIN KEPT w
 
--- `sum age`
+-- SPEC 3.5: a count, `sum` or `age`.
 unfoldable pub isCount : ℕ → Bool
 isCount w = within SUM AGE w

@@ -1,4 +1,4 @@
-// The words of a rule text, as numbers (document 01, "Rule text"). specs/Word.antt says which number is which word,
+// The words of a rule text, as numbers (SPEC 2.3 to SPEC 2.7). specs/Word.antt says which number is which word,
 // specs/Split.antt how a text is split.
 ghost use mathlib.Core.Path.{_≡_};
 ghost use mathlib.Core.Bool.{cond};
@@ -78,7 +78,7 @@ const RUN: u32 = 40;
 
 const OTHER: u32 = 50;
 
-// One word: its number, or refusal 2 or 3.
+// One word: its number, or refusal 2 or 3 (SPEC 7.2, SPEC 7.3).
 enum Word {
     Made(u32),
     Bad(u32),
@@ -96,7 +96,7 @@ pub enum Split {
     Refused(u32),
 }
 
-// The class of a byte: it decides which words it can be part of.
+// The class of a byte, by one match (SPEC 12.5): it decides which words the byte can be part of.
 fn class(b: u8) -> u32
     ensures { λ r. ⌜ r ≡ classOf b ⌝ }
 {
@@ -259,7 +259,7 @@ fn word_at(text: &[u8], i: usize, c: u32) -> Token
     operator_at(c, lists::byte_at(text, i + 1), i)
 }
 
-// The words of a text, stored at the front of out.
+// The words of a text, stored at the front of out; refusals 1 to 4 (SPEC 8.1).
 pub fn split_text(text: &[u8], out: &mut [u32]) -> Split
     requires { ⌜ wordLimit ≤ length (now out) ⌝ }
     ensures { λ r. ⌜ Splits (now (text .entry)) (now (out .entry)) r (now (out .exit)) ⌝ }
