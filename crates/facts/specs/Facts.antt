@@ -1,5 +1,5 @@
--- What the parser tells of a tree besides its records: its nodes, whether it is a lead, and whether the left of each
--- `then` in it is one. Definitions only.
+-- What the parser tells of a tree besides its records: its nodes (SPEC 3.8), whether it is a lead (SPEC 3.9), and
+-- whether the left of each `then` in it is one (SPEC 3.10). Definitions only.
 use mathlib.Core.Bool.{Bool, true, false, _&&_}
 use Prim.Native.Nat.{ℕ, _+_}
 use Rattle.formulas.specs.Tree.{Tree, nodes, lead, leads}

@@ -1,4 +1,4 @@
-// The nodes and the leads of a tree (document 01, "Rule text"), from the facts of its parts and from its words.
+// The nodes (SPEC 3.8) and the leads (SPEC 3.9) of a tree, from the facts of its parts and from its words.
 ghost use mathlib.Core.Bool.{true, _&&_};
 ghost use mathlib.Core.Path.{_≡_};
 ghost use Prim.Native.Nat.{_≤_};

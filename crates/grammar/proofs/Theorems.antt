@@ -1,4 +1,4 @@
--- What is shown of the grammar. `Rule ws t` (specs/Grammar.antt) is document 01's: the words ws are a rule with the
+-- What is shown of the grammar. `Rule ws t` (specs/Grammar.antt) is that of SPEC 3.1: the words ws are a rule with the
 -- tree t. `treeOf` (specs/Parse.antt) is what the parse functions compute. They are the same; and it is shown that
 -- words have one tree at most, how large it is, when it has a meaning, and which numbers it names. Assumes nothing.
 use mathlib.Core.Path.{_≡_, refl, sym, ap, _∙_}
@@ -64,7 +64,7 @@ module _ (ws : List ℕ) (t : Tree) where
   pub rule-none : Rule ws t → beyond ws ≡ true → formulaOf t ≡ none
   rule-none g e = Fragment.rule-none ws t g e
 
-  -- A rule names signals 0 to 63, parameters 0 to 7 and literals 0 to 999,999, where its words are words.
+  -- A rule names signals, parameters (SPEC 2.6) and literals (SPEC 2.7) in their ranges, where its words are words.
   pub rule-numbers : Rule ws t → ((i : ℕ) → word ws i ≤ lastWord) → bounded literalCount t ≡ true
   rule-numbers g h = numbers h (placed ws t g)
 

@@ -70,7 +70,7 @@ test-number w e =
 pub count-number : (w : ℕ) → isCount w ≡ true → countNumber (countWord w) ≡ w - SUM
 count-number w e = two (λ x. countNumber (countWord x) ≡ x - SUM) SUM refl refl w (count-pos w e) (count-high w e)
 
--- "with `<=` or `<`": the comparisons up to `<`.
+-- SPEC 3.9: the comparisons of a lead are those up to `<`.
 pub op-upper : (w : ℕ) → isOp w ≡ true → leb w LT ≡ upper (opWord w)
 op-upper w e = five (λ x. leb x LT ≡ upper (opWord x)) LE refl refl refl refl refl w (op-pos w e) (op-high w e)
 

@@ -1,4 +1,4 @@
--- Document 01's grammar as a relation between lists of words and trees ("Rule text", "Grammar"). Definitions only.
+-- The grammar (SPEC 3.1 to SPEC 3.7) as a relation between lists of words and trees. Definitions only.
 use mathlib.Core.Bool.{Bool, true, false, cond}
 use mathlib.Core.Path.{_≡_}
 use mathlib.Core.List.{List, [], _∷_, _++_}
@@ -36,38 +36,38 @@ testWord w = getD (begin ∷ end ∷ point ∷ held ∷ []) (w - BEGIN) kept
 abbrev pub countWord : ℕ → Count
 countWord w = getD (sum ∷ []) (w - SUM) age
 
--- F, D, C and U as document 01 has them, and B for P in its square brackets.
+-- F, D, C and U, and B for P with the square brackets around it.
 pub data Symbol : Type 0 where
   F D C U B : Symbol
 
--- `Derives inside X ws t`: the words ws are an X with the tree t. Inside square brackets stands a P:
--- "P: like D, C and U with its own round brackets, over `!`, `0`, `1` and signals"; an F there is a D.
+-- `Derives inside X ws t`: the words ws are an X with the tree t. Inside square brackets stands a P (SPEC 3.6), by the
+-- same rules where they allow it; an F there is a D.
 pub data Derives : Bool → Symbol → List ℕ → Tree → Type 0 where
-  -- "F: D, or D `then` F, or D `chop` F."
+  -- SPEC 3.1: F
   F-one : {inside : Bool} {s : List ℕ} {t : Tree} → Derives inside D s t → Derives inside F s t
   F-then : {s u : List ℕ} {a b : Tree}
       → Derives false D s a → Derives false F u b → Derives false F (s ++ THEN ∷ u) (then a b)
   F-chop : {s u : List ℕ} {a b : Tree}
       → Derives false D s a → Derives false F u b → Derives false F (s ++ CHOP ∷ u) (chop a b)
-  -- "D: one or more C joined by `|`, grouped from the left."
+  -- SPEC 3.2: D, from the left
   D-one : {inside : Bool} {s : List ℕ} {t : Tree} → Derives inside C s t → Derives inside D s t
   D-or : {inside : Bool} {s u : List ℕ} {a b : Tree}
       → Derives inside D s a → Derives inside C u b → Derives inside D (s ++ OR ∷ u) (or a b)
-  -- "C: likewise U joined by `&`."
+  -- SPEC 3.3: C, from the left
   C-one : {inside : Bool} {s : List ℕ} {t : Tree} → Derives inside U s t → Derives inside C s t
   C-and : {inside : Bool} {s u : List ℕ} {a b : Tree}
       → Derives inside C s a → Derives inside U u b → Derives inside C (s ++ AND ∷ u) (and a b)
-  -- "U: `!` U, or `exists` signal U, or `(` F `)`, or an atom."
+  -- SPEC 3.4: U
   U-not : {inside : Bool} {s : List ℕ} {t : Tree} → Derives inside U s t → Derives inside U (NOT ∷ s) (neg t)
   U-exists : {w : ℕ} {s : List ℕ} {t : Tree}
       → isSignal w ≡ true → Derives false U s t
       → Derives false U (EXISTS ∷ w ∷ s) (exists (signalWord w) t)
   U-round : {inside : Bool} {s : List ℕ} {t : Tree}
       → Derives inside F s t → Derives inside U (ROUND ∷ s ++ ROUND-END ∷ []) t
-  -- In P: "`0`, `1` and signals".
+  -- SPEC 3.6: what P has in place of atoms
   U-constant : {w : ℕ} → isBit w ≡ true → Derives true U (w ∷ []) (constant (bitWord w))
   U-signal : {w : ℕ} → isSignal w ≡ true → Derives true U (w ∷ []) (signal (signalWord w))
-  -- "Atoms: `begin[P]`, `end[P]`, `point[P]`, `held[P]`, `kept[P]`, `len` op n, `sum[P]` op n, `age[P]` op n."
+  -- SPEC 3.5: atoms
   U-test : {k : ℕ} {s : List ℕ} {p : Tree}
       → isTest k ≡ true → Derives false B s p → Derives false U (k ∷ s) (test (testWord k) p)
   U-len : {o n : ℕ}
@@ -77,6 +77,6 @@ pub data Derives : Bool → Symbol → List ℕ → Tree → Type 0 where
       → Derives false U (k ∷ s ++ o ∷ n ∷ []) (count (countWord k) p (opWord o) (numWord n))
   B-square : {s : List ℕ} {p : Tree} → Derives true F s p → Derives false B (SQUARE ∷ s ++ SQUARE-END ∷ []) p
 
--- The words are a rule of the grammar, with that tree.
+-- SPEC 3.1: the words are a rule of the grammar, with that tree.
 abbrev pub Rule : List ℕ → Tree → Type 0
 Rule ws t = Derives false F ws t

@@ -1,5 +1,5 @@
 -- Reading words as a computation: recursive descent from a position. It is what the parse functions of crate
--- parser do; that it is document 01's grammar (specs/Grammar.antt) is shown in proofs/. Past the end the word is 0.
+-- parser do; that it is the grammar of specs/Grammar.antt is shown in proofs/. Past the end the word is 0.
 -- Definitions only.
 use mathlib.Core.Bool.{Bool, true, false, _&&_, cond}
 use mathlib.Core.List.{List}
@@ -72,11 +72,11 @@ module _ (ws : List ℕ) where
       cond (isSignal (word ws i)) (ok (signal (signalWord (word ws i))) (i + 1))
       (cond (isBit (word ws i)) (ok (constant (bitWord (word ws i))) (i + 1)) no-rule)
 
-  -- op n at j
+  -- a comparison and n at j
   abbrev pub comparisonAt : ℕ → Bool
   comparisonAt j = isOp (word ws j) && isNum (word ws (j + 1))
 
-  -- what op n at j makes of an atom
+  -- what they make of an atom
   abbrev pub withComparison : (Op → Num → Tree) → ℕ → Result
   withComparison f j = cond (comparisonAt j) (ok (f (opWord (word ws j)) (numWord (word ws (j + 1)))) (j + 2)) no-rule
 
@@ -135,7 +135,7 @@ unfoldable pub parse : List ℕ → ℕ → Goal → ℕ → Result
 parse ws zero g i = no-rule
 parse ws (suc k) g i = step ws (parse ws k) g i
 
--- How deep a reading can go: "the words left fall", and among calls at one position the rank falls.
+-- How deep a reading can go: the number of words left falls (SPEC 12.5), and among calls at one position the rank does.
 abbrev pub rank : Goal → ℕ
 rank (goF inside) = 5
 rank (goD inside) = 4

@@ -69,7 +69,7 @@ module _ (ws : List ℕ) where
   not-closed : (w : ℕ) (t : Tree) (j : ℕ) → (word ws j ≡ w → ⊥) → closed ws w t j ≡ no-rule
   not-closed w t j e = ap (λ (x : Bool). cond x (ok t (j + 1)) no-rule) (ne-eqb _ _ e)
 
--- ---- F: D, or D `then` F, or D `chop` F
+-- ---- F (SPEC 3.1)
 
 module _ {l : Bool} {ws : List ℕ} {i : ℕ} {before : List ℕ} {top : ℕ} {after : List ℕ} where
   pub F-no : read ws (goD l) i ≡ no-rule → Parses (goF l) ws i before top No after
@@ -142,7 +142,7 @@ pub B-no : {ws : List ℕ} {i : ℕ} {before : List ℕ} {top : ℕ} {after : Li
     (word ws i ≡ Word.SQUARE → ⊥) → Parses goB ws i before top No after
 B-no {ws} {i} w = says-no (read-eq ws goB i ∙ ap (λ (x : Bool). stepB ws (read ws) x i) (ne-eqb _ _ w))
 
--- ---- U: `!` U, or `exists` signal U, or a leaf or an atom
+-- ---- U (SPEC 3.4), and a leaf
 
 module _ {l : Bool} {ws : List ℕ} {i : ℕ} {before : List ℕ} {top : ℕ} {after : List ℕ} where
   module _ (w : word ws i ≡ Word.NOT) where

@@ -49,7 +49,8 @@ pub record ParsesLeaf (ws : List ℕ) (i : ℕ) (before : List ℕ) (top : ℕ) 
 abbrev pub comparisonRecord : ℕ → Op → Num → List ℕ
 comparisonRecord k o n = row k (opNumber o) (numKind n) (numValue n)
 
--- op n at position j as the end of an atom's record of kind k; lead says whether the atom is one with `<=` or `<`.
+-- A comparison and n at position j as the end of an atom's record of kind k; lead says whether a comparison that a lead
+-- may have (SPEC 3.9) makes the atom one.
 pub record ParsesComparison (ws : List ℕ) (j : ℕ) (before : List ℕ) (top k : ℕ) (lead : Bool) (r : Parsed)
     (after : List ℕ) : Type 0 where
   pub result : r ≡ cond (comparisonAt ws j) (At (j + 2) (top + 4) (atomFacts (lead && upper (opWord (word ws j))))) No

@@ -1,5 +1,5 @@
-// Reading a rule's words by recursive descent (document 01, "Grammar"): F, D, C and U call each other, and the words
-// left fall. A tree is written as records into a lent arena (formulas, specs/Arena.antt).
+// Reading a rule's words by recursive descent (SPEC 12.5): the functions of F, D, C and U call each other, with fewer
+// words left each time around. A tree is written as records into a lent arena (formulas, specs/Arena.antt).
 use facts::Facts;
 ghost use Prim.Native.Nat.{_+_, _≤_};
 ghost use lib.ListN.{length};
@@ -25,7 +25,7 @@ fn push(arena: &mut [u32], top: usize, k: u32, a: u32, b: u32, c: u32) -> usize
     top + 4
 }
 
-// `0`, `1` or a signal, the word at a position inside square brackets.
+// SPEC 3.6: `0`, `1` or a signal, the word at a position inside square brackets.
 fn leaf(ws: &[u32], at: usize, arena: &mut [u32], top: usize) -> Parsed
     requires { ⌜ Room (now ws) at (now arena) top ⌝ }
     ensures { λ r. ⌜ ParsesLeaf (now (ws .entry)) at (now (arena .entry)) top r (now (arena .exit)) ⌝ }
@@ -42,7 +42,7 @@ fn leaf(ws: &[u32], at: usize, arena: &mut [u32], top: usize) -> Parsed
     Parsed::No
 }
 
-// op n at a position: the end of an atom, whose record of kind k is written.
+// SPEC 3.5: a comparison and n at a position, the end of an atom, whose record of kind k is written.
 fn comparison(ws: &[u32], at: usize, arena: &mut [u32], top: usize, k: u32, lead: bool) -> Parsed
     requires { ⌜ (at ≤ wordLimit) × (top + 4 ≤ length (now arena)) ⌝ }
     ensures { λ r. ⌜ ParsesComparison (now (ws .entry)) at (now (arena .entry)) top k lead r (now (arena .exit)) ⌝ }
@@ -70,7 +70,7 @@ fn comparison(ws: &[u32], at: usize, arena: &mut [u32], top: usize, k: u32, lead
     )
 }
 
-// "F: D, or D `then` F, or D `chop` F."
+// SPEC 3.1: F.
 pub fn parse_f(ws: &[u32], inside: bool, at: usize, arena: &mut [u32], top: usize) -> Parsed
     requires { ⌜ Room (now ws) at (now arena) top ⌝ }
     ensures { λ r. ⌜ Parses (goF inside) (now (ws .entry)) at (now (arena .entry)) top r (now (arena .exit)) ⌝ }
@@ -100,7 +100,7 @@ pub fn parse_f(ws: &[u32], inside: bool, at: usize, arena: &mut [u32], top: usiz
     Parsed::At(j, t, a)
 }
 
-// "D: one or more C joined by `|`, grouped from the left."
+// SPEC 3.2: D, from the left.
 fn parse_d(ws: &[u32], inside: bool, at: usize, arena: &mut [u32], top: usize) -> Parsed
     requires { ⌜ Room (now ws) at (now arena) top ⌝ }
     ensures { λ r. ⌜ Parses (goD inside) (now (ws .entry)) at (now (arena .entry)) top r (now (arena .exit)) ⌝ }
@@ -122,7 +122,7 @@ fn parse_d(ws: &[u32], inside: bool, at: usize, arena: &mut [u32], top: usize) -
     Parsed::At(j, t, facts)
 }
 
-// "C: likewise U joined by `&`."
+// SPEC 3.3: C, from the left.
 fn parse_c(ws: &[u32], inside: bool, at: usize, arena: &mut [u32], top: usize) -> Parsed
     requires { ⌜ Room (now ws) at (now arena) top ⌝ }
     ensures { λ r. ⌜ Parses (goC inside) (now (ws .entry)) at (now (arena .entry)) top r (now (arena .exit)) ⌝ }
@@ -144,7 +144,7 @@ fn parse_c(ws: &[u32], inside: bool, at: usize, arena: &mut [u32], top: usize) -
     Parsed::At(j, t, facts)
 }
 
-// "U: `!` U, or `exists` signal U, or `(` F `)`, or an atom."
+// SPEC 3.4: U.
 fn parse_u(ws: &[u32], inside: bool, at: usize, arena: &mut [u32], top: usize) -> Parsed
     requires { ⌜ Room (now ws) at (now arena) top ⌝ }
     ensures { λ r. ⌜ Parses (goU inside) (now (ws .entry)) at (now (arena .entry)) top r (now (arena .exit)) ⌝ }
@@ -183,7 +183,7 @@ fn parse_u(ws: &[u32], inside: bool, at: usize, arena: &mut [u32], top: usize) -
     parse_atom(ws, at, arena, top)
 }
 
-// "Atoms: `begin[P]`, `end[P]`, `point[P]`, `held[P]`, `kept[P]`, `len` op n, `sum[P]` op n, `age[P]` op n."
+// SPEC 3.5: an atom.
 fn parse_atom(ws: &[u32], at: usize, arena: &mut [u32], top: usize) -> Parsed
     requires { ⌜ Room (now ws) at (now arena) top ⌝ }
     ensures { λ r. ⌜ Parses goA (now (ws .entry)) at (now (arena .entry)) top r (now (arena .exit)) ⌝ }
@@ -215,7 +215,7 @@ fn parse_atom(ws: &[u32], at: usize, arena: &mut [u32], top: usize) -> Parsed
     Parsed::No
 }
 
-// A P in square brackets.
+// SPEC 3.6: a P in square brackets.
 fn parse_square(ws: &[u32], at: usize, arena: &mut [u32], top: usize) -> Parsed
     requires { ⌜ Room (now ws) at (now arena) top ⌝ }
     ensures { λ r. ⌜ Parses goB (now (ws .entry)) at (now (arena .entry)) top r (now (arena .exit)) ⌝ }

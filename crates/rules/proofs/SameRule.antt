@@ -1,5 +1,5 @@
--- What "the same rule" means: it is settled for any two texts, an equivalence on readable texts, and such texts have
--- the same meaning on every interval. Assumes nothing.
+-- What it is to be the same rule (SPEC 8.3): it is settled for any two texts, an equivalence on readable texts, and
+-- such texts have the same meaning on every interval. Assumes nothing.
 use mathlib.Core.Path.{_≡_, refl, sym, ap, _∙_, subst}
 use mathlib.Core.List.{List}
 use mathlib.Core.Option.{some}
@@ -26,7 +26,7 @@ refused-yes q = let z : _≡_ {A = ℕ} 0 1 = cc in omega arith
 no-yes : No ≡ Yes → ⊥
 no-yes q = let z : _≡_ {A = ℕ} 0 1 = cc in omega arith
 
--- Both texts read to one tree, "exactly if" in both directions.
+-- SPEC 8.3: where the answer is yes the texts have one tree, and the other way round (`tree-yes`).
 pub yes-tree : {a b : List ℕ} {r : Same} → SameAnswer a b r → r ≡ Yes
     → (t : Tree) × HasOutcome a (rule t) × HasOutcome b (rule t)
 yes-tree (first-refused e) q = absurd (refused-yes q)

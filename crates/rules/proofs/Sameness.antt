@@ -1,4 +1,4 @@
--- The answer for two texts as it is computed, from their trees' records, is document 01's. Assumes nothing.
+-- The answer for two texts as it is computed, from their trees' records, is that of SPEC 8.3. Assumes nothing.
 use mathlib.Core.Bool.{Bool, true, false, true≢false, cond}
 use mathlib.Core.Path.{_≡_, refl, sym, ap, ap₂, _∙_, subst}
 use mathlib.Core.List.{List}
@@ -50,7 +50,7 @@ module _ (a b : List ℕ) where
   same-answer r e =
       subst (SameAnswer a b) (sym e) (of-outcomes (ruleOf a) (ruleOf b) (has-outcome a) (has-outcome b))
 
-  -- And the answer that document 01 has is the computed one.
+  -- And the answer that SPEC 8.3 has is the computed one.
   pub computed-answer : {r : Same} → SameAnswer a b r → r ≡ sameOf (ruleOf a) (ruleOf b)
   computed-answer (first-refused e) = sym (ap (λ (o : Outcome). sameOf o (ruleOf b)) (computed a e))
   computed-answer (second-refused e f) = sym (ap₂ sameOf (computed a e) (computed b f))

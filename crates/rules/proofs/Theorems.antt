@@ -1,7 +1,6 @@
--- Reading a rule as document 01 states it (`HasOutcome`, specs/Reading.antt) and as it is computed (`ruleOf`,
--- specs/Computed.antt) are the same: every text has an outcome, it has one, and it is a rule exactly if limits, grammar
--- and fragment have it.
--- Assumes nothing.
+-- Reading a rule as SPEC 8.1 states it (`HasOutcome`, specs/Reading.antt) and as it is computed (`ruleOf`,
+-- specs/Computed.antt) are the same: every text has an outcome, it has one, and which texts are rules is as SPEC 12.2
+-- says. Assumes nothing.
 use mathlib.Core.Bool.{Bool, true, false, cond}
 use mathlib.Core.Path.{_≡_, refl, sym, ap, _∙_, subst}
 use mathlib.Core.List.{List}
@@ -85,7 +84,7 @@ module _ (text : List ℕ) where
 pub one-outcome : (text : List ℕ) (x y : Outcome) → HasOutcome text x → HasOutcome text y → x ≡ y
 one-outcome text x y p q = sym (computed text p) ∙ computed text q
 
--- An answer that is computed is the one that document 01 tells.
+-- An answer that is computed is the one that SPEC 8.1 tells.
 pub told : (text : List ℕ) (r : Read) → r ≡ answerOf (ruleOf text) → Told text r
 told text r e = record { outcome = ruleOf text; has = has-outcome text; answer = e }
 
@@ -104,9 +103,9 @@ numbered-as text x k (is-rule a) q = absurd (refused-rule (sym q))
 pub numbered : (text : List ℕ) (k : ℕ) → HasOutcome text (refused k) → (1 ≤ k) × (k ≤ 8)
 numbered text k h = numbered-as text (refused k) k h refl
 
--- ---- demand 2
+-- ---- SPEC 12.2, demand 2
 
--- A text is read as a rule exactly if limits, grammar and fragment have it.
+-- The texts that are read as rules are those that are admitted.
 rule-parts : (text : List ℕ) (x : Outcome) (t : Tree) → HasOutcome text x → x ≡ rule t → Admitted text t
 rule-parts text x t (no-words e) q = absurd (refused-rule q)
 rule-parts text x t (over-limits e o) q = absurd (refused-rule q)
@@ -121,7 +120,7 @@ accepted text t = (
   λ a. computed text (is-rule a),
 )
 
--- It has one reading: one tree.
+-- Such a text has one tree.
 pub one-tree : (text : List ℕ) (t u : Tree) → Admitted text t → Admitted text u → t ≡ u
 one-tree text t u a b = let e = accepted text t .1 a in let f = accepted text u .1 b in cc
 

@@ -10,7 +10,7 @@ use Rattle.rules.specs.Reading.Outcome.{refused, rule}
 use Rattle.rules.specs.declared.Read.{Read}
 use Rattle.rules.specs.declared.Read.the-variants.{Rule, Refused}
 
--- "Otherwise reading a rule gives its node count".
+-- SPEC 8.1: the number of nodes, or the refusal's.
 abbrev pub answerOf : Outcome → Read
 answerOf (refused n) = Refused n
 answerOf (rule t) = Rule (nodes t)
@@ -19,7 +19,7 @@ abbrev pub readReply : Read → Reply
 readReply (Rule n) = gives n
 readReply (Refused k) = Reply.refused k
 
--- The contract of reading in document 01's own terms: the answer is that of the one outcome that its reading has.
+-- The contract of reading in the terms of SPEC 8.1: the answer is that of the one outcome that the text has.
 pub record Told (text : List ℕ) (r : Read) : Type 0 where
   pub outcome : Outcome
   pub has : HasOutcome text outcome

@@ -1,4 +1,4 @@
--- Reading a rule: what document 01 admits and refuses.
+-- Reading a rule: which texts are admitted and which are refused.
 pub mod Limits
 pub mod Reading
 pub mod Contract

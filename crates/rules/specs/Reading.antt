@@ -1,5 +1,5 @@
--- What reading a rule text gives (document 01, "Read a rule": "The first that applies counts"), with the grammar as a
--- relation. Definitions only. The same as a computation is in Computed.antt.
+-- What reading a rule text gives (SPEC 8.1), its refusals in order, with the grammar as a relation. Definitions only.
+-- The same as a computation is in Computed.antt.
 use mathlib.Core.Bool.{true, false}
 use mathlib.Core.Path.{_≡_}
 use mathlib.Core.List.{List}
@@ -11,8 +11,7 @@ use Rattle.grammar.specs.Grammar.{Rule}
 use Rattle.grammar.specs.Fragment.{beyond}
 use Rattle.rules.specs.Limits.{beyondLimits}
 
--- The text is a rule with that tree (demand 2: "A text is a rule exactly when document 01's limits, grammar and
--- fragment have it").
+-- SPEC 12.2 (demand 2): the text is a rule with that tree. Each field rules out the refusals that it names.
 pub record Admitted (text : List ℕ) (t : Tree) : Type 0 where
   pub ws : List ℕ
   -- refusals 1 to 4: it is split into words
@@ -21,7 +20,7 @@ pub record Admitted (text : List ℕ) (t : Tree) : Type 0 where
   pub limits : beyondLimits ws ≡ false
   -- refusal 6: of the grammar
   pub grammar : Rule ws t
-  -- refusals 7 and 8: of the fragment
+  -- refusals 7 and 8: of the fragment (SPEC 3.10)
   pub fragment : beyond ws ≡ false
   pub lead : leads t ≡ true
 
@@ -32,18 +31,18 @@ pub data Outcome : Type 0 where
 
 -- The outcome that a text has.
 pub data HasOutcome (text : List ℕ) : Outcome → Type 0 where
-  -- "1: the text is empty or over 2,048 bytes. Then word by word, whichever word is earliest: 4 ..; 2 ..; 3 .."
+  -- SPEC 7.1, or at a word SPEC 7.4, SPEC 7.2 or SPEC 7.3 (words, specs/Split.antt)
   no-words : {n : ℕ} → splitOf text ≡ Out.refused n → HasOutcome text (refused n)
-  -- "5: more than 16 round brackets open at some word .."
+  -- SPEC 7.5: beyond a limit
   over-limits : {ws : List ℕ} → splitOf text ≡ made ws → beyondLimits ws ≡ true → HasOutcome text (refused 5)
-  -- "6: not the grammar."
+  -- SPEC 7.6: no tree makes a rule of the words
   no-grammar : {ws : List ℕ} → splitOf text ≡ made ws
       → beyondLimits ws ≡ false → ((t : Tree) → Rule ws t → ⊥) → HasOutcome text (refused 6)
-  -- "7: `chop` or `exists` stands in it."
+  -- SPEC 7.7: a rule of the grammar with `chop` or `exists`
   outside : {ws : List ℕ} {t : Tree} → splitOf text ≡ made ws
       → beyondLimits ws ≡ false → Rule ws t → beyond ws ≡ true → HasOutcome text (refused 7)
-  -- "8: the left of some `then` is no lead."
+  -- SPEC 7.8: a `then` has no lead on its left
   no-lead : {ws : List ℕ} {t : Tree} → splitOf text ≡ made ws
       → beyondLimits ws ≡ false → Rule ws t → beyond ws ≡ false → leads t ≡ false → HasOutcome text (refused 8)
-  -- Else the text is a rule.
+  -- else it is a rule
   is-rule : {t : Tree} → Admitted text t → HasOutcome text (rule t)

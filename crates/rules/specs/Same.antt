@@ -1,5 +1,4 @@
--- Same rule, two texts (document 01: "1 to 8 for the first, then for the second; otherwise yes exactly if both read to
--- one tree"). Definitions only.
+-- Whether two texts are the same rule (SPEC 8.3). Definitions only.
 use mathlib.Core.List.{List}
 use mathlib.Core.Path.{_≡_}
 use Prim.Native.Nat.{ℕ}
@@ -13,11 +12,11 @@ use Rattle.rules.specs.declared.Same.the-variants.{Yes, No, Refused}
 
 -- The answer for two texts.
 pub data SameAnswer (first second : List ℕ) : Same → Type 0 where
-  -- "1 to 8 for the first, then for the second"
+  -- SPEC 8.3: the first text's refusal, or else the second's
   first-refused : {n : ℕ} → HasOutcome first (refused n) → SameAnswer first second (Refused n)
   second-refused : {t : Tree} {n : ℕ} → HasOutcome first (rule t) → HasOutcome second (refused n)
       → SameAnswer first second (Refused n)
-  -- "otherwise yes exactly if both read to one tree"
+  -- SPEC 8.3: both are read, with one tree or with two
   one-tree : {t : Tree} → HasOutcome first (rule t) → HasOutcome second (rule t) → SameAnswer first second Yes
   two-trees : {t u : Tree} → HasOutcome first (rule t) → HasOutcome second (rule u) → (t ≡ u → ⊥)
       → SameAnswer first second No

@@ -1,4 +1,4 @@
-// Reading a rule (document 01, "Read a rule"): its words, limits, grammar and fragment.
+// Reading a rule (SPEC 8.1): its words, limits, grammar and fragment. Same rule (SPEC 8.3).
 use parser::Parsed;
 use words::Split;
 ghost use mathlib.Core.Bool.{not, _&&_, _||_};
@@ -35,7 +35,7 @@ pub enum Same {
     Refused(u32),
 }
 
-// Refusal 5: "more than 16 round brackets open at some word", "more than 32 of `!`, `then`, `chop`, `exists`".
+// SPEC 2.10: how many round brackets may be open at a word, and how many of the four counted words there may be.
 const BRACKETS: usize = 16;
 
 const OPERATORS: usize = 32;
@@ -73,7 +73,7 @@ fn is_counted(w: u32) -> bool
     w == words::EXISTS
 }
 
-// Whether `chop` or `exists` stands among some words and the word w after them.
+// Whether `chop` or `exists` is among some words and the word w after them.
 fn beyond_after(beyond: bool, w: u32) -> bool
     ensures { λ r. ⌜ r ≡ (beyond || (eqb w CHOP || eqb w EXISTS)) ⌝ }
 {
@@ -86,8 +86,8 @@ fn beyond_after(beyond: bool, w: u32) -> bool
     beyond
 }
 
-// What one pass over the words tells: refusal 5, and refusal 7: `chop` or `exists` stands among them; too many brackets
-// end the pass before this is known.
+// What one pass over the words tells: refusal 5 (SPEC 7.5), and refusal 7 (SPEC 7.7), unless too many brackets end the
+// pass before this is known.
 struct Limits {
     pub over: bool,
     pub beyond: bool,
@@ -182,7 +182,7 @@ pub fn records_refusal(r: Records) -> u32
     }
 }
 
-// Read a rule: its node count, or refusals 1 to 8, the first that applies.
+// Read a rule (SPEC 8.1): its node count, or the first of refusals 1 to 8 that the text has.
 pub fn read_rule(text: &[u8]) -> Read
     ensures { λ r. ⌜ r ≡ answerOf (ruleOf (now (text .entry))) ⌝ }
     ensures { λ r. ⌜ Told (now (text .entry)) r ⌝ }
@@ -195,8 +195,7 @@ pub fn read_rule(text: &[u8]) -> Read
     Read::Rule(nodes)
 }
 
-// Same rule, two texts: refusals 1 to 8 of the first, then of the second; otherwise yes exactly if both read to one
-// tree.
+// Same rule (SPEC 8.3): the refusal of the first text, or else of the second; or else whether they have one tree.
 pub fn same_rule(first: &[u8], second: &[u8]) -> Same
     ensures { λ r. ⌜ r ≡ sameOf (ruleOf (now (first .entry))) (ruleOf (now (second .entry))) ⌝ }
     ensures { λ r. ⌜ SameAnswer (now (first .entry)) (now (second .entry)) r ⌝ }

@@ -1,5 +1,5 @@
 -- `rules::read_rule` meets its contract. From what `read_tree` answers, a refusal or a tree, follows the answer as it
--- is computed (Laid), and from that the answer as document 01 has it (`told`). Assumes nothing.
+-- is computed (Laid), and from that the answer as SPEC 8.1 has it (`told`). Assumes nothing.
 use borrow.Author.Needs.{needs}
 use Rattle.rules.proofs.Laid.{answer-refused, answer-rule}
 use Rattle.rules.proofs.Theorems.{told}

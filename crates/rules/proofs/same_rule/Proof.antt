@@ -1,5 +1,5 @@
 -- `rules::same_rule` meets its contract, by cases: the first text refused, the second refused, or two trees, whose
--- records are compared. From the answer as it is computed follows the answer as document 01 has it (Sameness). Assumes
+-- records are compared. From the answer as it is computed follows the answer as SPEC 8.3 has it (Sameness). Assumes
 -- nothing.
 use mathlib.Core.List.{List}
 use mathlib.Core.Bool.{true, false}
