@@ -1,5 +1,5 @@
--- Demand 3, on the definitions: the observer of a formula answers, over every list of calls from the fresh state,
--- refused ones included, with the formula's interval meaning. Assumes nothing.
+-- SPEC 12.3 (demand 3), on the definitions: the observer of a formula answers, over every list of calls from the fresh
+-- state, refused ones included, with the formula's interval meaning. Assumes nothing.
 use mathlib.Core.Bool.{true}
 use mathlib.Core.List.{List, _++_}
 use mathlib.Core.Path.{_≡_, ap}

@@ -1,5 +1,5 @@
--- Demand 3: the agreement of an observer's answers with the interval meaning, as one statement about a list of calls
--- (document 01, "Interval meaning", last paragraph). Definitions only; the theorem is in proofs/Theorem.antt.
+-- SPEC 12.3 (demand 3): the agreement of an observer's answers with the interval meaning, as one statement about a list
+-- of calls (SPEC 6.1). Definitions only; the theorem is in proofs/Theorem.antt.
 use mathlib.Core.List.{List, [], _∷_}
 use mathlib.Core.Path.{_≡_}
 use Prim.Native.Nat.{ℕ, _+_, _*_, _≤_}
@@ -16,7 +16,7 @@ use Rattle.flows.specs.declared.Fresh.the-variants.{Made}
 use Rattle.flows.specs.declared.Stepped.the-variants.{Verdict}
 use Rattle.tables.specs.Table.{memories}
 
--- "only the eight parameters are the same at all steps that are not refused"
+-- SPEC 12.3: all ticks have the same parameters, ps.
 pub data SameParameters (ps : List ℕ) : List Tick → Type 0 where
   none : SameParameters ps []
   more : {k : Tick} {ks : List Tick} → k .parameters ≡ ps → SameParameters ps ks → SameParameters ps (k ∷ ks)
@@ -31,16 +31,15 @@ AsMeant f trace k s = s .left .answer ≡ Verdict (verdict trace f k)
 
 -- The n equations of the table are an observer of the formula f, which has that many nodes.
 pub record Observes (cap : ℕ) (t : List ℕ) (n : ℕ) (f : Formula) (nodes : ℕ) : Type 0 where
-  -- "Making the fresh state refuses a compiled table by neither 10 nor 11"
+  -- Refusals 10 and 11 have nothing against it, so that a fresh state is made where there are cells for it.
   pub formed : checked t n ≡ Passed
   pub fresh : (old : List ℕ) → n ≤ length old → freshened t n old .answer ≡ Made
-  -- "At every tick of the list the step's verdict is 1 if the rule holds on b to e and 0 if it doesn't; before the
-  -- first start it is 1. This is a single statement about the list": from the fresh state over any old cells, over
-  -- every list of calls, refused ones included, if the ticks have the same parameters.
+  -- The step of every tick answers the verdict (SPEC 4.10), from the fresh state over any old cells, over every list of
+  -- calls, refused ones included, if the ticks have the same parameters. And SPEC 6.5 holds.
   pub agrees : (old : List ℕ) → n ≤ length old → (calls : List Call) (ps : List ℕ)
       → SameParameters ps (ticks (fromFresh cap t n old calls))
       → EachTick (AsMeant f (traceOfTicks ps (ticks (fromFresh cap t n old calls)))) 0 (fromFresh cap t n old calls)
   pub decides : (old : List ℕ) → n ≤ length old → (calls : List Call)
       → CallsDecide cap n calls (fromFresh cap t n old calls)
-  -- "The number of memories in the table is at most two for each node that reading the rule counts and one more"
+  -- So many memories (SPEC 5.7) at the most, by the nodes (SPEC 3.8).
   pub few : memories t n ≤ 2 * nodes + 1

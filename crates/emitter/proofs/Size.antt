@@ -12,8 +12,8 @@ use Rattle.limits.specs.Limits.{equationLimit, tableRoom}
 use Rattle.scheme.specs.Emit.{observer, numbersOf}
 use Rattle.scheme.proofs.Places.{length-numbers}
 
--- "9: the lent table has under 16,384 numbers.": in a table of that many, an observer's equations stand at the front,
--- and what comes after them is kept.
+-- In a table that refusal 9 lets pass (SPEC 7.9), an observer's equations stand at the front, and what comes after them
+-- is kept.
 pub observer-front : (f : Formula) (t : List ℕ) → length (observer f) ≤ equationLimit → tableRoom ≤ length t →
     sets t 0 (numbersOf (observer f)) ≡ numbersOf (observer f) ++ drop (4 * length (observer f)) t
 observer-front f t few room = front (observer f) few

@@ -22,7 +22,7 @@ use Rattle.emitter.specs.declared.Record.{Record}
 pub record Emitted (arena t t′ : List ℕ) (r : ℕ) : Type 0 where
   pub many : (f : Formula) → arena ≡ flat (raw f) → r ≡ length (observer f)
   pub written : (f : Formula) → arena ≡ flat (raw f) → t′ ≡ sets t 0 (numbersOf (observer f))
-  -- "A table has 1 to 4,096 equations.": of any records.
+  -- SPEC 5.6: as many as a table can have, of any records.
   pub few : r ≤ equationLimit
 
 -- ---- inside the pass

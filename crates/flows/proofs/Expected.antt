@@ -1,5 +1,5 @@
--- The answers to a list of calls as a list that the calls and the verdicts of their ticks give, where the calls alone
--- decide which steps are refused. Assumes nothing.
+-- The answers to a list of calls as a list that the calls and the verdicts of their ticks give, where the calls decide
+-- by themselves which are refused (SPEC 6.5). Assumes nothing.
 use mathlib.Core.Path.{_≡_, refl, _∙_, sym, ap, ap₂}
 use mathlib.Core.List.{List, [], _∷_, map}
 use Prim.Native.Nat.{ℕ, suc}

@@ -1,5 +1,6 @@
--- Lists of calls of a well-formed table from its fresh state: the calls alone decide which steps are refused, and the
--- others are the ticks of a run, so that each leaves the flows that Lustre gives. Assumes nothing.
+-- Lists of calls of a well-formed table from its fresh state: each call by itself decides whether it is refused
+-- (SPEC 6.5), and the others are the ticks of a run, so that each leaves the flows that Lustre gives (SPEC 6.4).
+-- Assumes nothing.
 use mathlib.Core.Path.{_≡_, refl, _∙_, sym, ap, ap₂, subst}
 use mathlib.Core.Bool.{Bool, true, false, cond}
 use mathlib.Core.List.{List, [], _∷_, _++_, map}
@@ -84,7 +85,7 @@ module _ (cap : ℕ) (t : List ℕ) (n : ℕ) (passed : checked t n ≡ Passed) 
         )
     stays (Failed r) = (room, fit)
 
-  -- so the calls of a list alone decide which steps are refused.
+  -- so the calls of a list decide by themselves which are refused.
   refusal-if : (c : Checked) (state : List ℕ) (x : Call)
       → refusalIn (steppedIf c cap t n state (x .values) (x .tick) .answer) ≡ c
   unfolding afterTick
@@ -190,7 +191,7 @@ module _ (cap : ℕ) (t : List ℕ) (k : Tick) (state : List ℕ) (n : ℕ) (f :
   flows-firsts : flows cap t k state n ≡ firsts f n
   flows-firsts = some-firsts n (omega arith)
 
--- ---- demand 2
+-- ---- SPEC 12.2, demand 2
 
 module _ (cap : ℕ) (t : List ℕ) (n : ℕ) (passed : checked t n ≡ Passed) where
   fits : Fitting t n

@@ -41,7 +41,7 @@ fresh = replicate 6 9 ++ (1 ∷ 0 ∷ replicate 6 9)
 abbrev call : ℕ → ℕ → ℕ → ℕ → Call
 call s g x room = record { tick = tick s g x; values = replicate room 7 }
 
--- What a list of calls answers, as document 01 has it.
+-- What a list of calls answers, as numbers (SPEC 1.4).
 abbrev told : List Call → List Reply
 told xs = map stepReply (answered (steps standardCap table 12 fresh xs))
 
@@ -61,7 +61,7 @@ fresh-short : freshReply (freshened table 12 (replicate 11 9) .answer) ≡ refus
 unfolding freshened freshChecked lengthFits equationsFit all shapeFits shapeOf kindOf operandFits isFlow sameSort
 fresh-short = refl
 
--- Three ticks, with refused calls among them: too few values, and a parameter above 999,999.
+-- Three ticks, with refused calls among them: too few values (SPEC 7.12), and too high a parameter (SPEC 7.13).
 step-rows : told
     (call 1 32 1 12 ∷ call 1 32 1 11 ∷ call 0 32 1 13 ∷ call 0 0 1000000 12 ∷ call 0 0 1 12 ∷ [])
     ≡ gives 1 ∷ refused 12 ∷ gives 0 ∷ refused 13 ∷ gives 0 ∷ []

@@ -41,7 +41,7 @@ module _ (cap : ℕ) (t : List ℕ) (n : ℕ) (old : List ℕ) (trace : Trace) w
   unfoldable pub flowAt : ℕ → ℕ → ℕ
   flowAt k i = numberAt (flows cap t (trace k) (stateAt k) n) i
 
-  -- "The last equation is boolean: the verdict."
+  -- SPEC 5.5: the verdict.
   abbrev pub verdictAt : ℕ → ℕ
   verdictAt k = flowAt k (n - 1)
 
@@ -88,7 +88,7 @@ module _ (cap : ℕ) (t : List ℕ) (n : ℕ) (old : List ℕ) (trace : Trace) (
   pub state-room : (k : ℕ) → n ≤ length (stateAt cap t n old trace k)
   state-room k = rw (length-state k) room
 
-  -- The cell of a memory: its initial value at the first tick, then the flow of its operand one tick ago.
+  -- The cell of a memory: its initial value at the first tick, then the flow of its operand at the tick before.
   pub cell-at : (k i : ℕ) → i < n → isMemory (kindAt t i) ≡ true
       → numberAt (stateAt cap t n old trace k) i ≡ remembered t (flowAt cap t n old trace) i k
   unfolding stateAt flowAt

@@ -1,5 +1,4 @@
 -- One tick of a table, over the cap of its counts: the flows, the fresh state and the next state. Definitions only.
--- The sentences quoted are document 01's, from "Equations".
 use mathlib.Core.Bool.{Bool, not, _&&_, _||_, cond}
 use mathlib.Core.List.{List, [], _∷_, _++_}
 use Prim.Native.Nat.{ℕ, zero, suc, _+_, min}
@@ -16,12 +15,12 @@ use Rattle.tables.specs.Table.Kind.{countPre, capped, ifElse, compareLiteral, c
 use Rattle.tables.specs.declared.Sort.{Sort}
 use Rattle.tables.specs.declared.Sort.the-variants.{Boolean, Count}
 
--- "count A, one more if boolean B, never above 1,000,000"
+-- SPEC 5.3, kind 8: one more where it is asked for, up to the cap.
 unfoldable pub increased : ℕ → ℕ → Bool → ℕ
 increased cap x more = cond more (min cap (x + 1)) x
 
--- The value of an equation of that kind, from the tick, the flows that it reads and its cell: the table of kinds,
--- column "value".
+-- SPEC 5.3, the column of values: the value of an equation of that kind, from the tick, the flows that it reads and
+-- its cell.
 unfoldable pub valueOf : ℕ → Tick → (ℕ → ℕ) → ℕ → Kind → Equation → ℕ
 valueOf cap k flow cell signal e = truth (signalAt k (e .a))
 valueOf cap k flow cell start e = truth (starts k)
@@ -45,7 +44,7 @@ valueAt cap t k state before i = valueOf cap k (numberAt before) (numberAt state
 abbrev pub oneMore : ℕ → List ℕ → Tick → List ℕ → ℕ → List ℕ → List ℕ
 oneMore cap t k state i before = before ++ (valueAt cap t k state before i ∷ [])
 
--- The first i flows of a tick.
+-- SPEC 8.5: the first i flows of a tick.
 unfoldable pub flows : ℕ → List ℕ → Tick → List ℕ → ℕ → List ℕ
 flows cap t k state zero = []
 flows cap t k state (suc i) = oneMore cap t k state i (flows cap t k state i)
@@ -54,13 +53,12 @@ flows cap t k state (suc i) = oneMore cap t k state i (flows cap t k state i)
 abbrev pub store : List ℕ → (ℕ → ℕ) → ℕ → List ℕ → List ℕ
 store t f i state = cond (isMemory (kindAt t i)) (set state i (f i)) state
 
--- "Cells of kinds 6 and 7 hold the value to be given next; the other cells are never written. Cells [..] after
--- equation n−1 are kept": f i in the cell of each memory i below n, and every other cell as it was.
+-- SPEC 5.8: f i in the cell of each memory i below n, and every other cell as it was.
 unfoldable pub memoriesSet : List ℕ → (ℕ → ℕ) → ℕ → List ℕ → List ℕ
 memoriesSet t f zero state = state
 memoriesSet t f (suc i) state = store t f i (memoriesSet t f i state)
 
--- "C (kind 6) or 0 (kind 7)"
+-- SPEC 8.4: what a memory gives first, by its sort.
 unfoldable pub initial : Sort → ℕ → ℕ
 initial Boolean c = c
 initial Count c = 0
@@ -68,7 +66,7 @@ initial Count c = 0
 abbrev pub initialAt : List ℕ → ℕ → ℕ
 initialAt t i = initial (sortOf (kindAt t i)) (equationAt t i .c)
 
--- "A fresh state sets memory cells to C (kind 6) or 0 (kind 7)."
+-- SPEC 8.4: the fresh state of n equations, over the cells of an old one.
 abbrev pub freshState : List ℕ → ℕ → List ℕ → List ℕ
 freshState t n state = memoriesSet t (initialAt t) n state
 
@@ -76,11 +74,11 @@ freshState t n state = memoriesSet t (initialAt t) n state
 abbrev pub operandAt : List ℕ → List ℕ → ℕ → ℕ
 operandAt t fs i = numberAt fs (equationAt t i .a)
 
--- The state for the next tick, after a tick with the flows fs.
+-- SPEC 5.8, SPEC 8.5: the state for the next tick, after a tick with the flows fs.
 abbrev pub nextState : List ℕ → List ℕ → ℕ → List ℕ → List ℕ
 nextState t fs n state = memoriesSet t (operandAt t fs) n state
 
--- "A flow is a boolean (0, 1) or a count (0 to 1,000,000)."
+-- SPEC 5.2: the values of each sort.
 unfoldable pub inRange : ℕ → Sort → ℕ → Bool
 inRange cap Boolean x = ltb x truthCount
 inRange cap Count x = leb x cap

@@ -1,5 +1,6 @@
--- What it is for flows to satisfy the equations of a table, as Lustre reads them, and demand 2 of a run: what its steps
--- leave are these flows. Definitions only; the theorem is `runs-as-lustre` in proofs/Lists.antt.
+-- What it is for flows to satisfy the equations of a table, as Lustre reads them (SPEC 6.3), and demand 2 of a run
+-- (SPEC 12.2): what its steps leave are these flows. Definitions only; the theorem is `runs-as-lustre` in
+-- proofs/Lists.antt.
 use mathlib.Core.Bool.{true}
 use mathlib.Core.List.{List, [], _∷_, _++_}
 use mathlib.Core.Path.{_≡_}
@@ -13,17 +14,16 @@ use Rattle.flows.specs.Step.{AfterStep}
 use Rattle.flows.specs.Run.{Call, Taken, fromFresh, ticks, EachTick, CallsDecide}
 use Rattle.flows.specs.declared.Stepped.the-variants.{Verdict}
 
--- Lustre's `x -> pre(y)`: x at the first tick, then y one tick ago.
+-- SPEC 6.3: Lustre's `x -> pre(y)`, x at the first tick, then y of the tick before.
 abbrev pub arrowPre : ℕ → (ℕ → ℕ) → ℕ → ℕ
 arrowPre x y zero = x
 arrowPre x y (suc k) = y k
 
--- What the memory of equation i gives at tick k: "boolean A one tick ago, C (0 or 1) at the first tick", or "count A
--- one tick ago, 0 at the first tick".
+-- SPEC 5.3, kinds 6 and 7: what the memory of equation i gives at tick k.
 abbrev pub remembered : List ℕ → (ℕ → ℕ → ℕ) → ℕ → ℕ → ℕ
 remembered t flow i k = arrowPre (initialAt t i) (λ j. flow j (equationAt t i .a)) k
 
--- Flow i, `flow k i` at tick k, satisfies its own equation at that tick, with its operands at the same tick.
+-- SPEC 6.3: flow i, `flow k i` at tick k, satisfies its own equation at that tick, with its operands at the same tick.
 abbrev pub Equated : ℕ → List ℕ → Trace → (ℕ → ℕ → ℕ) → ℕ → ℕ → Type 0
 Equated cap t trace flow i k =
     flow k i ≡ valueOf cap (trace k) (flow k) (remembered t flow i k) (kindAt t i) (equationAt t i)
@@ -46,15 +46,13 @@ unfoldable pub firsts : (ℕ → ℕ) → ℕ → List ℕ
 firsts f zero = []
 firsts f (suc n) = firsts f n ++ (f n ∷ [])
 
--- The step of the tick numbered k leaves the n flows in the lent values and answers the last: "a second buffer that it
--- fills with the n flow values", "Cells and values after equation n−1 are kept", "The last equation is boolean: the
--- verdict".
+-- SPEC 6.4: the step of the tick numbered k leaves the n flows in the lent values (SPEC 5.9), keeps what stood behind
+-- them (SPEC 1.5), and answers the last.
 pub record Leaves (n : ℕ) (flow : ℕ → ℕ → ℕ) (k : ℕ) (s : Taken) : Type 0 where
   pub values : s .left .values ≡ firsts (flow k) n ++ drop n (s .call .values)
   pub verdict : s .left .answer ≡ Verdict (flow k (n - 1))
 
--- "Running a table gives each equation, tick by tick, the value Lustre gives it, with counts held at" the cap (demand
--- 2), of a table of n equations:
+-- SPEC 6.4, SPEC 12.2 (demand 2), of a table of n equations with counts up to the cap:
 pub record RunsAsLustre (cap : ℕ) (t : List ℕ) (n : ℕ) : Type 0 where
   -- On every trace there are flows that satisfy the equations and are in range,
   pub flow : Trace → ℕ → ℕ → ℕ

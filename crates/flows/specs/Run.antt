@@ -1,4 +1,4 @@
--- Lists of calls of a step, and their ticks (document 01, "Interval meaning", last paragraph). Definitions only.
+-- Lists of calls of a step (SPEC 6.1), and their ticks (SPEC 6.2). Definitions only.
 use mathlib.Core.List.{List, [], _∷_, map}
 use mathlib.Core.Path.{_≡_}
 use Prim.Native.Nat.{ℕ, suc}
@@ -12,7 +12,7 @@ use Rattle.tables.specs.declared.Checked.the-variants.{Passed, Refused as Faile
 use Rattle.flows.specs.declared.Stepped.{Stepped}
 use Rattle.flows.specs.declared.Stepped.the-variants.{Verdict, Refused}
 
--- What a step is given besides the table, n and the state: "Everything else it is given is as the caller likes".
+-- SPEC 6.1: what a step gets besides the table, n and the state. It may be anything.
 pub record Call : Type 0 where
   pub tick : Tick
   pub values : List ℕ
@@ -26,7 +26,7 @@ pub record Taken : Type 0 where
   pub call : Call
   pub left : AfterStep
 
--- The steps of a list of calls. "Each step is given that table, that n and the state as the call before left it."
+-- SPEC 6.1: the steps of a list of calls, each on the state that is left by the one before.
 unfoldable pub steps : ℕ → List ℕ → ℕ → List ℕ → List Call → List Taken
 steps cap t n state [] = []
 steps cap t n state (x ∷ xs) =
@@ -39,8 +39,7 @@ fromFresh cap t n old calls = steps cap t n (freshened t n old .state) calls
 abbrev pub answered : List Taken → List Stepped
 answered ss = map (λ (s : Taken). s .left .answer) ss
 
--- "The ticks are the steps that are not refused, numbered from 0, each with the start, signals and parameters its step
--- was given".
+-- SPEC 6.2: the ticks of the steps that are not refused.
 abbrev pub tickIf : Stepped → Tick → List Tick → List Tick
 tickIf (Verdict v) k ks = k ∷ ks
 tickIf (Refused r) k ks = ks
@@ -49,7 +48,7 @@ abbrev pub ticks : List Taken → List Tick
 ticks [] = []
 ticks (s ∷ ss) = tickIf (s .left .answer) (s .call .tick) (ticks ss)
 
--- "At every tick of the list": P holds of each tick's number and its step, from the number k on.
+-- SPEC 6.2: P holds of each tick's number and its step, from the number k on; a refused step has no number.
 pub data EachTick (P : ℕ → Taken → Type 0) : ℕ → List Taken → Type 0 where
   none : {k : ℕ} → EachTick P k []
   tick : {k v : ℕ} {s : Taken} {ss : List Taken} → s .left .answer ≡ Verdict v → P k s → EachTick P (suc k) ss
@@ -68,6 +67,6 @@ abbrev pub refusalIn : Stepped → Checked
 refusalIn (Verdict v) = Passed
 refusalIn (Refused r) = Failed r
 
--- "no step of the list is refused by 14 or for a short state, so the calls alone decide which steps are refused"
+-- SPEC 6.5: each step is refused, or not, as these tests of its call say.
 abbrev pub CallsDecide : ℕ → ℕ → List Call → List Taken → Type 0
 CallsDecide cap n calls ss = map refusalIn (answered ss) ≡ map (admits cap n) calls

@@ -1,5 +1,4 @@
 -- The fresh state and the step with their refusals: the whole effect of a call as one record. Definitions only.
--- The sentences quoted are document 01's, from "Each operation and its refusals".
 use mathlib.Core.Bool.{Bool, not, _&&_, _||_}
 use mathlib.Core.List.{List, [], _∷_, _++_}
 use Prim.Native.Nat.{ℕ, _-_}
@@ -21,21 +20,21 @@ use Rattle.flows.specs.declared.Fresh.the-variants.{Made, Refused as Not
 use Rattle.flows.specs.declared.Stepped.{Stepped}
 use Rattle.flows.specs.declared.Stepped.the-variants.{Verdict, Refused}
 
--- "a fresh state [gives] no number",
+-- SPEC 8.4: there is no result.
 abbrev pub freshReply : Fresh → Reply
 freshReply Made = gives 0
 freshReply (NotMade r) = refused r
 
--- "a step the verdict".
+-- SPEC 8.5: the result is the verdict.
 abbrev pub stepReply : Stepped → Reply
 stepReply (Verdict v) = gives v
 stepReply (Refused r) = refused r
 
--- "12: the state is shorter than n."
+-- SPEC 8.4: the tests of a fresh state, in order. The test of refusal 12 (SPEC 7.12): each equation has a cell.
 abbrev pub freshTests : List ℕ → ℕ → List ℕ → List Test
 freshTests t n state = tableTests t n ++ (test 12 (leb n (length state)) ∷ [])
 
--- "12: state or values shorter than n"
+-- The test of refusal 12 of a step (SPEC 7.12): each equation has a cell, and a place among the values.
 abbrev pub roomTest : ℕ → List ℕ → List ℕ → Test
 roomTest n state values = test 12 (leb n (length state) && leb n (length values))
 
@@ -43,7 +42,7 @@ roomTest n state values = test 12 (leb n (length state) && leb n (length values)
 unfoldable pub parameterFits : ℕ → Tick → ℕ → Bool
 parameterFits cap k j = ltb (parameterAt k j) cap
 
--- "13: a parameter above 999,999"
+-- The test of refusal 13 (SPEC 7.13): every parameter is. Those that the clause admits are below `standardCap`.
 abbrev pub parameterTest : ℕ → Tick → Test
 parameterTest cap k = test 13 (all (parameterFits cap k) parameterCount)
 
@@ -57,16 +56,16 @@ cellFitsAt cap t state i = cellFits cap (kindAt t i) (numberAt state i)
 abbrev pub cellsFit : ℕ → List ℕ → ℕ → List ℕ → Bool
 cellsFit cap t n state = all (cellFitsAt cap t state) n
 
--- "14: a memory's cell outside its sort's range"
+-- The test of refusal 14 (SPEC 7.14): every memory's cell is in range (SPEC 5.2).
 abbrev pub cellTest : ℕ → List ℕ → ℕ → List ℕ → Test
 cellTest cap t n state = test 14 (cellsFit cap t n state)
 
--- "Step. 10, 11; 12 [..]; 13 [..]; 14 [..]."
+-- SPEC 8.5: the tests of a step, in order.
 abbrev pub stepTests : ℕ → List ℕ → ℕ → List ℕ → List ℕ → Tick → List Test
 stepTests cap t n state values k =
     tableTests t n ++ (roomTest n state values ∷ parameterTest cap k ∷ cellTest cap t n state ∷ [])
 
--- What the refusals of a fresh state say of a call: the first that applies, or none.
+-- What the tests of a fresh state say of a call: the first refusal, or none.
 unfoldable pub freshChecked : List ℕ → ℕ → List ℕ → Checked
 freshChecked t n state = firstFailed (freshTests t n state)
 
@@ -82,12 +81,12 @@ pub record AfterFresh : Type 0 where
 abbrev pub afterFresh : Fresh → List ℕ → AfterFresh
 afterFresh r state = record { answer = r; state = state }
 
--- A refusal "changes no lent memory".
+-- SPEC 1.4: a refusal leaves the state as it was.
 abbrev pub freshenedIf : Checked → List ℕ → ℕ → List ℕ → AfterFresh
 freshenedIf Passed t n state = afterFresh Made (freshState t n state)
 freshenedIf (Failed r) t n state = afterFresh (NotMade r) state
 
--- The whole effect of making a fresh state.
+-- SPEC 8.4: the whole effect of making a fresh state.
 unfoldable pub freshened : List ℕ → ℕ → List ℕ → AfterFresh
 freshened t n state = freshenedIf (freshChecked t n state) t n state
 
@@ -100,7 +99,8 @@ pub record AfterStep : Type 0 where
 abbrev pub afterStep : Stepped → List ℕ → List ℕ → AfterStep
 afterStep r state values = record { answer = r; state = state; values = values }
 
--- After a tick with the flows fs: the last one is the verdict, and "Cells and values after equation n−1 are kept".
+-- After a tick with the flows fs: the last one is the verdict, the values begin with them (SPEC 5.9), and what stands
+-- behind is kept (SPEC 1.5).
 abbrev pub afterFlows : List ℕ → ℕ → List ℕ → List ℕ → List ℕ → AfterStep
 afterFlows t n state values fs =
     afterStep (Verdict (numberAt fs (n - 1))) (nextState t fs n state) (fs ++ drop n values)
@@ -109,11 +109,11 @@ afterFlows t n state values fs =
 unfoldable pub afterTick : ℕ → List ℕ → ℕ → List ℕ → List ℕ → Tick → AfterStep
 afterTick cap t n state values k = afterFlows t n state values (flows cap t k state n)
 
--- A refusal "changes no lent memory".
+-- SPEC 1.4: a refusal leaves state and values as they were.
 abbrev pub steppedIf : Checked → ℕ → List ℕ → ℕ → List ℕ → List ℕ → Tick → AfterStep
 steppedIf Passed cap t n state values k = afterTick cap t n state values k
 steppedIf (Failed r) cap t n state values k = afterStep (Refused r) state values
 
--- The whole effect of a step.
+-- SPEC 8.5: the whole effect of a step.
 unfoldable pub stepped : ℕ → List ℕ → ℕ → List ℕ → List ℕ → Tick → AfterStep
 stepped cap t n state values k = steppedIf (stepChecked cap t n state values k) cap t n state values k

@@ -1,5 +1,5 @@
-// The flows of an equation table: a fresh state, and the step that runs a table for one tick, refusals 10 to 14. What
-// they mean is in specs/.
+// The flows of an equation table: a fresh state (SPEC 8.4), and the step that runs a table for one tick (SPEC 8.5),
+// refusals 10 to 14. What they mean is in specs/.
 use tables::Checked;
 use tables::Sort;
 use traces::Tick;

@@ -1,5 +1,5 @@
--- Demand 3 from the text's bytes to the verdicts: the observer of a rule that is read observes its formula. Assumes
--- nothing.
+-- SPEC 12.3 (demand 3) from the text's bytes to the verdicts: the observer of a rule that is read observes its formula.
+-- Assumes nothing.
 use mathlib.Core.Bool.{Bool, true, cond}
 use mathlib.Core.List.{List, _++_}
 use mathlib.Core.Option.{Option, some}

@@ -1,6 +1,5 @@
--- What compiling a text does (document 01: "Compile a text. 1 to 8 as above; 9: the lent table has under 16,384
--- numbers."). Which table it makes is free in document 01; here it is the observer of crates/scheme/specs/Emit.antt.
--- Definitions only.
+-- What compiling a text does (SPEC 8.2). The clause leaves open which equations it makes; here they are the observer of
+-- crates/scheme/specs/Emit.antt. Definitions only.
 use mathlib.Core.Bool.{cond}
 use mathlib.Core.List.{List, []}
 use mathlib.Core.Option.{Option, none, some}
@@ -36,7 +35,7 @@ observerOf (some f) = observer f
 abbrev pub stored : List Equation → List ℕ → AfterCompile
 stored es table = afterCompile (Equations (length es)) (sets table 0 (numbersOf es))
 
--- "A refusal .. changes no lent memory. The first that applies counts."
+-- The refusals of reading, then SPEC 7.9; each leaves the table as it was (SPEC 1.4).
 abbrev pub ofOutcome : Outcome → List ℕ → AfterCompile
 ofOutcome (refused n) table = afterCompile (Refused n) table
 ofOutcome (rule t) table =

@@ -1,7 +1,5 @@
--- Demand 3 of a text, the table and n that compiling it gave: "For every rule that is read and compiled, and for every
--- list of steps on its table from the fresh state, refused ones included, the number of ticks at which the step's
--- verdict and document 01's interval meaning disagree is nought". `Observes` (crates/agreement/specs/Agreement.antt)
--- is the statement about the list of steps. Definitions only.
+-- SPEC 12.3 (demand 3) of a text and the table that compiling it leaves. `Observes`
+-- (crates/agreement/specs/Agreement.antt) is the statement about the list of steps. Definitions only.
 use mathlib.Core.List.{List, _++_}
 use mathlib.Core.Option.{some}
 use mathlib.Core.Path.{_≡_}
@@ -18,12 +16,12 @@ use Rattle.rules.specs.Reading.Outcome.{refused, rule}
 use Rattle.observers.specs.declared.Compiled.{Compiled}
 use Rattle.observers.specs.declared.Compiled.the-variants.{Equations, Refused}
 
--- Compiling a text into a table: the answer, and the table before and after. It says nothing of how equations are
--- chosen.
+-- SPEC 8.2: compiling a text into a table, the answer, and the table before and after. It says nothing of how equations
+-- are chosen.
 pub data Compiles (text before : List ℕ) : Compiled → List ℕ → Type 0 where
-  -- "1 to 8 as above", the table unchanged
+  -- refused as reading the text is, the table unchanged
   not-read : {k : ℕ} → HasOutcome text (refused k) → Compiles text before (Refused k) before
-  -- "9: the lent table has under 16,384 numbers", the table unchanged
+  -- SPEC 7.9: too short a table, unchanged
   no-room : {t : Tree} → HasOutcome text (rule t) → length before < tableRoom → Compiles text before (Refused 9) before
   -- Else the first n equations of the table observe the rule's formula, whatever numbers or none stand after them where
   -- they are used, and all other numbers of the lent table are kept.
@@ -32,7 +30,7 @@ pub data Compiles (text before : List ℕ) : Compiled → List ℕ → Type 0 wh
       → ((rest : List ℕ) → Observes standardCap (take (4 * n) after ++ rest) n f (nodes t))
       → Compiles text before (Equations n) after
 
--- "compiling and reading Lustre text give n"
+-- SPEC 8.2: the result is n.
 abbrev pub compileReply : Compiled → Reply
 compileReply (Equations n) = gives n
 compileReply (Refused k) = Reply.refused k

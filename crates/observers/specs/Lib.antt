@@ -1,3 +1,3 @@
--- Compiling a rule text: what it does, and demand 3 of it.
+-- Compiling a rule text: what it does, and demand 3 of it (SPEC 12.3).
 pub mod Compile
 pub mod Demand

@@ -1,4 +1,4 @@
-// Compiling a rule text to its observer (document 01, "Compile a text").
+// Compiling a rule text to its observer (SPEC 8.2).
 use rules::Records;
 ghost use mathlib.Core.Path.{_≡_};
 ghost use Rattle.observers.specs.Compile.{afterCompile, compiled};
@@ -10,7 +10,7 @@ pub enum Compiled {
     Refused(u32),
 }
 
-// Compile a text: refusals 1 to 8 as reading, 9 where the lent table has under 16,384 numbers; otherwise the observer's
+// Compile a text: refusals 1 to 8 as reading, 9 where the lent table is too short (SPEC 7.9); otherwise the observer's
 // equations stand at the front of the table, and the rest of it is kept.
 pub fn compile_rule(text: &[u8], table: &mut [u32]) -> Compiled
     ensures { λ r. ⌜ afterCompile r (now (table .exit)) ≡ compiled (now (text .entry)) (now (table .entry)) ⌝ }

@@ -1,4 +1,4 @@
--- How many memories an observer has, exactly; so at most two for each node and one more. Assumes nothing.
+-- How many memories an observer has, exactly; from this follows the bound of SPEC 12.3. Assumes nothing.
 use mathlib.Core.Bool.{Bool, true, false, cond}
 use mathlib.Core.List.{List, [], _∷_, _++_}
 use mathlib.Core.Path.{_≡_, refl, ap, _∙_}
@@ -155,7 +155,7 @@ pub memories-exactly : (f : Formula) (junk : List ℕ)
     → memories (numbersOf (observer f) ++ junk) (length (observer f)) ≡ memoriesOf f + 1
 memories-exactly f junk = memories-counted (observer f) junk ∙ counted-observer f
 
--- and that is at most two for each node and one more.
+-- and each node has two at the most.
 two-a-node : (f : Formula) → memoriesOf f ≤ 2 * nodes (raw f)
 two-a-node (test begin p) = omega arith
 two-a-node (test end p) = omega arith

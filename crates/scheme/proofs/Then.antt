@@ -1,5 +1,5 @@
--- The rows of a `then` give its meaning, since its lead only goes from true to false: first what the meaning is by
--- where the lead ends, then the phases that the rows go through. Assumes nothing.
+-- The rows of a `then` give its meaning, since a lead that is false stays false (SPEC 3.9): first what the meaning is
+-- by where the lead ends, then the phases that the rows go through. Assumes nothing.
 use mathlib.Core.Bool.{Bool, true, false, not, _&&_, _||_, true≢false}
 use mathlib.Core.Path.{_≡_, refl, sym, ap, ap₂, _∙_}
 use Prim.Native.Nat.{ℕ, zero, suc, _-_, _≤_}
@@ -19,7 +19,7 @@ use Rattle.scheme.proofs.Atoms.{Since}
 abbrev pub endsAt : (ℕ → ℕ → Bool) → (ℕ → ℕ → Bool) → ℕ → ℕ → ℕ → Bool
 endsAt l f b e m = l b m && (not (l b (suc m)) && f (suc m) e)
 
--- A lead l, which only goes from true to false, on the intervals from b on, and a second part f.
+-- A lead l, which stays false once it is, on the intervals from b on, and a second part f.
 module _ (l f : ℕ → ℕ → Bool) (b : ℕ) (falls : (d : ℕ) → l b (suc (b ⊕ d)) ≡ true → l b (b ⊕ d) ≡ true) where
   true-since : (i d : ℕ) → l b (b ⊕ (i ⊕ d)) ≡ true → l b (b ⊕ i) ≡ true
   true-since i zero e = e

@@ -63,7 +63,7 @@ unfolding sameSort
 boolean-or-count Boolean = refl
 boolean-or-count Count = refl
 
--- Kinds 6 and 7 are the memories.
+-- SPEC 5.7: the memories by the numbers of their kinds.
 pub memories : (k : ℕ) → isMemory (kindOf k) ≡ (leb BOOLEAN-PRE k && leb k COUNT-PRE)
 unfolding kindOf isMemory all
 memories k = elim (decLt k kindCount) [

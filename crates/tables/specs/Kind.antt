@@ -1,4 +1,4 @@
--- The numbers of the kinds of equations (document 01, "Equations": the column "kind"). Definitions only.
+-- The numbers of the kinds of equations (SPEC 5.3, the first column). Definitions only.
 use Prim.Native.Nat.{ℕ}
 
 abbrev pub SIGNAL : ℕ
@@ -37,6 +37,6 @@ COMPARE-LITERAL = 10
 abbrev pub COMPARE-PARAMETER : ℕ
 COMPARE-PARAMETER = 11
 
--- How many kinds there are.
+-- SPEC 5.3: how many kinds there are.
 abbrev pub kindCount : ℕ
 kindCount = 12

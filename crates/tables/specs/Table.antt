@@ -1,5 +1,4 @@
 -- Equation tables: the numbers of an equation, the twelve kinds, and which tables are well formed. Definitions only.
--- The sentences quoted are document 01's, from "Equations" and "Each operation and its refusals".
 use mathlib.Core.Bool.{Bool, true, false, _&&_, cond}
 use mathlib.Core.List.{List, [], _∷_}
 use Prim.Native.Nat.{ℕ, zero, suc, _+_, _*_, _-_}
@@ -20,7 +19,7 @@ unfoldable pub all : (ℕ → Bool) → ℕ → Bool
 all f zero = true
 all f (suc k) = all f k && f k
 
--- "Four 32-bit numbers each: kind, A, B, C."
+-- SPEC 5.1: the numbers of an equation.
 pub record Equation : Type 0 where
   pub kind : ℕ
   pub a : ℕ
@@ -45,7 +44,7 @@ pub data Kind : Type 0 where
   signal start constant negation conjunction disjunction booleanPre countPre capped ifElse : Kind
   compareLiteral compareParameter unknown : Kind
 
--- The kinds in the order of their numbers, 0 to 11.
+-- SPEC 5.3: the kinds in the order of their numbers.
 abbrev pub kinds : List Kind
 kinds =
     signal ∷ start ∷ constant ∷ negation ∷ conjunction ∷ disjunction ∷ booleanPre ∷ countPre ∷ capped ∷ ifElse
@@ -63,8 +62,8 @@ kindAt t i = kindOf (numberAt t (4 * i))
 abbrev pub row : Operand → Operand → Operand → Sort → Shape
 row x y z s = record { a = x; b = y; c = z; gives = s }
 
--- The table of kinds. "Operands are earlier equations of the right sort; only the operand of 6 and 7 may stand
--- anywhere." "Unused numbers are 0." No number fits A of an unknown kind.
+-- SPEC 5.3: the table of kinds. SPEC 5.4: operands stand before, those of the memories anywhere. No number fits A of an
+-- unknown kind.
 unfoldable pub shapeOf : Kind → Shape
 shapeOf signal = row (Below signalCount) Unused Unused Boolean
 shapeOf start = row Unused Unused Unused Boolean
@@ -91,7 +90,7 @@ sameSort Boolean Count = false
 sameSort Count Boolean = false
 sameSort Count Count = true
 
--- "Kinds 6 and 7 are the memories."
+-- SPEC 5.7: the kinds that are memories.
 unfoldable pub isMemory : Kind → Bool
 isMemory signal = false
 isMemory start = false
@@ -107,7 +106,7 @@ isMemory compareLiteral = false
 isMemory compareParameter = false
 isMemory unknown = false
 
--- "Memories are counted over the n equations": kinds 6 and 7.
+-- SPEC 5.7: how many of the first equations of a table are memories.
 abbrev pub memories : List ℕ → ℕ → ℕ
 memories t zero = 0
 memories t (suc i) = cond (isMemory (kindAt t i)) (suc (memories t i)) (memories t i)
@@ -116,7 +115,7 @@ memories t (suc i) = cond (isMemory (kindAt t i)) (suc (memories t i)) (memories
 unfoldable pub isFlow : List ℕ → ℕ → Sort → ℕ → Bool
 isFlow t m s x = ltb x m && sameSort (sortOf (kindAt t x)) s
 
--- The number x can be such an operand in equation i of n.
+-- SPEC 5.4: the number x can be such an operand in equation i of n; SPEC 5.1: it is 0 where none is used.
 unfoldable pub operandFits : List ℕ → ℕ → ℕ → Operand → ℕ → Bool
 operandFits t n i Unused x = eqb x 0
 operandFits t n i (Earlier s) x = isFlow t i s x
@@ -132,11 +131,11 @@ shapeFits t n i s e =
 abbrev pub equationFits : List ℕ → ℕ → ℕ → Bool
 equationFits t n i = shapeFits t n i (shapeOf (kindAt t i)) (equationAt t i)
 
--- "10: n is 0 or above 4,096, or the table is shorter than 4 times n."
+-- The test of refusal 10 (SPEC 7.10): a table can have n equations (SPEC 5.6), and this one has their numbers.
 unfoldable pub lengthFits : List ℕ → ℕ → Bool
 lengthFits t n = ltb 0 n && (leb n equationLimit && leb (4 * n) (length t))
 
--- "11: some equation or the last one's sort breaks the rules above."  "The last equation is boolean: the verdict."
+-- The test of refusal 11 (SPEC 7.11): each equation keeps the rules of its kind, and the verdict is boolean (SPEC 5.5).
 unfoldable pub equationsFit : List ℕ → ℕ → Bool
 equationsFit t n = all (equationFits t n) n && sameSort (sortOf (kindAt t (n - 1))) Boolean
 
@@ -148,7 +147,7 @@ pub record Test : Type 0 where
 abbrev pub test : ℕ → Bool → Test
 test r b = record { refusal = r; passed = b }
 
--- "The first that applies counts."
+-- SPEC 1.4: the first test that fails gives the refusal.
 abbrev pub firstFailed : List Test → Checked
 firstFailed [] = Passed
 firstFailed (x ∷ xs) = cond (x .passed) (firstFailed xs) (Refused (x .refusal))

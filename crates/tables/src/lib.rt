@@ -1,5 +1,5 @@
-// Equation tables: the kinds of equations by their numbers, and the check of a table, refusals 10 and 11. What they
-// mean is in specs/.
+// Equation tables: the kinds of equations by their numbers (SPEC 5.3), and the check of a table, refusals 10 and 11
+// (SPEC 7.10, SPEC 7.11). What they mean is in specs/.
 ghost use mathlib.Core.Path.{_≡_};
 ghost use mathlib.Core.Bool.{_&&_};
 ghost use Prim.Native.Nat.{_*_, _≤_, _<_};
@@ -68,86 +68,86 @@ pub const COMPARE_PARAMETER: u32 = 11;
 // How many kinds there are.
 pub const KIND_COUNT: usize = 12;
 
-// The table of kinds: a row for each, by its number.
+// The table of kinds (SPEC 5.3, SPEC 12.5): a row for each, by its number.
 const KINDS: [Shape; KIND_COUNT] = [
-    // 0: signal A.
+    // 0: a signal.
     Shape {
         a: Operand::Below(limits::SIGNALS),
         b: Operand::Unused,
         c: Operand::Unused,
         gives: Sort::Boolean,
     },
-    // 1: start.
+    // 1: the start.
     Shape {
         a: Operand::Unused,
         b: Operand::Unused,
         c: Operand::Unused,
         gives: Sort::Boolean,
     },
-    // 2: constant A.
+    // 2: a constant.
     Shape {
         a: Operand::Below(limits::TRUTHS),
         b: Operand::Unused,
         c: Operand::Unused,
         gives: Sort::Boolean,
     },
-    // 3: not A.
+    // 3: not.
     Shape {
         a: Operand::Earlier(Sort::Boolean),
         b: Operand::Unused,
         c: Operand::Unused,
         gives: Sort::Boolean,
     },
-    // 4: A and B.
+    // 4: and.
     Shape {
         a: Operand::Earlier(Sort::Boolean),
         b: Operand::Earlier(Sort::Boolean),
         c: Operand::Unused,
         gives: Sort::Boolean,
     },
-    // 5: A or B.
+    // 5: or.
     Shape {
         a: Operand::Earlier(Sort::Boolean),
         b: Operand::Earlier(Sort::Boolean),
         c: Operand::Unused,
         gives: Sort::Boolean,
     },
-    // 6: boolean A one tick ago, C at the first tick.
+    // 6: the memory of a boolean, which C begins.
     Shape {
         a: Operand::Anywhere(Sort::Boolean),
         b: Operand::Unused,
         c: Operand::Below(limits::TRUTHS),
         gives: Sort::Boolean,
     },
-    // 7: count A one tick ago, 0 at the first tick.
+    // 7: the memory of a count.
     Shape {
         a: Operand::Anywhere(Sort::Count),
         b: Operand::Unused,
         c: Operand::Unused,
         gives: Sort::Count,
     },
-    // 8: count A, one more if boolean B, never above the cap.
+    // 8: a count that goes up to the cap.
     Shape {
         a: Operand::Earlier(Sort::Count),
         b: Operand::Earlier(Sort::Boolean),
         c: Operand::Unused,
         gives: Sort::Count,
     },
-    // 9: if boolean A then count B, else 0.
+    // 9: a count or 0.
     Shape {
         a: Operand::Earlier(Sort::Boolean),
         b: Operand::Earlier(Sort::Count),
         c: Operand::Unused,
         gives: Sort::Count,
     },
-    // 10: count A, op B, literal C.
+    // 10: a count compared with a literal.
     Shape {
         a: Operand::Earlier(Sort::Count),
         b: Operand::Below(limits::COMPARISONS),
         c: Operand::Below(limits::LITERALS),
         gives: Sort::Boolean,
     },
-    // 11: count A, op B, parameter C.
+    // 11: a count compared with a parameter.
     Shape {
         a: Operand::Earlier(Sort::Count),
         b: Operand::Below(limits::COMPARISONS),

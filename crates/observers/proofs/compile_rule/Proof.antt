@@ -1,4 +1,4 @@
--- `observers::compile_rule` meets its contract: the whole effect, and demand 3. Assumes nothing.
+-- `observers::compile_rule` meets its contract: the whole effect, and demand 3 (SPEC 12.3). Assumes nothing.
 use mathlib.Core.Path.{sym}
 use native.Mathlib.Omega.{arith}
 use borrow.Author.Needs.{needs}
