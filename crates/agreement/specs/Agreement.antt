@@ -31,7 +31,7 @@ AsMeant f trace k s = s .left .answer ≡ Verdict (verdict trace f k)
 
 -- The n equations of the table are an observer of the formula f, which has that many nodes.
 pub record Observes (cap : ℕ) (t : List ℕ) (n : ℕ) (f : Formula) (nodes : ℕ) : Type 0 where
-  -- Refusals 10 and 11 have nothing against it, so that a fresh state is made where there are cells for it.
+  -- They pass the tests of refusals 10 and 11, so that a fresh state is made where there are cells for it.
   pub formed : checked t n ≡ Passed
   pub fresh : (old : List ℕ) → n ≤ length old → freshened t n old .answer ≡ Made
   -- The step of every tick answers the verdict (SPEC 4.10), from the fresh state over any old cells, over every list of
@@ -41,5 +41,5 @@ pub record Observes (cap : ℕ) (t : List ℕ) (n : ℕ) (f : Formula) (nodes : 
       → EachTick (AsMeant f (traceOfTicks ps (ticks (fromFresh cap t n old calls)))) 0 (fromFresh cap t n old calls)
   pub decides : (old : List ℕ) → n ≤ length old → (calls : List Call)
       → CallsDecide cap n calls (fromFresh cap t n old calls)
-  -- So many memories (SPEC 5.7) at the most, by the nodes (SPEC 3.8).
+  -- Two memories (SPEC 5.7) for each node (SPEC 3.8) at the most, and one besides.
   pub few : memories t n ≤ 2 * nodes + 1

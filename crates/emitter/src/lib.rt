@@ -1,6 +1,6 @@
-// The observer of a rule (SPEC 8.2, SPEC 12.3): one pass over the records of the rule's tree, operands
-// first, as a stack machine. A record's kind picks a node of the observer scheme (crate scheme), and the node's rows
-// go to the table. The pass as a definition is in specs/Machine.antt; that it gives the observer's equations is what
+// The observer of a rule (SPEC 8.2, SPEC 12.3): one pass over the records of the rule's tree, operands first, as a
+// stack machine. A record's kind picks a node of the observer scheme (crate scheme), and the node's rows go to the
+// table. The pass as a definition is in specs/Machine.antt; that it gives the observer's equations is what
 // `emit_observer` promises.
 use node_table::Node;
 use node_table::Row;
