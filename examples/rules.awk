@@ -22,11 +22,11 @@ function begin_block(line) {
     return "waveform"
 }
 
-# after a waveform's last row: its card and the verdicts
-function end_waveform(   i, file) {
+# after a waveform's last row, at a line: its card and the verdicts
+function end_waveform(line,   i, file) {
     said = wave_whole()
     if (said == "" && !("verdict" in wave)) said = "the waveform has no row `verdict`"
-    if (said != "") fault(FNR - 1, said)
+    if (said != "") fault(line, said)
     file = work "/" (++cards)
     wave_card(file ".card")
     for (i = 1; i <= wave_ticks; i++) print "verdict=" substr(wave["verdict"], i, 1) > (file ".out")
@@ -43,7 +43,7 @@ function end_waveform(   i, file) {
 }
 
 {
-    if (block == "waveform") end_waveform()
+    if (block == "waveform") end_waveform(FNR - 1)
     block = ""
 }
 
@@ -57,7 +57,7 @@ ruled && $0 != "" { fault(ruled, "a rule without a waveform two lines below it")
 
 END {
     if (failed) exit 1
-    if (block == "waveform") { FNR++; end_waveform() }
+    if (block == "waveform") end_waveform(FNR)
     if (ruled) fault(ruled, "a rule without a waveform two lines below it")
     print cards + 0 > (work "/count")
 }

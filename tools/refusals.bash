@@ -93,8 +93,10 @@ first_then_without_lead() {
     done
 }
 
-# a word, each byte that does not print as a question mark
-word_text() { tail -c +$((from[$1] + 1)) "$work/rule" | head -c "${long[$1]}" | tr '\000-\037\177-\377' '?'; }
+# standard input, each byte that does not print as a question mark
+printable() { tr '\000-\037\177-\377' '?'; }
+
+word_text() { tail -c +$((from[$1] + 1)) "$work/rule" | head -c "${long[$1]}" | printable; }
 
 # shows the rule, or the part of it around a word, with marks under the word, and under the part left of it from a byte on
 show_word() {
@@ -107,7 +109,7 @@ show_word() {
     fi
     before=$([ "$start" = 0 ] || echo ...)
     echo
-    echo "    $before$(tail -c +$((start + 1)) "$work/rule" | head -c 100 | tr '\000-\037\177-\377' '?')$after"
+    echo "    $before$(tail -c +$((start + 1)) "$work/rule" | head -c 100 | printable)$after"
     awk -v skip=$((4 + ${#before})) -v start="$start" -v from="${from[word]}" -v long="${long[word]}" \
         -v left="$left" -v last="$last" 'BEGIN {
             while (skip-- > 0) line = line " "
@@ -170,7 +172,7 @@ place_without_lead() {
 place_in_card() {
     local line=$1 kind=$(($1 < 5 ? $1 : 5)) ticks
     ticks=$(sed -n '4s/^ticks=//p' "$work/card" | tr -d '\r')
-    echo "line $line of the card: $(sed -n "${line}p" "$work/card" | head -c 60 | tr '\000-\037\177-\377' '?')"
+    echo "line $line of the card: $(sed -n "${line}p" "$work/card" | head -c 60 | tr -d '\n' | printable)"
     if [ "$2" = 18 ] && [ "$line" = $((ticks + 5)) ]; then
         echo "line 4 says that $ticks ticks follow it; this comes after them"
         return

@@ -34,7 +34,7 @@ function wave_row(line,   name, rest) {
     if (name ~ /^s[0-9]+$/ && (name ~ /^s0./ || length(name) > 3 || substr(name, 2) + 0 > 63))
         return "`" name "` is no signal: they are s0 to s63"
     if (name !~ /^s[0-9]+$/ && name != "start" && name != "verdict" && name != "tick")
-        return "no row has the name `" name "`"
+        return "no row has the name `" substr(name, 1, 40) "`"
     return wave_take_columns(name, rest)
 }
 

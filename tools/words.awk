@@ -41,7 +41,8 @@ function take_word(i, n) {
 
 END {
     for (i = 32; i < 127; i++) code[sprintf("%c", i)] = i
-    left[0] = -1
+    depth = 0
+    left[depth] = -1
     for (i = 0; i < count; i += n) {
         n = byte[i] == 32 ? 1 : word_length(i)
         if (byte[i] != 32) take_word(i, n)
