@@ -1,10 +1,11 @@
 # Reads the waveforms of a page of rules, and writes a card and the lines to be printed for each; goes with
 # tools/waveform.awk. `work` is the folder for them.
 #
-# A line that ends in a colon and a rule in backquotes has its waveform under it, after one empty line, in a block of rows that
-# begin with four blanks. A block that begins with `edition=` is a card, one that begins with `$` a command with what it
-# prints. A block of another kind, a waveform without its rule, a rule without its waveform, a waveform without the row
-# `verdict` and a malformed row are faults: told with their line, exit status 1.
+# A line that ends in a colon and a rule in backquotes, or is a rule in backquotes, has its waveform under it, after one
+# empty line, in a block of rows that begin with four blanks. A block that begins with `edition=` is a card, one that
+# begins with `$` a command with what it prints, up to the next text. A block of another kind, a waveform without its
+# rule, a rule without its waveform, a waveform without the row `verdict` and a malformed row are faults: told with their
+# line, exit status 1.
 
 function fault(line, what) {
     print name ":" line ": " what
@@ -42,6 +43,9 @@ function end_waveform(line,   i, file) {
     next
 }
 
+# an empty line does not end what a command prints
+block == "other" && $0 == "" { next }
+
 {
     if (block == "waveform") end_waveform(FNR - 1)
     block = ""
@@ -49,7 +53,7 @@ function end_waveform(line,   i, file) {
 
 ruled && $0 != "" { fault(ruled, "a rule without a waveform two lines below it") }
 
-/: `[^`]*`$/ {
+/(^|: )`[^`]*`$/ {
     wave_forget()
     wave_take_caption($0)
     ruled = FNR

@@ -1,6 +1,6 @@
-# Draws a waveform with its verdicts as an SVG picture; goes with waveform.awk and read.awk. `printed` is the file with what
-# the program printed. Exit status 1 where a row `verdict` was given and differs. A verdict 0 is hatched, so that it can be told
-# from 1 in print without colour.
+# Draws a waveform with its verdicts as an SVG picture; goes with waveform.awk and read.awk. `printed` is the file with
+# what the program printed. Exit status 1 where a row `verdict` was given and differs. A verdict 0 is hatched, so that it
+# can be told from 1 in print without colour.
 
 # the picture's lines wait until its height is known
 function emit(text) { out[++lines] = text }
@@ -109,7 +109,8 @@ function settings(y,   i, text) {
 
 function style() {
     print "<defs><pattern id=\"hatch\" width=\"6\" height=\"6\" patternUnits=\"userSpaceOnUse\">"
-    print "<rect width=\"6\" height=\"6\" fill=\"#f8d0cc\"/><path d=\"M0 6L6 0\" stroke=\"#a03028\" stroke-width=\"1.2\"/>"
+    print "<rect width=\"6\" height=\"6\" fill=\"#f8d0cc\"/>"
+    print "<path d=\"M0 6L6 0\" stroke=\"#a03028\" stroke-width=\"1.2\"/>"
     print "</pattern></defs>"
     print "<style>"
     print "text { font-family: monospace; font-size: 14px; fill: #111 }"

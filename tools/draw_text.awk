@@ -65,6 +65,6 @@ END {
     unnamed()
     if (!("verdict" in wave)) exit 0
     if (!differing) { print "the verdicts are as drawn"; exit 0 }
-    print "the verdicts differ from those drawn: ticks that differ " differing ", the first of them " first
+    print "the verdicts differ from those drawn at " differing " of " wave_ticks " ticks, first at tick " first
     exit 1
 }

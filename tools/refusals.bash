@@ -1,6 +1,6 @@
-# Words for a refusal, and the place where it falls: functions for tools/wave. The program alone says what is refused; it
-# is asked again and again, with the rule text cut after a word, to find the place. Uses $program, $page and $work;
-# the rule text stands in $work/rule, its words (words.awk) in $work/words.
+# Words for a refusal, and the place where it falls: functions for tools/wave. The program alone says what is refused;
+# it is asked again and again, with the rule text cut after a word, to find the place. Uses $program, $page, $here and
+# $work; the rule text stands in $work/rule, its words (words.awk) in $work/words.
 
 # a cell of the page's table of refusals: its row's number and the column, 3 for the cause and 4 for the cure
 cell() {
@@ -11,8 +11,10 @@ cell() {
 
 # what the page draws for a line of a card: 1 to 4, or 5 for a tick
 card_line_drawn() {
-    awk -v line="$1" '/^    edition=/ { inside = 1 } !/^    / { inside = 0 } inside && ++n == line { sub(/^ +/, ""); print }' \
-        "$page"
+    awk -v line="$1" '
+        /^    edition=/ { inside = 1 }
+        !/^    / { inside = 0 }
+        inside && ++n == line { sub(/^ +/, ""); print }' "$page"
 }
 
 # what the program answers to a rule text on standard input: a refusal's number, or 0 where it is read
@@ -41,7 +43,7 @@ first_word_refused() {
 # whether the first words, as many as said, can go on to a rule; prints the words that make it one. Every beginning of a
 # rule can: an atom, its brackets or its number may be missing, and then the brackets that are still open are closed.
 goes_on() {
-    local end=0 close= head tail
+    local end=0 close='' head tail
     if [ "$1" -gt 0 ]; then
         end=$((from[$1 - 1] + long[$1 - 1]))
         close=${closers[$1 - 1]#-}
@@ -84,7 +86,7 @@ first_word_unwatched() {
 first_then_without_lead() {
     local i
     for i in "${!from[@]}"; do
-        [ "$(word_text "$i")" = then ] || continue
+        [ "$(word_text "$i")" = 'then' ] || continue
         if [ "$(head -c $((from[i] + long[i])) "$work/rule" |
             { cat && printf ' end[1]%s' "${closers[i]#-}"; } | answer)" = 8 ]; then
             echo "$i"
@@ -98,9 +100,10 @@ printable() { tr '\000-\037\177-\377' '?'; }
 
 word_text() { tail -c +$((from[$1] + 1)) "$work/rule" | head -c "${long[$1]}" | printable; }
 
-# shows the rule, or the part of it around a word, with marks under the word, and under the part left of it from a byte on
+# shows the rule, or the part of it around a word, with marks under the word, and under the part left of it from a byte
+# on where one is given
 show_word() {
-    local word=$1 left=${2:-} start=0 length before after= last=0
+    local word=$1 left=${2:-} start=0 length before after='' last=0
     [ "$word" = 0 ] || last=$((from[word - 1] + long[word - 1]))
     length=$(wc -c <"$work/rule")
     if [ "$length" -gt 100 ]; then
@@ -157,7 +160,7 @@ place_out_of_order() {
         echo "something is missing after it: with \`$(goes_on "$1")\` the words are in order"
     else
         show_word "$1"
-        end=$(goes_on "$1") || return 0
+        [ "$1" != 0 ] && end=$(goes_on "$1") || return 0
         echo "the words before it are in order${end:+ if \`$end\` follows them}"
     fi
 }
@@ -180,7 +183,7 @@ place_in_card() {
     head -n "$line" "$work/card" | tail -n +"$line" | awk -v drawn="$(card_line_drawn "$kind")" -v kind="$kind" \
         -v ended="$(head -n "$line" "$work/card" | tail -c 1 | od -An -tu1)" \
         -f "$here/waveform.awk" -f "$here/card_line.awk"
-    echo "on the page: $(card_line_drawn "$kind")"
+    echo "docs/RULES.md has: $(card_line_drawn "$kind")"
 }
 
 # the line at which a card is refused by 17: the first that the program refuses when good lines follow
@@ -202,7 +205,7 @@ broken_line() {
 tell() {
     local cause
     cause=$(cell "$1" 3)
-    echo "refused=$1: ${cause:-$(basename "$page") has no words for it}"
+    echo "refused=$1: ${cause:-$(basename "$page") has no words for it}" | fold -s -w 100 | sed 's/ *$//'
     echo "cure: $(cell "$1" 4)"
     case $1 in
         17) place_in_card "$(broken_line)" 17 ;;
