@@ -4,8 +4,8 @@
 # A line that ends in a colon and a rule in backquotes, or is a rule in backquotes, has its waveform under it, after one
 # empty line, in a block of rows that begin with four blanks. A block that begins with `edition=` is a card, one that
 # begins with `$` a command with what it prints, up to the next text. A block of another kind, a waveform without its
-# rule, a rule without its waveform, a waveform without the row `verdict` and a malformed row are faults: told with their
-# line, exit status 1.
+# rule, a rule without its waveform, a waveform without the row `verdict` and a malformed row are faults: told with
+# their line, exit status 1.
 
 function fault(line, what) {
     print name ":" line ": " what

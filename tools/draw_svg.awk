@@ -1,6 +1,6 @@
 # Draws a waveform with its verdicts as an SVG picture; goes with waveform.awk and read.awk. `printed` is the file with
-# what the program printed. Exit status 1 where a row `verdict` was given and differs. A verdict 0 is hatched, so that it
-# can be told from 1 in print without colour.
+# what the program printed. Exit status 1 where a row `verdict` was given and differs. A verdict 0 is hatched, so that
+# it can be told from 1 in print without colour.
 
 # the picture's lines wait until its height is known
 function emit(text) { out[++lines] = text }

@@ -1,8 +1,8 @@
 # Splits a rule text into words, from `od -An -v -tu1` of its bytes, and prints a line for each word: the byte at which
-# it begins (from 0), its length, the brackets still open after it as the words that close them (innermost first, `-` for
-# none), and the byte at which the part begins in which it stands: after the bracket around it, or after the `then` or
-# `chop` before it. A byte that no word has is a word of its own. Only places are found here: what is a rule, the program
-# says.
+# it begins (from 0), its length, the brackets still open after it as the words that close them (innermost first, `-`
+# for none), and the byte at which the part begins in which it stands: after the bracket around it, or after the `then`
+# or `chop` before it. A byte that no word has is a word of its own. Only places are found here: what is a rule, the
+# program says.
 
 function letter(b) { return b >= 97 && b <= 122 || b >= 48 && b <= 57 }
 
