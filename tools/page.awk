@@ -1,5 +1,5 @@
-# Reads the waveforms of a page of rules for examples/rules, and writes a card and the lines to be printed for each; goes
-# with waveform.awk. `work` is the folder for them, `name` the page's name in a fault.
+# Reads the waveforms of a page of rules for examples/rules, and writes a card and the lines to be printed for each.
+# Goes with waveform.awk. `work` is the folder for them, `name` the page's name in a fault.
 #
 # A line that ends in a colon and a rule in backquotes, or is a rule in backquotes, has its waveform under it, after one
 # empty line, in a block of rows that begin with four blanks. A block that begins with `edition=` is a card, one that

@@ -4,6 +4,7 @@
 # Where `card` is given, the waveform's card is written there.
 
 function fault(line, what) {
+    gsub(/[^ -~]/, "?", what)
     print name ":" line ": " what | "cat 1>&2"
     close("cat 1>&2")
     failed = 1
