@@ -48,7 +48,7 @@ goes_on() {
         end=$((from[$1 - 1] + long[$1 - 1]))
         close=${closers[$1 - 1]#-}
     fi
-    for head in '' 'end[1]' '1' '[1]' '[1]=0' '=0' '0' 's0 end[1]'; do
+    for head in '' 'end[1]' '1' '[1]' '[1]=0' '=0' 's0 end[1]'; do
         for tail in '' '=0'; do
             [[ -z $tail || $close == *]* ]] || continue
             case $(head -c "$end" "$work/rule" | { cat && printf ' %s' "$head${close/]/]$tail}"; } | answer) in
