@@ -18,7 +18,7 @@ use Rattle.formulas.specs.Raw.{raw}
 use Rattle.formulas.proofs.Formulas.{formula-raw}
 use Rattle.grammar.proofs.Theorems.{rule-numbers, rule-size}
 use Rattle.tables.specs.Table.{Equation}
-use Rattle.limits.specs.Limits.{arenaLimit, literalCount, standardCap, tableRoom}
+use Rattle.limits.specs.Limits.{arenaLimit, literalCount, standardCap, tableRoom, ruleEquations}
 use Rattle.scheme.specs.Emit.{observer, numbersOf}
 use Rattle.agreement.specs.Agreement.{Observes}
 use Rattle.agreement.proofs.Theorem.{observes}
@@ -34,6 +34,7 @@ use Rattle.observers.specs.Compile.{afterCompile, compiled, ofOutcome, o
 use Rattle.observers.specs.Demand.{Compiles}
 use Rattle.observers.specs.Demand.Compiles.{observed}
 use Rattle.observers.specs.declared.Compiled.the-variants.{Equations, Refused}
+use Rattle.observers.proofs.Widest.{rule-equations}
 
 -- What is known of a rule that is read: its formula, and what the observer theorem asks of it.
 pub record Known (t : Tree) : Type 0 where
@@ -110,16 +111,16 @@ module _ (text before : List ℕ) where
           (le-ltb _ _ room)
           ∙ ap (λ (x : Option Formula). stored (observerOf x) before) is)
 
-      pub room-compiles : (es : List Equation) → sets before 0 (numbersOf es) ≡ numbersOf es ++ drop (4 * length es)
-          before
+      pub room-compiles : (es : List Equation) → length es ≤ ruleEquations
+          → sets before 0 (numbersOf es) ≡ numbersOf es ++ drop (4 * length es) before
           → ((rest : List ℕ) → Observes standardCap (numbersOf es ++ rest) (length es) f (nodes t))
           → Compiles text before (Equations (length es)) (sets before 0 (numbersOf es))
-      room-compiles es front h =
+      room-compiles es few front h =
           let size = 4 * length es in
           let others = drop size before in
           let taken : take size (sets before 0 (numbersOf es)) ≡ numbersOf es =
           ap (take size) front ∙ take-at (numbersOf es) others size (length-numbers es) in
-          observed {n = length es} {after = sets before 0 (numbersOf es)} {t = t} {f = f} (has-rule e) is room
+          observed {n = length es} {after = sets before 0 (numbersOf es)} {t = t} {f = f} (has-rule e) is room (omega arith)
           (length-sets before 0 (numbersOf es))
           (ap (drop size) front ∙ drop-at (numbersOf es) others size (length-numbers es))
           (λ rest. subst (λ (l : List ℕ). Observes standardCap (l ++ rest) (length es) f (nodes t)) (sym taken)
@@ -139,6 +140,7 @@ emitted-rule text before t e room arena r after same h =
           ∙ room-compiled text before t e f (k .is) room (observer f) refl,
       subst₂ (λ (n : ℕ) (l : List ℕ). Compiles text before (Equations n) l) (sym many) (sym written)
           (room-compiles text before t e f (k .is) room (observer f)
+          (rule-equations text t f (accepted text t .0 e) (k .is))
           (observer-front f before (observer-size f (small-raw k)) room)
           (observes-rule k)),
     )

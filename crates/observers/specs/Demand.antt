@@ -9,7 +9,7 @@ use Rattle.limits.specs.Reply as Reply
 use Rattle.limits.specs.Reply.{Reply, gives}
 use Rattle.formulas.specs.Formula.{Formula}
 use Rattle.formulas.specs.Tree.{Tree, nodes, formulaOf}
-use Rattle.limits.specs.Limits.{standardCap, tableRoom}
+use Rattle.limits.specs.Limits.{standardCap, tableRoom, ruleEquations}
 use Rattle.agreement.specs.Agreement.{Observes}
 use Rattle.rules.specs.Reading.{HasOutcome}
 use Rattle.rules.specs.Reading.Outcome.{refused, rule}
@@ -24,9 +24,10 @@ pub data Compiles (text before : List ℕ) : Compiled → List ℕ → Type 0 wh
   -- SPEC 7.9: too short a table, unchanged
   no-room : {t : Tree} → HasOutcome text (rule t) → length before < tableRoom → Compiles text before (Refused 9) before
   -- Else the first n equations of the table observe the rule's formula, whatever numbers or none stand after them where
-  -- they are used, and all other numbers of the lent table are kept.
+  -- they are used, and all other numbers of the lent table are kept. No rule has more than `ruleEquations` of them.
   observed : {n : ℕ} {after : List ℕ} {t : Tree} {f : Formula} → HasOutcome text (rule t) → formulaOf t ≡ some f
-      → tableRoom ≤ length before → length after ≡ length before → drop (4 * n) after ≡ drop (4 * n) before
+      → tableRoom ≤ length before → n ≤ ruleEquations
+      → length after ≡ length before → drop (4 * n) after ≡ drop (4 * n) before
       → ((rest : List ℕ) → Observes standardCap (take (4 * n) after ++ rest) n f (nodes t))
       → Compiles text before (Equations n) after
 

@@ -50,20 +50,20 @@ refused-text {text} (not-read e) h = (ap Refused (refusal-of (one-outcome text _
     refusal-of : {m k : ℕ} → refused m ≡ refused k → m ≡ k
     refusal-of e = cc
 refused-text (no-room e l) h = absurd (not-refused e h)
-refused-text (observed e is l same kept o) h = absurd (not-refused e h)
+refused-text (observed e is l few same kept o) h = absurd (not-refused e h)
 
 short-table : {text before after : List ℕ} {r : Compiled} {t : Tree} → Compiles text before r after
     → HasOutcome text (rule t) → length before < tableRoom → (r ≡ Refused 9) × (after ≡ before)
 short-table (not-read e) h low = absurd (not-refused h e)
 short-table (no-room e l) h low = (refl, refl)
-short-table (observed e is l same kept o) h low = absurd (omega arith)
+short-table (observed e is l few same kept o) h low = absurd (omega arith)
 
 -- and for a rule where there is room.
 compiled-rule : {text before after : List ℕ} {r : Compiled} {t : Tree} → Compiles text before r after
     → HasOutcome text (rule t) → tableRoom ≤ length before → (n : ℕ) × (r ≡ Equations n)
 compiled-rule (not-read e) h room = absurd (not-refused h e)
 compiled-rule (no-room e l) h room = absurd (omega arith)
-compiled-rule (observed {n} e is l same kept o) h room = (n, refl)
+compiled-rule (observed {n} e is l few same kept o) h room = (n, refl)
 
 -- One text has one tree, and it has one formula.
 one-formula : {x y : Option Formula} {f g : Formula} → x ≡ some f → y ≡ some g → x ≡ y → f ≡ g
@@ -74,7 +74,7 @@ observed-rule : {text before after : List ℕ} {r : Compiled} {n : ℕ} {t : Tre
     → (rest : List ℕ) → Observes standardCap (take (4 * n) after ++ rest) n f (nodes t)
 observed-rule (not-read e) q h is rest = absurd (not-refused h e)
 observed-rule (no-room e l) q h is rest = absurd (refused-equations q)
-observed-rule {after = after} {n = n} {t} {f} (observed {n = m} {t = u} {f = g} e is-g l same kept o) q h is rest =
+observed-rule {after = after} {n = n} {t} {f} (observed {n = m} {t = u} {f = g} e is-g l few same kept o) q h is rest =
     let number : m ≡ n = cc in
     let tree : u ≡ t = same-tree e h in
     let formula : g ≡ f = one-formula is-g is (ap formulaOf tree) in

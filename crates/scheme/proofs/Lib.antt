@@ -21,6 +21,7 @@ pub mod Header
 pub mod Parts
 pub mod Formed
 pub mod Sizes
+pub mod Counts
 pub mod Memories
 -- The nodes that the code has:
 pub mod ByKind
