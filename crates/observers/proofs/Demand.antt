@@ -120,8 +120,8 @@ module _ (text before : List ℕ) where
           let others = drop size before in
           let taken : take size (sets before 0 (numbersOf es)) ≡ numbersOf es =
           ap (take size) front ∙ take-at (numbersOf es) others size (length-numbers es) in
-          observed {n = length es} {after = sets before 0 (numbersOf es)} {t = t} {f = f} (has-rule e) is room (omega arith)
-          (length-sets before 0 (numbersOf es))
+          observed {n = length es} {after = sets before 0 (numbersOf es)} {t = t} {f = f} (has-rule e) is room
+          (omega arith) (length-sets before 0 (numbersOf es))
           (ap (drop size) front ∙ drop-at (numbersOf es) others size (length-numbers es))
           (λ rest. subst (λ (l : List ℕ). Observes standardCap (l ++ rest) (length es) f (nodes t)) (sym taken)
           (h rest))
