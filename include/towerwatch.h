@@ -1,12 +1,16 @@
 /* towerwatch: the functions of the archive libfirmware.a, for firmware and workshop tools in C.
  *
- * Every function is proved against its contract in crates/firmware; docs/PROMISES.md says what it promises. None of them
- * allocates, keeps state of its own, or keeps a pointer after it returns. The caller owns every buffer. Buffers that are
- * lent to one call must not overlap where one of them is written. A length is the number of elements of the buffer, not
- * of bytes. A pointer may be null only where its length is 0.
+ * Every function is proved against its contract in crates/firmware; docs/PROMISES.md says what it promises. None of
+ * them allocates, keeps state of its own, or keeps a pointer after it returns, so calls on different buffers may
+ * run at the same time, and one may interrupt another. The caller owns every buffer. Buffers of uint32_t are
+ * aligned as uint32_t; texts are bytes and need no alignment. A buffer that a call writes must not overlap another
+ * buffer of that call; buffers that are only read may. A length is the number of elements of the buffer, not of
+ * bytes. A pointer may be null where its length is 0; `parameters` may never be null.
  *
- * Each function answers a struct of two numbers. Where `refusal` is 0, `result` holds; otherwise `refusal` is the
- * refusal's number, `result` is 0, and no buffer was changed. docs/FIRMWARE.md lists the numbers. */
+ * Each function answers a struct of two numbers. Where `refusal` is 0, `result` holds; otherwise `refusal` is one
+ * of the numbers TOWERWATCH_REFUSED_..., `result` is 0, and no buffer was changed. Where more than one applies, it
+ * is the first in the order in which the function's comment lists them. docs/FIRMWARE.md says what to do with each,
+ * and how much stack a function takes. */
 #ifndef TOWERWATCH_H
 #define TOWERWATCH_H
 
@@ -17,54 +21,105 @@
 extern "C" {
 #endif
 
+/* The version of this face. The major number rises where a caller's code may have to change: a function means
+ * something else, takes other arguments, or a number below has another value. A function that means something else
+ * also takes another number of arguments, so that a caller written for the old one does not compile. The minor
+ * number rises where something is added. The archive does not know it: take header and archive from one state of
+ * the repository. */
+#define TOWERWATCH_VERSION_MAJOR 1
+#define TOWERWATCH_VERSION_MINOR 0
+
+/* Limits of a rule text: its bytes, its words, how many round brackets are open at a time, and how many of `!`, `then`,
+ * `chop` and `exists` it has together. */
+#define TOWERWATCH_TEXT_BYTES 2048
+#define TOWERWATCH_WORDS 240
+#define TOWERWATCH_OPEN_BRACKETS 16
+#define TOWERWATCH_OPERATORS 32
+
+/* How many signals and how many parameters a tick has, numbered from 0. */
+#define TOWERWATCH_SIGNALS 64
+#define TOWERWATCH_PARAMETERS 8
+
+/* The highest number that a rule can compare with and that a parameter can have, and the highest value of a count. */
+#define TOWERWATCH_LAST_NUMBER 999999
+#define TOWERWATCH_LAST_COUNT 1000000
+
+/* The most equations of a table, the numbers that a table buffer needs for compiling and for reading Lustre text,
+ * and the most equations of a compiled rule. */
+#define TOWERWATCH_EQUATIONS 4096
+#define TOWERWATCH_TABLE_NUMBERS 16384
+#define TOWERWATCH_RULE_EQUATIONS 562
+
+/* Bytes that are enough for every table's Lustre text. */
+#define TOWERWATCH_LUSTRE_BYTES 409700
+
+/* The refusals, each with its cause. 1 to 8 are of a rule text, */
+#define TOWERWATCH_REFUSED_TEXT_LENGTH 1    /* it is empty or has over TOWERWATCH_TEXT_BYTES bytes */
+#define TOWERWATCH_REFUSED_WORD 2           /* something is no word, or a number begins with a needless 0 */
+#define TOWERWATCH_REFUSED_NUMBER 3         /* a signal, a parameter or a number to compare with is too high */
+#define TOWERWATCH_REFUSED_WORD_COUNT 4     /* it has over TOWERWATCH_WORDS words */
+#define TOWERWATCH_REFUSED_NESTING 5        /* over TOWERWATCH_OPEN_BRACKETS or over TOWERWATCH_OPERATORS */
+#define TOWERWATCH_REFUSED_GRAMMAR 6        /* its words are in no order that the grammar has */
+#define TOWERWATCH_REFUSED_CHOP_OR_EXISTS 7 /* `chop` or `exists` stands in it */
+#define TOWERWATCH_REFUSED_LEAD 8           /* the left of some `then` is no lead */
+/* 9 to 15 of lent buffers, */
+#define TOWERWATCH_REFUSED_TABLE_ROOM 9     /* a table to be filled has under TOWERWATCH_TABLE_NUMBERS numbers */
+#define TOWERWATCH_REFUSED_TABLE_LENGTH 10  /* n is 0 or above TOWERWATCH_EQUATIONS, or above the table's equations */
+#define TOWERWATCH_REFUSED_TABLE 11         /* an equation is ill-formed, or the last one is no boolean */
+#define TOWERWATCH_REFUSED_STATE_LENGTH 12  /* the state, or the values of a step, have under n numbers */
+#define TOWERWATCH_REFUSED_PARAMETER 13     /* a parameter is above TOWERWATCH_LAST_NUMBER */
+#define TOWERWATCH_REFUSED_STATE 14         /* a memory's cell is out of its range */
+#define TOWERWATCH_REFUSED_LUSTRE_ROOM 15   /* the buffer is shorter than the Lustre text */
+/* 16 of a Lustre text. */
+#define TOWERWATCH_REFUSED_LUSTRE 16        /* no well-formed table writes exactly these bytes */
+
 struct towerwatch_answer {
     uint32_t refusal; /* 0: not refused */
     uint32_t result;  /* 0 where refused */
 };
 
-/* The most equations of a table, and the numbers that a table buffer needs for compiling and for reading Lustre text. */
-#define TOWERWATCH_EQUATIONS 4096
-#define TOWERWATCH_TABLE_NUMBERS 16384
-
-/* Reads a rule text. Result: its node count. Refused: 1 to 8 (docs/RULES.md says what each means). */
+/* Reads a rule text. Result: its node count. Refused: 1 if the text is empty or too long; then, whichever word is
+ * earliest, 2, 3 or 4; then 5, 6, 7, 8. */
 struct towerwatch_answer towerwatch_read_rule(const uint8_t *text, size_t text_len);
 
-/* Compiles a rule text. table: TOWERWATCH_TABLE_NUMBERS numbers or more; its front is set to the n equations, four numbers
- * each, and the rest of it is kept.
- * Result: n. Refused: 1 to 8 as reading, 9 (the table has under 16,384 numbers). */
+/* Compiles a rule text. table: TOWERWATCH_TABLE_NUMBERS numbers or more; its front is set to the n equations, four
+ * numbers each, and the rest of it is kept.
+ * Result: n, at most TOWERWATCH_RULE_EQUATIONS. Refused: 1 to 8 as reading, 9. */
 struct towerwatch_answer towerwatch_compile(const uint8_t *text, size_t text_len, uint32_t *table, size_t table_len);
 
-/* Whether two texts are the same rule. Result: 1 for yes, 0 for no. Refused: 1 to 8 of the first text, then of the second. */
+/* Whether two texts are the same rule: both read to one tree. Spaces and needless brackets do not count.
+ * Result: 1 for yes, 0 for no. Refused: 1 to 8 of the first text, then of the second. */
 struct towerwatch_answer towerwatch_same_rule(const uint8_t *first, size_t first_len, const uint8_t *second,
                                               size_t second_len);
 
-/* Makes a fresh state for the table's n equations: cell i belongs to equation i. Cells of memories are set to their initial
- * value, all other cells are kept.
+/* Makes a fresh state for the table's n equations: cell i belongs to equation i. Cells of memories are set to their
+ * initial value, all other cells are kept.
  * table: 4 * n numbers or more, only read. state: n numbers or more.
- * Result: 0. Refused: 10 (n is 0 or above 4,096, or the table is too short), 11 (the table is ill-formed), 12 (the state is
- * shorter than n). */
+ * Result: 0. Refused: 10, 11, 12. */
 struct towerwatch_answer towerwatch_fresh_state(const uint32_t *table, size_t table_len, size_t n, uint32_t *state,
                                                 size_t state_len);
 
 /* One tick: computes the n flow values from the tick and the state, and moves the memories on.
- * table: as above, only read. state: as towerwatch_fresh_state or the step before left it. values: n numbers or more; they
- * are set to the flow values of this tick, what stands after them is kept; what they held before does not matter.
- * start: any number but 0 starts the watched interval at this tick. signals: bit j is signal j. parameters: eight numbers
- * up to 999,999, the same at every tick of a run.
- * Result: the verdict, 0 or 1. Refused: 10, 11, 12 (state or values shorter than n), 13 (a parameter above 999,999), 14 (a
- * memory's cell is out of range: the state is not one that a fresh state and steps made). A refused step is no tick. */
+ * table: as above, only read. state: as towerwatch_fresh_state or the step before left it. values: n numbers or
+ * more; they are set to the flow values of this tick, what stands after them is kept; what they held before does
+ * not matter.
+ * start: any number but 0 starts the watched interval at this tick. signals: bit j is signal j. parameters:
+ * TOWERWATCH_PARAMETERS numbers up to TOWERWATCH_LAST_NUMBER, the same at every tick of a run.
+ * Result: the verdict, 0 or 1; that of a compiled table is 1 before the first start. Refused: 10, 11, 12, 13, 14. A
+ * refused step is no tick. */
 struct towerwatch_answer towerwatch_step(const uint32_t *table, size_t table_len, size_t n, uint32_t *state,
                                          size_t state_len, uint32_t *values, size_t values_len, uint32_t start,
-                                         uint64_t signals, const uint32_t parameters[8]);
+                                         uint64_t signals, const uint32_t parameters[TOWERWATCH_PARAMETERS]);
 
-/* Writes the table's n equations as Lustre text. text: as many bytes as the text has or more; what stands after the text is
- * kept. Result: the length in bytes, at most 409,700. Refused: 10, 11, 15 (the buffer is shorter than the text). */
+/* Writes the table's n equations as Lustre text. text: as many bytes as the text has or more; what stands after the
+ * text is kept. Result: the length in bytes, at most TOWERWATCH_LUSTRE_BYTES. Refused: 10, 11, 15. */
 struct towerwatch_answer towerwatch_write_lustre(const uint32_t *table, size_t table_len, size_t n, uint8_t *text,
                                                  size_t text_len);
 
-/* Reads Lustre text. table: TOWERWATCH_TABLE_NUMBERS numbers or more; its front is set to the n equations, the rest is kept.
- * It needs about 64 KiB of stack. Result: n. Refused: 16 (no well-formed table writes exactly these bytes), 9. */
-struct towerwatch_answer towerwatch_read_lustre(const uint8_t *text, size_t text_len, uint32_t *table, size_t table_len);
+/* Reads Lustre text. table: TOWERWATCH_TABLE_NUMBERS numbers or more; its front is set to the n equations, the rest
+ * is kept. It takes more than 64 KiB of stack. Result: n. Refused: 16, 9. */
+struct towerwatch_answer towerwatch_read_lustre(const uint8_t *text, size_t text_len, uint32_t *table,
+                                                size_t table_len);
 
 #ifdef __cplusplus
 }
