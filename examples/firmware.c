@@ -1,49 +1,105 @@
-/* A tower controller's loop in small: makes a state, steps it once a tick and prints each verdict.
- * The table is the observer of `kept[s0]` ("s0 has been on at each tick since the latest start, the present one aside"),
- * the trace the one of document 01's trial runs; the verdicts are those of its run 1, before and after a second start. */
+/* A tower controller's loop in small: it compiles rules, makes their states, steps them once a tick, prints each
+ * verdict and keeps a latch for each. How long a 0 has to stand before it is a fault is decided for each rule, since
+ * many rules are 0 at first and a verdict may return to 1. */
 #include <stdio.h>
+#include <string.h>
 
 #include "towerwatch.h"
 
-enum { N = 10 };
+_Static_assert(TOWERWATCH_TABLE_NUMBERS == 4 * TOWERWATCH_EQUATIONS, "an equation has four numbers");
+_Static_assert(TOWERWATCH_RULE_EQUATIONS <= TOWERWATCH_EQUATIONS, "a rule's table is a table");
 
-static const uint32_t table[4 * N] = {
-    1, 0, 0, 0, /* f0=b;                 start of the interval */
-    3, 0, 0, 0, /* f1=not f0; */
-    0, 0, 0, 0, /* f2=s0; */
-    6, 5, 0, 0, /* f3=false->pre(f5); */
-    5, 0, 3, 0, /* f4=f0 or f3;          kept */
-    4, 4, 2, 0, /* f5=f4 and f2; */
-    6, 7, 0, 0, /* f6=false->pre(f7); */
-    5, 0, 6, 0, /* f7=f0 or f6;          started */
-    3, 7, 0, 0, /* f8=not f7; */
-    5, 8, 4, 0, /* f9=f8 or f4;          the verdict */
+/* When a 0 is a fault: at once, after some further ticks in a row, or only at the last tick of a piece. */
+enum policy { AT_ONCE, STANDING, AT_END };
+
+struct watch {
+    const char *rule;
+    enum policy policy;
+    uint32_t further; /* ticks, for STANDING */
+    uint32_t low;     /* how many ticks in a row have the verdict 0 */
+    int fault;        /* the latch: it stays until somebody clears it */
+    size_t n;
+    uint32_t table[4 * TOWERWATCH_RULE_EQUATIONS];
+    uint32_t state[TOWERWATCH_RULE_EQUATIONS];
 };
 
-int main(void) {
-    static const uint32_t starts[8] = {0, 1, 0, 0, 0, 0, 1, 0};
-    static const uint64_t signals[8] = {0, 1, 1, 2, 1, 3, 1, 1};
-    static const uint32_t parameters[8] = {0};
-    uint32_t state[N] = {0};
-    uint32_t values[N];
+/* Lent to every compile and to every step in turn: what they hold between two calls does not matter. */
+static uint32_t room[TOWERWATCH_TABLE_NUMBERS];
+static uint32_t values[TOWERWATCH_RULE_EQUATIONS];
 
-    struct towerwatch_answer a = towerwatch_fresh_state(table, 4 * N, N, state, N);
-    if (a.refusal != 0) {
-        printf("fresh state refused=%u\n", (unsigned)a.refusal);
-        return 1;
-    }
-    for (int i = 0; i < 8; i++) {
-        a = towerwatch_step(table, 4 * N, N, state, N, values, N, starts[i], signals[i], parameters);
-        if (a.refusal != 0) {
-            printf("refused=%u\n", (unsigned)a.refusal);
-            return 1;
+static uint32_t parameters[TOWERWATCH_PARAMETERS] = {2};
+
+/* Compiles a watch's rule and makes its state: 0, or the refusal. */
+static uint32_t prepare(struct watch *w) {
+    struct towerwatch_answer a =
+        towerwatch_compile((const uint8_t *)w->rule, strlen(w->rule), room, TOWERWATCH_TABLE_NUMBERS);
+    if (a.refusal != 0) return a.refusal;
+    w->n = a.result;
+    memcpy(w->table, room, 4 * w->n * sizeof *room);
+    return towerwatch_fresh_state(w->table, 4 * w->n, w->n, w->state, w->n).refusal;
+}
+
+/* One tick of a watch. A refused step is no tick: the state, the latch and the count stay as they are. */
+static struct towerwatch_answer tick(struct watch *w, uint32_t start, uint64_t signals, int last) {
+    struct towerwatch_answer a =
+        towerwatch_step(w->table, 4 * w->n, w->n, w->state, w->n, values, w->n, start, signals, parameters);
+    if (a.refusal != 0) return a;
+    w->low = a.result == 0 ? w->low + 1 : 0;
+    if (w->policy == AT_ONCE) w->fault |= a.result == 0;
+    if (w->policy == STANDING) w->fault |= w->low > w->further;
+    if (w->policy == AT_END) w->fault |= last && a.result == 0;
+    return a;
+}
+
+static struct watch watches[] = {
+    /* 0 where the drive is on for longer than k0 ticks; it returns to 1 with the drive, so the latch keeps the fault */
+    {.rule = "age[s0] <= k0", .policy = AT_ONCE},
+    /* it can only fall: after a tick with both drives it stays 0 until the next start, with no latch */
+    {.rule = "sum[s0 & s1] = 0 & !end[s0 & s1]", .policy = AT_ONCE},
+    /* 0 at first; the contact may be away for two ticks in a row */
+    {.rule = "end[s2]", .policy = STANDING, .further = 2},
+    /* 0 while the lead holds; it has to be 1 when the piece ends */
+    {.rule = "kept[s0] then end[s2]", .policy = AT_END},
+};
+enum { WATCHES = sizeof watches / sizeof *watches };
+
+/* A tick before the first start, then two pieces of five ticks each; the watches are told of a piece's last tick. */
+static void run_pieces(void) {
+    static const uint32_t starts[11] = {0, 1, 0, 0, 0, 0, 1, 0, 0, 0, 0};
+    static const uint64_t signals[11] = {0, 1, 1, 5, 4, 4, 1, 3, 0, 0, 0};
+    for (int i = 0; i < 11; i++) {
+        printf("tick %2d:", i);
+        for (int w = 0; w < WATCHES; w++) {
+            struct towerwatch_answer a = tick(&watches[w], starts[i], signals[i], i == 5 || i == 10);
+            if (a.refusal != 0) printf("  refused=%u", (unsigned)a.refusal);
+            else printf("  verdict=%u fault=%d", (unsigned)a.result, watches[w].fault);
         }
-        printf("verdict=%u\n", (unsigned)a.result);
+        printf("\n");
     }
-    /* a step that is refused changes nothing: here for want of values */
-    a = towerwatch_step(table, 4 * N, N, state, N, values, N - 1, 1, 0, parameters);
-    printf("refused=%u\n", (unsigned)a.refusal);
-    a = towerwatch_step(table, 4 * N, N, state, N, values, N, 0, 0, parameters);
-    printf("verdict=%u\n", (unsigned)a.result);
+}
+
+/* A step that is refused is no tick: the next one goes on from the same state. */
+static void show_refused_step(struct watch *w) {
+    uint32_t before[TOWERWATCH_RULE_EQUATIONS];
+    memcpy(before, w->state, sizeof before);
+    parameters[0] = TOWERWATCH_LAST_NUMBER + 1;
+    struct towerwatch_answer a = tick(w, 1, 0, 0);
+    printf("a step with a parameter too high: refused=%u, the state is %s\n", (unsigned)a.refusal,
+           memcmp(before, w->state, sizeof before) == 0 ? "kept" : "changed");
+    parameters[0] = 2;
+    a = tick(w, 0, 0, 0);
+    printf("the next step: refused=%u verdict=%u\n", (unsigned)a.refusal, (unsigned)a.result);
+}
+
+int main(void) {
+    for (int w = 0; w < WATCHES; w++) {
+        uint32_t refusal = prepare(&watches[w]);
+        if (refusal != 0) return printf("%s: refused=%u\n", watches[w].rule, (unsigned)refusal), 1;
+        printf("%s: %zu equations\n", watches[w].rule, watches[w].n);
+    }
+    run_pieces();
+    show_refused_step(&watches[1]);
+    struct watch broken = {.rule = "kept[s0] then"};
+    printf("%s: refused=%u\n", broken.rule, (unsigned)prepare(&broken));
     return 0;
 }

@@ -1,0 +1,204 @@
+/* The header's numbers beside the archive's answers: each refusal provoked, empty buffers that are null, and each limit
+ * reached and passed. A line has the header's number and what the archive answered, and ends in WRONG where they do not
+ * agree or a refused call changed a buffer; the exit status is then 1. */
+#include <stdio.h>
+#include <string.h>
+
+#include "towerwatch.h"
+
+static uint32_t table[TOWERWATCH_TABLE_NUMBERS + 4], state[TOWERWATCH_EQUATIONS + 1], values[2];
+static uint32_t parameters[TOWERWATCH_PARAMETERS];
+static uint8_t lustre[TOWERWATCH_LUSTRE_BYTES];
+static int wrong;
+
+/* A table of one equation, the start flow, and its Lustre text. */
+static const uint32_t start_flow[4] = {1, 0, 0, 0};
+static const char start_text[] = "let\nf0=b;\na=f0;\ntel\n";
+
+/* Every buffer that a call can write is filled with one byte before a refusal is provoked, and looked at after it. */
+enum { FILL = 0x5a };
+
+static void fill(void) {
+    memset(table, FILL, sizeof table), memset(state, FILL, sizeof state);
+    memset(values, FILL, sizeof values), memset(lustre, FILL, sizeof lustre);
+}
+
+static int filled(const void *buffer, size_t size) {
+    const uint8_t *bytes = buffer;
+    for (size_t i = 0; i < size; i++)
+        if (bytes[i] != FILL) return 0;
+    return 1;
+}
+
+static int kept(void) {
+    return filled(table, sizeof table) && filled(state, sizeof state) && filled(values, sizeof values) &&
+           filled(lustre, sizeof lustre);
+}
+
+/* ---- refusals */
+
+static void show(const char *what, uint32_t number, struct towerwatch_answer a) {
+    int fine = a.refusal == number && a.result == 0 && kept();
+    printf("%-24s %7u refused=%u%s\n", what, (unsigned)number, (unsigned)a.refusal, fine ? "" : " WRONG");
+    wrong |= !fine;
+}
+
+#define REFUSED(name, call) fill(), show(#name, TOWERWATCH_REFUSED_##name, call)
+#define TEXT(text) (const uint8_t *)(text), sizeof(text) - 1
+
+static struct towerwatch_answer read_text(const char *text) {
+    return towerwatch_read_rule((const uint8_t *)text, strlen(text));
+}
+
+/* A step of n equations of a table of four numbers, with the first parameter. */
+static struct towerwatch_answer step(const uint32_t *equations, size_t n, size_t state_len, uint32_t parameter) {
+    parameters[0] = parameter;
+    return towerwatch_step(equations, 4, n, state, state_len, values, 1, 1, 0, parameters);
+}
+
+static void refusals(void) {
+    static const uint32_t ill[4] = {12, 0, 0, 0}, memory[4] = {6, 0, 0, 0};
+    static char words[TOWERWATCH_TEXT_BYTES];
+    memset(words, '!', TOWERWATCH_WORDS + 1);
+    REFUSED(TEXT_LENGTH, read_text(""));
+    REFUSED(WORD, read_text("end[s01]"));
+    REFUSED(NUMBER, read_text("end[s64]"));
+    REFUSED(WORD_COUNT, read_text(words));
+    words[TOWERWATCH_OPERATORS + 1] = 0;
+    REFUSED(NESTING, read_text(words));
+    REFUSED(GRAMMAR, read_text("end[s0"));
+    REFUSED(CHOP_OR_EXISTS, read_text("kept[s0] chop end[s1]"));
+    REFUSED(LEAD, read_text("age[s0] <= 2 then end[1]"));
+    REFUSED(TABLE_ROOM, towerwatch_compile(TEXT("end[s0]"), table, TOWERWATCH_TABLE_NUMBERS - 1));
+    REFUSED(TABLE_LENGTH, step(start_flow, 2, 2, 0));
+    REFUSED(TABLE, step(ill, 1, 1, 0));
+    REFUSED(STATE_LENGTH, step(start_flow, 1, 0, 0));
+    REFUSED(PARAMETER, step(start_flow, 1, 1, TOWERWATCH_LAST_NUMBER + 1));
+    REFUSED(STATE, step(memory, 1, 1, 0));
+    REFUSED(LUSTRE_ROOM, towerwatch_write_lustre(start_flow, 4, 1, lustre, sizeof start_text - 2));
+    REFUSED(LUSTRE, towerwatch_read_lustre(TEXT("let\ntel\n"), table, TOWERWATCH_TABLE_NUMBERS));
+}
+
+/* An empty buffer may be null: the answers are those of any other empty buffer. */
+static void nulls(void) {
+    REFUSED(TEXT_LENGTH, towerwatch_read_rule(NULL, 0));
+    REFUSED(TEXT_LENGTH, towerwatch_compile(NULL, 0, NULL, 0));
+    REFUSED(TABLE_ROOM, towerwatch_compile(TEXT("end[s0]"), NULL, 0));
+    REFUSED(TEXT_LENGTH, towerwatch_same_rule(NULL, 0, NULL, 0));
+    REFUSED(TEXT_LENGTH, towerwatch_same_rule(TEXT("end[s0]"), NULL, 0));
+    REFUSED(TABLE_LENGTH, towerwatch_fresh_state(NULL, 0, 1, NULL, 0));
+    REFUSED(STATE_LENGTH, towerwatch_fresh_state(start_flow, 4, 1, NULL, 0));
+    REFUSED(TABLE_LENGTH, towerwatch_step(NULL, 0, 1, NULL, 0, NULL, 0, 1, 0, parameters));
+    REFUSED(STATE_LENGTH, towerwatch_step(start_flow, 4, 1, NULL, 0, values, 1, 1, 0, parameters));
+    REFUSED(STATE_LENGTH, towerwatch_step(start_flow, 4, 1, state, 1, NULL, 0, 1, 0, parameters));
+    REFUSED(TABLE_LENGTH, towerwatch_write_lustre(NULL, 0, 1, NULL, 0));
+    REFUSED(LUSTRE_ROOM, towerwatch_write_lustre(start_flow, 4, 1, NULL, 0));
+    REFUSED(LUSTRE, towerwatch_read_lustre(NULL, 0, NULL, 0));
+    REFUSED(TABLE_ROOM, towerwatch_read_lustre(TEXT(start_text), NULL, 0));
+}
+
+/* ---- limits */
+
+/* At a limit a call is not refused; one past it, it is refused by this number. */
+static void limit(const char *what, uint32_t number, struct towerwatch_answer at, struct towerwatch_answer past,
+                  uint32_t refusal) {
+    int fine = at.refusal == 0 && past.refusal == refusal;
+    printf("%-24s %7u refused=%u, one more: refused=%u%s\n", what, (unsigned)number, (unsigned)at.refusal,
+           (unsigned)past.refusal, fine ? "" : " WRONG");
+    wrong |= !fine;
+}
+
+#define LIMIT(name, call, refusal) \
+    limit(#name, TOWERWATCH_##name, call(TOWERWATCH_##name), call(TOWERWATCH_##name + 1), TOWERWATCH_REFUSED_##refusal)
+
+static char text[2 * TOWERWATCH_TEXT_BYTES];
+
+static struct towerwatch_answer text_bytes(size_t bytes) {
+    memset(text, ' ', bytes);
+    strcpy(text + bytes - 5, "len<1");
+    return read_text(text);
+}
+
+/* 60 atoms of three words and 59 of `|` are 239 words; `!` makes up the rest. */
+static struct towerwatch_answer words(size_t count) {
+    memset(text, '!', count - 239);
+    strcpy(text + count - 239, "len<1");
+    for (int atom = 1; atom < 60; atom++) strcat(text, "|len<1");
+    return read_text(text);
+}
+
+static struct towerwatch_answer open_brackets(size_t count) {
+    memset(text, '(', count);
+    strcpy(text + count, "len<1");
+    for (size_t i = 0; i < count; i++) strcat(text, ")");
+    return read_text(text);
+}
+
+static struct towerwatch_answer operators(size_t count) {
+    memset(text, '!', count);
+    strcpy(text + count, "len<1");
+    return read_text(text);
+}
+
+static struct towerwatch_answer signals(uint32_t count) {
+    return sprintf(text, "end[s%u]", (unsigned)count - 1), read_text(text);
+}
+
+static struct towerwatch_answer parameter_count(uint32_t count) {
+    return sprintf(text, "len<k%u", (unsigned)count - 1), read_text(text);
+}
+
+static struct towerwatch_answer literal(uint32_t number) {
+    return sprintf(text, "len<%u", (unsigned)number), read_text(text);
+}
+
+static struct towerwatch_answer parameter(uint32_t number) { return step(start_flow, 1, 1, number); }
+
+/* A count's memory that holds a number, and a comparison of it. */
+static struct towerwatch_answer count_cell(uint32_t number) {
+    static const uint32_t equations[8] = {7, 0, 0, 0, 10, 0, 0, 1};
+    uint32_t cells[2] = {number, 0};
+    parameters[0] = 0;
+    return towerwatch_step(equations, 8, 2, cells, 2, values, 2, 1, 0, parameters);
+}
+
+static struct towerwatch_answer equations(size_t n) {
+    for (size_t i = 0; i < n; i++) memcpy(table + 4 * i, start_flow, sizeof start_flow);
+    return towerwatch_fresh_state(table, 4 * n, n, state, sizeof state / sizeof *state);
+}
+
+static void limits(void) {
+    LIMIT(TEXT_BYTES, text_bytes, TEXT_LENGTH);
+    LIMIT(WORDS, words, WORD_COUNT);
+    LIMIT(OPEN_BRACKETS, open_brackets, NESTING);
+    LIMIT(OPERATORS, operators, NESTING);
+    LIMIT(SIGNALS, signals, NUMBER);
+    LIMIT(PARAMETERS, parameter_count, NUMBER);
+    LIMIT(LAST_NUMBER, literal, NUMBER);
+    LIMIT(LAST_NUMBER, parameter, PARAMETER);
+    LIMIT(LAST_COUNT, count_cell, STATE);
+    LIMIT(EQUATIONS, equations, TABLE_LENGTH);
+}
+
+/* A rule with the most equations: 60 atoms, 32 of `then` and 27 of `&`, compiled with the least room. */
+static void widest(void) {
+    text[0] = 0;
+    for (int i = 0; i < TOWERWATCH_OPERATORS; i++) strcat(text, i < 27 ? "len<1&len<1 then " : "len<1 then ");
+    strcat(text, "begin[1]");
+    struct towerwatch_answer a =
+        towerwatch_compile((const uint8_t *)text, strlen(text), table, TOWERWATCH_TABLE_NUMBERS);
+    int fine = a.refusal == 0 && a.result == TOWERWATCH_RULE_EQUATIONS;
+    printf("%-24s %7u result=%u%s\n", "RULE_EQUATIONS", TOWERWATCH_RULE_EQUATIONS, (unsigned)a.result,
+           fine ? "" : " WRONG");
+    wrong |= !fine;
+}
+
+int main(void) {
+    refusals();
+    printf("null and 0\n");
+    nulls();
+    printf("limits\n");
+    limits();
+    widest();
+    return wrong;
+}
