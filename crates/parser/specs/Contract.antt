@@ -35,6 +35,11 @@ pub record Room (ws : List ℕ) (i : ℕ) (arena : List ℕ) (top : ℕ) : Type 
   pub within : i ≤ length ws
   pub fits : top + 8 * (length ws - i) ≤ length arena
 
+-- The same where the word at the position is known.
+pub record Begun (w : ℕ) (ws : List ℕ) (i : ℕ) (arena : List ℕ) (top : ℕ) : Type 0 where
+  pub room : Room ws i arena top
+  pub first : word ws i ≡ w
+
 -- One record stored at `top`.
 pub record Pushed (before : List ℕ) (top k a b c : ℕ) (r : ℕ) (after : List ℕ) : Type 0 where
   pub end : r ≡ top + 4

@@ -1,11 +1,13 @@
 // Reading a rule's words by recursive descent (SPEC 12.5): the functions of F, D, C and U call each other, with fewer
 // words left each time around. A tree is written as records into a lent arena (formulas, specs/Arena.antt).
 use facts::Facts;
+ghost use mathlib.Core.Bool.{false};
 ghost use Prim.Native.Nat.{_+_, _≤_};
 ghost use lib.ListN.{length};
 ghost use Rattle.limits.specs.Limits.{wordLimit};
+ghost use Rattle.words.specs.Word.{NOT, ROUND, EXISTS};
 ghost use Rattle.grammar.specs.Parse.Goal.{goF, goD, goC, goU, goA, goB};
-ghost use Rattle.parser.specs.Contract.{Parses, Room, Pushed, ParsesLeaf, ParsesComparison};
+ghost use Rattle.parser.specs.Contract.{Parses, Room, Begun, Pushed, ParsesLeaf, ParsesComparison};
 
 // A tree that was read: the position after its words, the place after its records, and its facts; or none.
 pub enum Parsed {
@@ -151,36 +153,61 @@ fn parse_u(ws: &[u32], inside: bool, at: usize, arena: &mut [u32], top: usize) -
 {
     let k = lists::number_at(ws, at);
     if k == words::NOT {
-        let Parsed::At(j, t, a) = parse_u(ws, inside, at + 1, arena, top) else {
-            return Parsed::No;
-        };
-        let end = push(arena, t, formulas::NOT, 0, 0, 0);
-        return Parsed::At(j, end, facts::not_facts(a));
+        return parse_not(ws, inside, at, arena, top);
     }
     if k == words::ROUND {
-        let Parsed::At(j, t, a) = parse_f(ws, inside, at + 1, arena, top) else {
-            return Parsed::No;
-        };
-        if lists::number_at(ws, j) != words::ROUND_END {
-            return Parsed::No;
-        }
-        return Parsed::At(j + 1, t, a);
+        return parse_round(ws, inside, at, arena, top);
     }
     if inside {
         return leaf(ws, at, arena, top);
     }
     if k == words::EXISTS {
-        let w = lists::number_at(ws, at + 1);
-        if !words::is_signal(w) {
-            return Parsed::No;
-        }
-        let Parsed::At(j, t, a) = parse_u(ws, false, at + 2, arena, top) else {
-            return Parsed::No;
-        };
-        let end = push(arena, t, formulas::EXISTS, w - words::SIGNAL, 0, 0);
-        return Parsed::At(j, end, facts::exists_facts(a));
+        return parse_exists(ws, at, arena, top);
     }
     parse_atom(ws, at, arena, top)
+}
+
+// A U that begins with `!`. This and the next two have one caller, so that they are inlined there; as functions of
+// their own they let the answers of their calls share one place of the caller's stack frame.
+fn parse_not(ws: &[u32], inside: bool, at: usize, arena: &mut [u32], top: usize) -> Parsed
+    requires { ⌜ Begun NOT (now ws) at (now arena) top ⌝ }
+    ensures { λ r. ⌜ Parses (goU inside) (now (ws .entry)) at (now (arena .entry)) top r (now (arena .exit)) ⌝ }
+{
+    let Parsed::At(j, t, a) = parse_u(ws, inside, at + 1, arena, top) else {
+        return Parsed::No;
+    };
+    let end = push(arena, t, formulas::NOT, 0, 0, 0);
+    Parsed::At(j, end, facts::not_facts(a))
+}
+
+// A U in round brackets.
+fn parse_round(ws: &[u32], inside: bool, at: usize, arena: &mut [u32], top: usize) -> Parsed
+    requires { ⌜ Begun ROUND (now ws) at (now arena) top ⌝ }
+    ensures { λ r. ⌜ Parses (goU inside) (now (ws .entry)) at (now (arena .entry)) top r (now (arena .exit)) ⌝ }
+{
+    let Parsed::At(j, t, a) = parse_f(ws, inside, at + 1, arena, top) else {
+        return Parsed::No;
+    };
+    if lists::number_at(ws, j) != words::ROUND_END {
+        return Parsed::No;
+    }
+    Parsed::At(j + 1, t, a)
+}
+
+// A U that begins with `exists`, outside square brackets.
+fn parse_exists(ws: &[u32], at: usize, arena: &mut [u32], top: usize) -> Parsed
+    requires { ⌜ Begun EXISTS (now ws) at (now arena) top ⌝ }
+    ensures { λ r. ⌜ Parses (goU false) (now (ws .entry)) at (now (arena .entry)) top r (now (arena .exit)) ⌝ }
+{
+    let w = lists::number_at(ws, at + 1);
+    if !words::is_signal(w) {
+        return Parsed::No;
+    }
+    let Parsed::At(j, t, a) = parse_u(ws, false, at + 2, arena, top) else {
+        return Parsed::No;
+    };
+    let end = push(arena, t, formulas::EXISTS, w - words::SIGNAL, 0, 0);
+    Parsed::At(j, end, facts::exists_facts(a))
 }
 
 // SPEC 3.5: an atom.

@@ -7,32 +7,47 @@ use Rattle.grammar.specs.Parse.{depth}
 use Rattle.grammar.specs.Parse.Goal.{goF, goD, goC, goU, goA, goB}
 use Rattle.parser.proofs.parse_atom.Reads as parse-atom
 use Rattle.parser.proofs.parse_atom.Kinds.{ps as ps-atom}
-use Rattle.parser.proofs.+parse_atom+parse_c+parse_d+parse_f+parse_square+parse_u.Lts-parse_atom.{
+use Rattle.parser.proofs.+parse_atom+parse_c+parse_d+parse_exists+parse_f+parse_not+parse_round+parse_square+parse_u.Lts-parse_atom.{
   Claims as Claims-atom,
 }
 use Rattle.parser.proofs.parse_c.Reads as parse-c
 use Rattle.parser.proofs.parse_c.Kinds.{ps as ps-c}
-use Rattle.parser.proofs.+parse_atom+parse_c+parse_d+parse_f+parse_square+parse_u.Lts-parse_c.{
+use Rattle.parser.proofs.+parse_atom+parse_c+parse_d+parse_exists+parse_f+parse_not+parse_round+parse_square+parse_u.Lts-parse_c.{
   Claims as Claims-c,
 }
 use Rattle.parser.proofs.parse_d.Reads as parse-d
 use Rattle.parser.proofs.parse_d.Kinds.{ps as ps-d}
-use Rattle.parser.proofs.+parse_atom+parse_c+parse_d+parse_f+parse_square+parse_u.Lts-parse_d.{
+use Rattle.parser.proofs.+parse_atom+parse_c+parse_d+parse_exists+parse_f+parse_not+parse_round+parse_square+parse_u.Lts-parse_d.{
   Claims as Claims-d,
+}
+use Rattle.parser.proofs.parse_exists.Reads as parse-exists
+use Rattle.parser.proofs.parse_exists.Kinds.{ps as ps-exists}
+use Rattle.parser.proofs.+parse_atom+parse_c+parse_d+parse_exists+parse_f+parse_not+parse_round+parse_square+parse_u.Lts-parse_exists.{
+  Claims as Claims-exists,
 }
 use Rattle.parser.proofs.parse_f.Reads as parse-f
 use Rattle.parser.proofs.parse_f.Kinds.{ps as ps-f}
-use Rattle.parser.proofs.+parse_atom+parse_c+parse_d+parse_f+parse_square+parse_u.Lts-parse_f.{
+use Rattle.parser.proofs.+parse_atom+parse_c+parse_d+parse_exists+parse_f+parse_not+parse_round+parse_square+parse_u.Lts-parse_f.{
   Claims as Claims-f,
+}
+use Rattle.parser.proofs.parse_not.Reads as parse-not
+use Rattle.parser.proofs.parse_not.Kinds.{ps as ps-not}
+use Rattle.parser.proofs.+parse_atom+parse_c+parse_d+parse_exists+parse_f+parse_not+parse_round+parse_square+parse_u.Lts-parse_not.{
+  Claims as Claims-not,
+}
+use Rattle.parser.proofs.parse_round.Reads as parse-round
+use Rattle.parser.proofs.parse_round.Kinds.{ps as ps-round}
+use Rattle.parser.proofs.+parse_atom+parse_c+parse_d+parse_exists+parse_f+parse_not+parse_round+parse_square+parse_u.Lts-parse_round.{
+  Claims as Claims-round,
 }
 use Rattle.parser.proofs.parse_square.Reads as parse-square
 use Rattle.parser.proofs.parse_square.Kinds.{ps as ps-square}
-use Rattle.parser.proofs.+parse_atom+parse_c+parse_d+parse_f+parse_square+parse_u.Lts-parse_square.{
+use Rattle.parser.proofs.+parse_atom+parse_c+parse_d+parse_exists+parse_f+parse_not+parse_round+parse_square+parse_u.Lts-parse_square.{
   Claims as Claims-square,
 }
 use Rattle.parser.proofs.parse_u.Reads as parse-u
 use Rattle.parser.proofs.parse_u.Kinds.{ps as ps-u}
-use Rattle.parser.proofs.+parse_atom+parse_c+parse_d+parse_f+parse_square+parse_u.Lts-parse_u.{
+use Rattle.parser.proofs.+parse_atom+parse_c+parse_d+parse_exists+parse_f+parse_not+parse_round+parse_square+parse_u.Lts-parse_u.{
   Claims as Claims-u,
 }
 use Rattle.facts.proofs.atom_facts.Reads as atom-facts
@@ -51,7 +66,7 @@ use Rattle.lists.proofs.number_at.Reads as number-at
 use Rattle.parser.proofs.push.Reads as push
 use Rattle.facts.proofs.then_facts.Reads as then-facts
 
--- The measures.
+-- The measures. What begins with `!`, `exists` or a round bracket is measured as an atom.
 abbrev pub μ-parse-atom : Measures 2 ps-atom ℕ
 μ-parse-atom κs a = depth (a .0 .now) goA (a .1 .0)
 
@@ -61,8 +76,17 @@ abbrev pub μ-parse-c : Measures 2 ps-c ℕ
 abbrev pub μ-parse-d : Measures 2 ps-d ℕ
 μ-parse-d κs a = depth (a .0 .now) (goD (a .1 .0)) (a .1 .1 .0)
 
+abbrev pub μ-parse-exists : Measures 2 ps-exists ℕ
+μ-parse-exists κs a = depth (a .0 .now) goA (a .1 .0)
+
 abbrev pub μ-parse-f : Measures 2 ps-f ℕ
 μ-parse-f κs a = depth (a .0 .now) (goF (a .1 .0)) (a .1 .1 .0)
+
+abbrev pub μ-parse-not : Measures 2 ps-not ℕ
+μ-parse-not κs a = depth (a .0 .now) goA (a .1 .1 .0)
+
+abbrev pub μ-parse-round : Measures 2 ps-round ℕ
+μ-parse-round κs a = depth (a .0 .now) goA (a .1 .1 .0)
 
 abbrev pub μ-parse-square : Measures 2 ps-square ℕ
 μ-parse-square κs a = depth (a .0 .now) goB (a .1 .0)
@@ -89,11 +113,29 @@ parse-d-at t = and 2 ps-d (is 2 ps-d μ-parse-d t) parse-d.Pre
 abbrev parse-d-below : ℕ → In 2 ps-d
 parse-d-below t = and 2 ps-d (falls 2 ps-d _<_ μ-parse-d t) parse-d.Pre
 
+abbrev pub parse-exists-at : ℕ → In 2 ps-exists
+parse-exists-at t = and 2 ps-exists (is 2 ps-exists μ-parse-exists t) parse-exists.Pre
+
+abbrev parse-exists-below : ℕ → In 2 ps-exists
+parse-exists-below t = and 2 ps-exists (falls 2 ps-exists _<_ μ-parse-exists t) parse-exists.Pre
+
 abbrev pub parse-f-at : ℕ → In 2 ps-f
 parse-f-at t = and 2 ps-f (is 2 ps-f μ-parse-f t) parse-f.Pre
 
 abbrev parse-f-below : ℕ → In 2 ps-f
 parse-f-below t = and 2 ps-f (falls 2 ps-f _<_ μ-parse-f t) parse-f.Pre
+
+abbrev pub parse-not-at : ℕ → In 2 ps-not
+parse-not-at t = and 2 ps-not (is 2 ps-not μ-parse-not t) parse-not.Pre
+
+abbrev parse-not-below : ℕ → In 2 ps-not
+parse-not-below t = and 2 ps-not (falls 2 ps-not _<_ μ-parse-not t) parse-not.Pre
+
+abbrev pub parse-round-at : ℕ → In 2 ps-round
+parse-round-at t = and 2 ps-round (is 2 ps-round μ-parse-round t) parse-round.Pre
+
+abbrev parse-round-below : ℕ → In 2 ps-round
+parse-round-below t = and 2 ps-round (falls 2 ps-round _<_ μ-parse-round t) parse-round.Pre
 
 abbrev pub parse-square-at : ℕ → In 2 ps-square
 parse-square-at t = and 2 ps-square (is 2 ps-square μ-parse-square t) parse-square.Pre
@@ -154,6 +196,20 @@ calls-parse-d t = (
   join-facts.Learnt,
 )
 
+abbrev pub calls-parse-exists : ℕ → Claims-exists
+calls-parse-exists t = (
+  number-at.Asked,
+  number-at.Learnt,
+  is-signal.Asked,
+  is-signal.Learnt,
+  parse-u-below t,
+  parse-u.Post,
+  push.Asked,
+  push.Learnt,
+  exists-facts.Asked,
+  exists-facts.Learnt,
+)
+
 abbrev pub calls-parse-f : ℕ → Claims-f
 calls-parse-f t = (
   parse-d-below t,
@@ -170,6 +226,24 @@ calls-parse-f t = (
   chop-facts.Learnt,
 )
 
+abbrev pub calls-parse-not : ℕ → Claims-not
+calls-parse-not t = (
+  parse-u-below t,
+  parse-u.Post,
+  push.Asked,
+  push.Learnt,
+  not-facts.Asked,
+  not-facts.Learnt,
+)
+
+abbrev pub calls-parse-round : ℕ → Claims-round
+calls-parse-round t = (
+  parse-f-below t,
+  parse-f.Post,
+  number-at.Asked,
+  number-at.Learnt,
+)
+
 abbrev pub calls-parse-square : ℕ → Claims-square
 calls-parse-square t = (
   number-at.Asked,
@@ -182,20 +256,14 @@ abbrev pub calls-parse-u : ℕ → Claims-u
 calls-parse-u t = (
   number-at.Asked,
   number-at.Learnt,
-  parse-u-below t,
-  parse-u.Post,
-  push.Asked,
-  push.Learnt,
-  not-facts.Asked,
-  not-facts.Learnt,
-  parse-f-below t,
-  parse-f.Post,
+  parse-not-below t,
+  parse-not.Post,
+  parse-round-below t,
+  parse-round.Post,
   leaf.Asked,
   leaf.Learnt,
-  is-signal.Asked,
-  is-signal.Learnt,
-  exists-facts.Asked,
-  exists-facts.Learnt,
+  parse-exists-below t,
+  parse-exists.Post,
   parse-atom-below t,
   parse-atom.Post,
 )

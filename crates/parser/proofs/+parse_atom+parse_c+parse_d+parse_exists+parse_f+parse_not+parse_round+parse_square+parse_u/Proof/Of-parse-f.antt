@@ -16,8 +16,8 @@ use Rattle.parser.proofs.Stored.{Gave, Space, took, lost, few-nodes, sp
 use Rattle.parser.proofs.Stored.{past-word, past-tree, past-push, fits-push, fits-tree}
 use Rattle.parser.proofs.parse_f.Kinds.{ps, r}
 use Rattle.parser.proofs.parse_f.Reads as reads
-use Rattle.parser.proofs.+parse_atom+parse_c+parse_d+parse_f+parse_square+parse_u.Lts-parse_f as lts
-use Rattle.parser.proofs.+parse_atom+parse_c+parse_d+parse_f+parse_square+parse_u.Proof.Frame.{
+use Rattle.parser.proofs.+parse_atom+parse_c+parse_d+parse_exists+parse_f+parse_not+parse_round+parse_square+parse_u.Lts-parse_f as lts
+use Rattle.parser.proofs.+parse_atom+parse_c+parse_d+parse_exists+parse_f+parse_not+parse_round+parse_square+parse_u.Proof.Frame.{
   calls-parse-f,
   parse-f-at,
 }
