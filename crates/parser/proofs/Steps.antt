@@ -4,6 +4,7 @@ use mathlib.Core.Bool.{Bool, true, false, _&&_, cond}
 use mathlib.Core.List.{List, _++_}
 use mathlib.Core.Path.{_≡_, refl, sym, ap, ap₂, _∙_, subst}
 use Prim.Native.Nat.{ℕ, _+_, _-_}
+use lib.ListN.{length}
 use lib.Seq.{sets}
 use borrow.Author.Tests.{ne-eqb}
 use Rattle.traces.specs.Compare.{Op, opNumber}
@@ -15,7 +16,7 @@ use Rattle.formulas.specs.Arena.{row, flat, numKind, numValue}
 use Rattle.words.specs.Word
 use Rattle.words.specs.Word.{isSignal, isTest, isCount}
 use Rattle.grammar.specs.Grammar.{signalWord, opWord, numWord, testWord, countWord}
-use Rattle.grammar.specs.Parse.{Goal, word, read, bind, joinOf, unitOf}
+use Rattle.grammar.specs.Parse.{Result, Goal, word, read, bind, joinOf, unitOf}
 use Rattle.grammar.specs.Parse.{stepB, stepExists, comparisonAt, withComparison, closed}
 use Rattle.grammar.specs.Parse.Result.{no-rule, ok}
 use Rattle.grammar.specs.Parse.Goal.{goF, goD, goU, goA, goB}
@@ -28,7 +29,8 @@ use Rattle.grammar.proofs.Complete.{test-atom, len-atom, count-atom}
 use Rattle.grammar.proofs.Words.{test-number, count-number}
 use Rattle.facts.specs.Facts.{factsOf, atomFacts, negFacts, thenFacts, chopFacts, existsFacts}
 use Rattle.facts.specs.declared.Facts.{Facts}
-use Rattle.parser.specs.Contract.{comparisonRecord, Parses, Pushed, ParsesLeaf, ParsesComparison}
+use Rattle.parser.specs.Contract.{joinedOf, comparisonRecord}
+use Rattle.parser.specs.Contract.{Parses, ParsesJoined, ParsesThen, ParsesChop, Pushed, ParsesLeaf, ParsesComparison}
 use Rattle.parser.specs.declared.Parsed.{Parsed}
 use Rattle.parser.specs.declared.Parsed.the-variants.{At, No}
 use Rattle.parser.proofs.Stored.{Stored, Took, stored-none, pushed, stored-as, stored-on}
@@ -79,36 +81,61 @@ module _ {l : Bool} {ws : List ℕ} {i : ℕ} {before : List ℕ} {top : ℕ} {a
       Parses (goF l) ws i before top (At n e f) after
   F-one h w = let a = h .part in says (a .tree) (F-at ws l i join-none (h .is) w) (a .stored) (a .known)
 
-  module _ {n e : ℕ} {f : Facts} {mid : List ℕ} (h : Took (goD l) ws i before top n e f mid) (out : l ≡ false) where
-    pub then-no : word ws n ≡ Word.THEN → read ws (goF false) (n + 1) ≡ no-rule →
-        Parses (goF l) ws i before top No after
-    then-no w e = fails _ (then-is ws i (h .is) out w) e
+  module _ {n e : ℕ} {f : Facts} {mid : List ℕ} (h : Took (goD l) ws i before top n e f mid) where
+    -- A D and an F that a word joins.
+    F-joined : {known : Facts → Facts} {first last : List ℕ} {r : Parsed} (tree : Tree → Tree) →
+        read ws (goF l) i ≡ bind (read ws (goF false) (n + 1)) (λ b m. ok (tree b) m) →
+        ((b : Tree) → flat (tree b) ≡ flat (h .part .tree) ++ (first ++ (flat b ++ last))) →
+        ((b : Tree) → factsOf (tree b) ≡ known (factsOf b)) →
+        ParsesJoined known first last ws n mid e r after → Parses (goF l) ws i before top r after
+    F-joined {known} {first} {last} {r} tree is flats facts g = go (read ws (goF false) (n + 1)) refl
+      where
+        given : {x : Result} → read ws (goF false) (n + 1) ≡ x → joinedOf known first last e x ≡ r
+        given p = sym (g .result ∙ ap (joinedOf known first last e) p)
 
-    pub chop-no : word ws n ≡ Word.CHOP → read ws (goF false) (n + 1) ≡ no-rule →
-        Parses (goF l) ws i before top No after
-    chop-no w e = fails _ (chop-is ws i (h .is) out w) e
+        go : (x : Result) → read ws (goF false) (n + 1) ≡ x → Parses (goF l) ws i before top r after
+        go no-rule p =
+            subst (λ (y : Parsed). Parses (goF l) ws i before top y after) (given p) (fails _ is p)
+        go (ok b m) p =
+            let rest : Stored mid e (first ++ (flat b ++ last)) (e + length (first ++ (flat b ++ last))) after =
+            record { end = refl; filled = g .filled b m p } in
+            subst (λ (y : Parsed). Parses (goF l) ws i before top y after) (given p)
+            (says (tree b) (is ∙ then-on _ p) (stored-as (sym (flats b)) (stored-on (h .part .stored) rest))
+            (sym (facts b)))
 
-    module _ {m e′ p : ℕ} {f′ f″ : Facts} {mid′ : List ℕ} where
-      pub F-then : {mark : ℕ} {marked : List ℕ} → word ws n ≡ Word.THEN →
-          Pushed mid e Arena.LEAD-END 0 0 0 mark marked →
-          Took (goF false) ws (n + 1) marked mark m e′ f′ mid′ → Pushed mid′ e′ Arena.THEN 0 0 0 p after →
-          f″ ≡ thenFacts f f′ → Parses (goF l) ws i before top (At m p f″) after
-      F-then w u h′ v facts =
-          let a = h .part in
-          let b = h′ .part in
-          says (then (a .tree) (b .tree)) (then-is ws i (h .is) out w ∙ then-on _ (h′ .is))
-          (stored-on (a .stored) (stored-on (pushed u) (stored-on (b .stored) (pushed v))))
-          (facts ∙ ap₂ thenFacts (a .known) (b .known))
+    module _ {r : Parsed} (out : l ≡ false) where
+      pub F-then : word ws n ≡ Word.THEN → ParsesThen f ws n mid e r after → Parses (goF l) ws i before top r after
+      F-then w g =
+          F-joined (then (h .part .tree)) (then-is ws i (h .is) out w) (λ b. refl)
+          (λ b. ap (λ (x : Facts). thenFacts x (factsOf b)) (sym (h .part .known))) g
 
-      pub F-chop : word ws n ≡ Word.CHOP → Took (goF false) ws (n + 1) mid e m e′ f′ mid′ →
-          Pushed mid′ e′ Arena.CHOP 0 0 0 p after → f″ ≡ chopFacts f f′ →
-          Parses (goF l) ws i before top (At m p f″) after
-      F-chop w h′ v facts =
-          let a = h .part in
-          let b = h′ .part in
-          says (chop (a .tree) (b .tree)) (chop-is ws i (h .is) out w ∙ then-on _ (h′ .is))
-          (stored-on (a .stored) (stored-on (b .stored) (pushed v)))
-          (facts ∙ ap₂ chopFacts (a .known) (b .known))
+      pub F-chop : word ws n ≡ Word.CHOP → ParsesChop f ws n mid e r after → Parses (goF l) ws i before top r after
+      F-chop w g =
+          F-joined (chop (h .part .tree)) (chop-is ws i (h .is) out w) (λ b. refl)
+          (λ b. ap (λ (x : Facts). chopFacts x (factsOf b)) (sym (h .part .known))) g
+
+-- The F after `then` or `chop`: none, or one whose records stand between others.
+module _ {known : Facts → Facts} {first last ws : List ℕ} {j : ℕ} {before : List ℕ} {top : ℕ} {after : List ℕ} where
+  pub joined-no : read ws (goF false) (j + 1) ≡ no-rule → ParsesJoined known first last ws j before top No after
+  joined-no e =
+      record {
+        result = ap (joinedOf known first last top) (sym e);
+        filled = λ t m q. cc;
+      }
+
+  pub joined : {from m e p : ℕ} {f f′ : Facts} {start mid : List ℕ}
+      (h : Took (goF false) ws (j + 1) start from m e f mid) →
+      Stored before top (first ++ (flat (h .part .tree) ++ last)) p after → f′ ≡ known f →
+      ParsesJoined known first last ws j before top (At m p f′) after
+  joined {m = m} h stored facts =
+      record {
+        result =
+            ap₂ (At m) (stored .end) (facts ∙ ap known (h .part .known))
+            ∙ ap (joinedOf known first last top) (sym (h .is));
+        filled = λ t m′ q.
+            let same : h .part .tree ≡ t = cc in
+            stored .filled ∙ ap (λ (u : Tree). sets before top (first ++ (flat u ++ last))) same;
+      }
 
 -- ---- brackets
 

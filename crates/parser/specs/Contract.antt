@@ -1,7 +1,7 @@
 -- What the parse functions answer and leave in the arena. Definitions only.
-use mathlib.Core.Bool.{Bool, true, _&&_, cond}
+use mathlib.Core.Bool.{Bool, true, false, _&&_, cond}
 use mathlib.Core.Path.{_≡_}
-use mathlib.Core.List.{List}
+use mathlib.Core.List.{List, [], _++_}
 use Prim.Native.Nat.{ℕ, _+_, _-_, _*_, _≤_}
 use lib.ListN.{length}
 use lib.Seq.{sets}
@@ -9,11 +9,14 @@ use Rattle.limits.specs.Limits.{wordLimit}
 use Rattle.traces.specs.Compare.{Op, opNumber}
 use Rattle.formulas.specs.Formula.{Num}
 use Rattle.formulas.specs.Tree.{Tree, upper}
+use Rattle.formulas.specs.Arena
 use Rattle.formulas.specs.Arena.{row, flat, numKind, numValue}
 use Rattle.grammar.specs.Grammar.{opWord, numWord}
 use Rattle.grammar.specs.Parse.{Result, Goal, read, word, leafAt, comparisonAt}
 use Rattle.grammar.specs.Parse.Result.{no-rule, ok}
-use Rattle.facts.specs.Facts.{factsOf, atomFacts}
+use Rattle.grammar.specs.Parse.Goal.{goF}
+use Rattle.facts.specs.Facts.{factsOf, atomFacts, thenFacts, chopFacts}
+use Rattle.facts.specs.declared.Facts.{Facts}
 use Rattle.parser.specs.declared.Parsed.{Parsed}
 use Rattle.parser.specs.declared.Parsed.the-variants.{At, No}
 
@@ -28,6 +31,26 @@ pub record Parses (g : Goal) (ws : List ℕ) (i : ℕ) (before : List ℕ) (top 
     Type 0 where
   pub result : r ≡ parsedOf (read ws g i) top
   pub filled : (t : Tree) (j : ℕ) → read ws g i ≡ ok t j → after ≡ sets before top (flat t)
+
+-- The enum of a tree that a D begins and an F ends: records before and after those of the F stand from `top` on, and the
+-- tree's facts are known by those of the F.
+abbrev pub joinedOf : (Facts → Facts) → List ℕ → List ℕ → ℕ → Result → Parsed
+joinedOf known first last top no-rule = No
+joinedOf known first last top (ok t m) = At m (top + length (first ++ (flat t ++ last))) (known (factsOf t))
+
+-- The word at position j joins a D to an F, which is read; `before` has the D's records up to `top`.
+pub record ParsesJoined (known : Facts → Facts) (first last : List ℕ) (ws : List ℕ) (j : ℕ) (before : List ℕ) (top : ℕ)
+    (r : Parsed) (after : List ℕ) : Type 0 where
+  pub result : r ≡ joinedOf known first last top (read ws (goF false) (j + 1))
+  pub filled : (t : Tree) (m : ℕ) → read ws (goF false) (j + 1) ≡ ok t m →
+      after ≡ sets before top (first ++ (flat t ++ last))
+
+-- The word is `then`, or `chop`; the D's facts are a.
+abbrev pub ParsesThen : Facts → List ℕ → ℕ → List ℕ → ℕ → Parsed → List ℕ → Type 0
+ParsesThen a = ParsesJoined (thenFacts a) (row Arena.LEAD-END 0 0 0) (row Arena.THEN 0 0 0)
+
+abbrev pub ParsesChop : Facts → List ℕ → ℕ → List ℕ → ℕ → Parsed → List ℕ → Type 0
+ParsesChop a = ParsesJoined (chopFacts a) [] (row Arena.CHOP 0 0 0)
 
 -- What a parse function is lent: few words, a position among them, and room for two records a word.
 pub record Room (ws : List ℕ) (i : ℕ) (arena : List ℕ) (top : ℕ) : Type 0 where

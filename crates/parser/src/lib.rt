@@ -5,9 +5,10 @@ ghost use mathlib.Core.Bool.{false};
 ghost use Prim.Native.Nat.{_+_, _≤_};
 ghost use lib.ListN.{length};
 ghost use Rattle.limits.specs.Limits.{wordLimit};
-ghost use Rattle.words.specs.Word.{NOT, ROUND, EXISTS};
+ghost use Rattle.words.specs.Word.{NOT, ROUND, THEN, CHOP, EXISTS};
 ghost use Rattle.grammar.specs.Parse.Goal.{goF, goD, goC, goU, goA, goB};
-ghost use Rattle.parser.specs.Contract.{Parses, Room, Begun, Pushed, ParsesLeaf, ParsesComparison};
+ghost use Rattle.parser.specs.Contract.{Parses, ParsesThen, ParsesChop, Room, Begun, Pushed};
+ghost use Rattle.parser.specs.Contract.{ParsesLeaf, ParsesComparison};
 
 // A tree that was read: the position after its words, the place after its records, and its facts; or none.
 pub enum Parsed {
@@ -85,24 +86,42 @@ pub fn parse_f(ws: &[u32], inside: bool, at: usize, arena: &mut [u32], top: usiz
     }
     let k = lists::number_at(ws, j);
     if k == words::THEN {
-        let mark = push(arena, t, formulas::LEAD_END, 0, 0, 0);
-        let Parsed::At(m, e, b) = parse_f(ws, false, j + 1, arena, mark) else {
-            return Parsed::No;
-        };
-        let end = push(arena, e, formulas::THEN, 0, 0, 0);
-        return Parsed::At(m, end, facts::then_facts(a, b));
+        return parse_then(ws, j, arena, t, a);
     }
     if k == words::CHOP {
-        let Parsed::At(m, e, b) = parse_f(ws, false, j + 1, arena, t) else {
-            return Parsed::No;
-        };
-        let end = push(arena, e, formulas::CHOP, 0, 0, 0);
-        return Parsed::At(m, end, facts::chop_facts(a, b));
+        return parse_chop(ws, j, arena, t, a);
     }
     Parsed::At(j, t, a)
 }
 
-// SPEC 3.2: D, from the left.
+// `then` at a position and the F after it, where the facts of the D before it are a. This and the next have one caller,
+// so that they are inlined there; as functions of their own they let the answers of their calls share one place of the
+// caller's stack frame.
+fn parse_then(ws: &[u32], at: usize, arena: &mut [u32], top: usize, a: Facts) -> Parsed
+    requires { ⌜ Begun THEN (now ws) at (now arena) top × (a .nodes ≤ wordLimit) ⌝ }
+    ensures { λ r. ⌜ ParsesThen a (now (ws .entry)) at (now (arena .entry)) top r (now (arena .exit)) ⌝ }
+{
+    let mark = push(arena, top, formulas::LEAD_END, 0, 0, 0);
+    let Parsed::At(m, e, b) = parse_f(ws, false, at + 1, arena, mark) else {
+        return Parsed::No;
+    };
+    let end = push(arena, e, formulas::THEN, 0, 0, 0);
+    Parsed::At(m, end, facts::then_facts(a, b))
+}
+
+// `chop`, likewise.
+fn parse_chop(ws: &[u32], at: usize, arena: &mut [u32], top: usize, a: Facts) -> Parsed
+    requires { ⌜ Begun CHOP (now ws) at (now arena) top × (a .nodes ≤ wordLimit) ⌝ }
+    ensures { λ r. ⌜ ParsesChop a (now (ws .entry)) at (now (arena .entry)) top r (now (arena .exit)) ⌝ }
+{
+    let Parsed::At(m, e, b) = parse_f(ws, false, at + 1, arena, top) else {
+        return Parsed::No;
+    };
+    let end = push(arena, e, formulas::CHOP, 0, 0, 0);
+    Parsed::At(m, end, facts::chop_facts(a, b))
+}
+
+// "D: one or more C joined by `|`, grouped from the left."
 fn parse_d(ws: &[u32], inside: bool, at: usize, arena: &mut [u32], top: usize) -> Parsed
     requires { ⌜ Room (now ws) at (now arena) top ⌝ }
     ensures { λ r. ⌜ Parses (goD inside) (now (ws .entry)) at (now (arena .entry)) top r (now (arena .exit)) ⌝ }
@@ -167,8 +186,7 @@ fn parse_u(ws: &[u32], inside: bool, at: usize, arena: &mut [u32], top: usize) -
     parse_atom(ws, at, arena, top)
 }
 
-// A U that begins with `!`. This and the next two have one caller, so that they are inlined there; as functions of
-// their own they let the answers of their calls share one place of the caller's stack frame.
+// A U that begins with `!`. This and the next two are functions of their own for the same reason as `parse_then`.
 fn parse_not(ws: &[u32], inside: bool, at: usize, arena: &mut [u32], top: usize) -> Parsed
     requires { ⌜ Begun NOT (now ws) at (now arena) top ⌝ }
     ensures { λ r. ⌜ Parses (goU inside) (now (ws .entry)) at (now (arena .entry)) top r (now (arena .exit)) ⌝ }

@@ -14,8 +14,8 @@ use Rattle.parser.proofs.Steps.{square}
 use Rattle.parser.proofs.Stored.{Gave, Space, took, lost, past-first, room}
 use Rattle.parser.proofs.parse_square.Kinds.{ps, r}
 use Rattle.parser.proofs.parse_square.Reads as reads
-use Rattle.parser.proofs.+parse_atom+parse_c+parse_d+parse_exists+parse_f+parse_not+parse_round+parse_square+parse_u.Lts-parse_square as lts
-use Rattle.parser.proofs.+parse_atom+parse_c+parse_d+parse_exists+parse_f+parse_not+parse_round+parse_square+parse_u.Proof.Frame.{
+use Rattle.parser.proofs.+parse_atom+parse_c+parse_chop+parse_d+parse_exists+parse_f+parse_not+parse_round+parse_square+parse_then+parse_u.Lts-parse_square as lts
+use Rattle.parser.proofs.+parse_atom+parse_c+parse_chop+parse_d+parse_exists+parse_f+parse_not+parse_round+parse_square+parse_then+parse_u.Proof.Frame.{
   calls-parse-square,
   parse-square-at,
 }

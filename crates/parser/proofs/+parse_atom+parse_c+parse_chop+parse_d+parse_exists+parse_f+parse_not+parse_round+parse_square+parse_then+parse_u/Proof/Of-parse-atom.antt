@@ -17,8 +17,8 @@ use Rattle.parser.proofs.Stored.{Gave, Space, took, lost, fails}
 use Rattle.parser.proofs.Stored.{room, past-first, past-tree, fits-push, fits-tree}
 use Rattle.parser.proofs.parse_atom.Kinds.{ps, r}
 use Rattle.parser.proofs.parse_atom.Reads as reads
-use Rattle.parser.proofs.+parse_atom+parse_c+parse_d+parse_exists+parse_f+parse_not+parse_round+parse_square+parse_u.Lts-parse_atom as lts
-use Rattle.parser.proofs.+parse_atom+parse_c+parse_d+parse_exists+parse_f+parse_not+parse_round+parse_square+parse_u.Proof.Frame.{
+use Rattle.parser.proofs.+parse_atom+parse_c+parse_chop+parse_d+parse_exists+parse_f+parse_not+parse_round+parse_square+parse_then+parse_u.Lts-parse_atom as lts
+use Rattle.parser.proofs.+parse_atom+parse_c+parse_chop+parse_d+parse_exists+parse_f+parse_not+parse_round+parse_square+parse_then+parse_u.Proof.Frame.{
   calls-parse-atom,
   parse-atom-at,
 }

@@ -7,47 +7,57 @@ use Rattle.grammar.specs.Parse.{depth}
 use Rattle.grammar.specs.Parse.Goal.{goF, goD, goC, goU, goA, goB}
 use Rattle.parser.proofs.parse_atom.Reads as parse-atom
 use Rattle.parser.proofs.parse_atom.Kinds.{ps as ps-atom}
-use Rattle.parser.proofs.+parse_atom+parse_c+parse_d+parse_exists+parse_f+parse_not+parse_round+parse_square+parse_u.Lts-parse_atom.{
+use Rattle.parser.proofs.+parse_atom+parse_c+parse_chop+parse_d+parse_exists+parse_f+parse_not+parse_round+parse_square+parse_then+parse_u.Lts-parse_atom.{
   Claims as Claims-atom,
 }
 use Rattle.parser.proofs.parse_c.Reads as parse-c
 use Rattle.parser.proofs.parse_c.Kinds.{ps as ps-c}
-use Rattle.parser.proofs.+parse_atom+parse_c+parse_d+parse_exists+parse_f+parse_not+parse_round+parse_square+parse_u.Lts-parse_c.{
+use Rattle.parser.proofs.+parse_atom+parse_c+parse_chop+parse_d+parse_exists+parse_f+parse_not+parse_round+parse_square+parse_then+parse_u.Lts-parse_c.{
   Claims as Claims-c,
+}
+use Rattle.parser.proofs.parse_chop.Reads as parse-chop
+use Rattle.parser.proofs.parse_chop.Kinds.{ps as ps-chop}
+use Rattle.parser.proofs.+parse_atom+parse_c+parse_chop+parse_d+parse_exists+parse_f+parse_not+parse_round+parse_square+parse_then+parse_u.Lts-parse_chop.{
+  Claims as Claims-chop,
 }
 use Rattle.parser.proofs.parse_d.Reads as parse-d
 use Rattle.parser.proofs.parse_d.Kinds.{ps as ps-d}
-use Rattle.parser.proofs.+parse_atom+parse_c+parse_d+parse_exists+parse_f+parse_not+parse_round+parse_square+parse_u.Lts-parse_d.{
+use Rattle.parser.proofs.+parse_atom+parse_c+parse_chop+parse_d+parse_exists+parse_f+parse_not+parse_round+parse_square+parse_then+parse_u.Lts-parse_d.{
   Claims as Claims-d,
 }
 use Rattle.parser.proofs.parse_exists.Reads as parse-exists
 use Rattle.parser.proofs.parse_exists.Kinds.{ps as ps-exists}
-use Rattle.parser.proofs.+parse_atom+parse_c+parse_d+parse_exists+parse_f+parse_not+parse_round+parse_square+parse_u.Lts-parse_exists.{
+use Rattle.parser.proofs.+parse_atom+parse_c+parse_chop+parse_d+parse_exists+parse_f+parse_not+parse_round+parse_square+parse_then+parse_u.Lts-parse_exists.{
   Claims as Claims-exists,
 }
 use Rattle.parser.proofs.parse_f.Reads as parse-f
 use Rattle.parser.proofs.parse_f.Kinds.{ps as ps-f}
-use Rattle.parser.proofs.+parse_atom+parse_c+parse_d+parse_exists+parse_f+parse_not+parse_round+parse_square+parse_u.Lts-parse_f.{
+use Rattle.parser.proofs.+parse_atom+parse_c+parse_chop+parse_d+parse_exists+parse_f+parse_not+parse_round+parse_square+parse_then+parse_u.Lts-parse_f.{
   Claims as Claims-f,
 }
 use Rattle.parser.proofs.parse_not.Reads as parse-not
 use Rattle.parser.proofs.parse_not.Kinds.{ps as ps-not}
-use Rattle.parser.proofs.+parse_atom+parse_c+parse_d+parse_exists+parse_f+parse_not+parse_round+parse_square+parse_u.Lts-parse_not.{
+use Rattle.parser.proofs.+parse_atom+parse_c+parse_chop+parse_d+parse_exists+parse_f+parse_not+parse_round+parse_square+parse_then+parse_u.Lts-parse_not.{
   Claims as Claims-not,
 }
 use Rattle.parser.proofs.parse_round.Reads as parse-round
 use Rattle.parser.proofs.parse_round.Kinds.{ps as ps-round}
-use Rattle.parser.proofs.+parse_atom+parse_c+parse_d+parse_exists+parse_f+parse_not+parse_round+parse_square+parse_u.Lts-parse_round.{
+use Rattle.parser.proofs.+parse_atom+parse_c+parse_chop+parse_d+parse_exists+parse_f+parse_not+parse_round+parse_square+parse_then+parse_u.Lts-parse_round.{
   Claims as Claims-round,
 }
 use Rattle.parser.proofs.parse_square.Reads as parse-square
 use Rattle.parser.proofs.parse_square.Kinds.{ps as ps-square}
-use Rattle.parser.proofs.+parse_atom+parse_c+parse_d+parse_exists+parse_f+parse_not+parse_round+parse_square+parse_u.Lts-parse_square.{
+use Rattle.parser.proofs.+parse_atom+parse_c+parse_chop+parse_d+parse_exists+parse_f+parse_not+parse_round+parse_square+parse_then+parse_u.Lts-parse_square.{
   Claims as Claims-square,
+}
+use Rattle.parser.proofs.parse_then.Reads as parse-then
+use Rattle.parser.proofs.parse_then.Kinds.{ps as ps-then}
+use Rattle.parser.proofs.+parse_atom+parse_c+parse_chop+parse_d+parse_exists+parse_f+parse_not+parse_round+parse_square+parse_then+parse_u.Lts-parse_then.{
+  Claims as Claims-then,
 }
 use Rattle.parser.proofs.parse_u.Reads as parse-u
 use Rattle.parser.proofs.parse_u.Kinds.{ps as ps-u}
-use Rattle.parser.proofs.+parse_atom+parse_c+parse_d+parse_exists+parse_f+parse_not+parse_round+parse_square+parse_u.Lts-parse_u.{
+use Rattle.parser.proofs.+parse_atom+parse_c+parse_chop+parse_d+parse_exists+parse_f+parse_not+parse_round+parse_square+parse_then+parse_u.Lts-parse_u.{
   Claims as Claims-u,
 }
 use Rattle.facts.proofs.atom_facts.Reads as atom-facts
@@ -66,12 +76,16 @@ use Rattle.lists.proofs.number_at.Reads as number-at
 use Rattle.parser.proofs.push.Reads as push
 use Rattle.facts.proofs.then_facts.Reads as then-facts
 
--- The measures. What begins with `!`, `exists` or a round bracket is measured as an atom.
+-- The measures. What begins with `!`, `exists`, a round bracket, `then` or `chop` is
+-- measured as an atom.
 abbrev pub μ-parse-atom : Measures 2 ps-atom ℕ
 μ-parse-atom κs a = depth (a .0 .now) goA (a .1 .0)
 
 abbrev pub μ-parse-c : Measures 2 ps-c ℕ
 μ-parse-c κs a = depth (a .0 .now) (goC (a .1 .0)) (a .1 .1 .0)
+
+abbrev pub μ-parse-chop : Measures 2 ps-chop ℕ
+μ-parse-chop κs a = depth (a .0 .now) goA (a .1 .0)
 
 abbrev pub μ-parse-d : Measures 2 ps-d ℕ
 μ-parse-d κs a = depth (a .0 .now) (goD (a .1 .0)) (a .1 .1 .0)
@@ -91,6 +105,9 @@ abbrev pub μ-parse-round : Measures 2 ps-round ℕ
 abbrev pub μ-parse-square : Measures 2 ps-square ℕ
 μ-parse-square κs a = depth (a .0 .now) goB (a .1 .0)
 
+abbrev pub μ-parse-then : Measures 2 ps-then ℕ
+μ-parse-then κs a = depth (a .0 .now) goA (a .1 .0)
+
 abbrev pub μ-parse-u : Measures 2 ps-u ℕ
 μ-parse-u κs a = depth (a .0 .now) (goU (a .1 .0)) (a .1 .1 .0)
 
@@ -106,6 +123,12 @@ parse-c-at t = and 2 ps-c (is 2 ps-c μ-parse-c t) parse-c.Pre
 
 abbrev parse-c-below : ℕ → In 2 ps-c
 parse-c-below t = and 2 ps-c (falls 2 ps-c _<_ μ-parse-c t) parse-c.Pre
+
+abbrev pub parse-chop-at : ℕ → In 2 ps-chop
+parse-chop-at t = and 2 ps-chop (is 2 ps-chop μ-parse-chop t) parse-chop.Pre
+
+abbrev parse-chop-below : ℕ → In 2 ps-chop
+parse-chop-below t = and 2 ps-chop (falls 2 ps-chop _<_ μ-parse-chop t) parse-chop.Pre
 
 abbrev pub parse-d-at : ℕ → In 2 ps-d
 parse-d-at t = and 2 ps-d (is 2 ps-d μ-parse-d t) parse-d.Pre
@@ -142,6 +165,12 @@ parse-square-at t = and 2 ps-square (is 2 ps-square μ-parse-square t) parse-squ
 
 abbrev parse-square-below : ℕ → In 2 ps-square
 parse-square-below t = and 2 ps-square (falls 2 ps-square _<_ μ-parse-square t) parse-square.Pre
+
+abbrev pub parse-then-at : ℕ → In 2 ps-then
+parse-then-at t = and 2 ps-then (is 2 ps-then μ-parse-then t) parse-then.Pre
+
+abbrev parse-then-below : ℕ → In 2 ps-then
+parse-then-below t = and 2 ps-then (falls 2 ps-then _<_ μ-parse-then t) parse-then.Pre
 
 abbrev pub parse-u-at : ℕ → In 2 ps-u
 parse-u-at t = and 2 ps-u (is 2 ps-u μ-parse-u t) parse-u.Pre
@@ -184,6 +213,16 @@ calls-parse-c t = (
   join-facts.Learnt,
 )
 
+abbrev pub calls-parse-chop : ℕ → Claims-chop
+calls-parse-chop t = (
+  parse-f-below t,
+  parse-f.Post,
+  push.Asked,
+  push.Learnt,
+  chop-facts.Asked,
+  chop-facts.Learnt,
+)
+
 abbrev pub calls-parse-d : ℕ → Claims-d
 calls-parse-d t = (
   parse-c-below t,
@@ -216,14 +255,10 @@ calls-parse-f t = (
   parse-d.Post,
   number-at.Asked,
   number-at.Learnt,
-  push.Asked,
-  push.Learnt,
-  parse-f-below t,
-  parse-f.Post,
-  then-facts.Asked,
-  then-facts.Learnt,
-  chop-facts.Asked,
-  chop-facts.Learnt,
+  parse-then-below t,
+  parse-then.Post,
+  parse-chop-below t,
+  parse-chop.Post,
 )
 
 abbrev pub calls-parse-not : ℕ → Claims-not
@@ -250,6 +285,16 @@ calls-parse-square t = (
   number-at.Learnt,
   parse-f-below t,
   parse-f.Post,
+)
+
+abbrev pub calls-parse-then : ℕ → Claims-then
+calls-parse-then t = (
+  push.Asked,
+  push.Learnt,
+  parse-f-below t,
+  parse-f.Post,
+  then-facts.Asked,
+  then-facts.Learnt,
 )
 
 abbrev pub calls-parse-u : ℕ → Claims-u

@@ -13,8 +13,8 @@ use Rattle.parser.proofs.Steps.{round}
 use Rattle.parser.proofs.Stored.{Gave, Space, took, lost, room, past-first}
 use Rattle.parser.proofs.parse_round.Kinds.{ps, r}
 use Rattle.parser.proofs.parse_round.Reads as reads
-use Rattle.parser.proofs.+parse_atom+parse_c+parse_d+parse_exists+parse_f+parse_not+parse_round+parse_square+parse_u.Lts-parse_round as lts
-use Rattle.parser.proofs.+parse_atom+parse_c+parse_d+parse_exists+parse_f+parse_not+parse_round+parse_square+parse_u.Proof.Frame.{
+use Rattle.parser.proofs.+parse_atom+parse_c+parse_chop+parse_d+parse_exists+parse_f+parse_not+parse_round+parse_square+parse_then+parse_u.Lts-parse_round as lts
+use Rattle.parser.proofs.+parse_atom+parse_c+parse_chop+parse_d+parse_exists+parse_f+parse_not+parse_round+parse_square+parse_then+parse_u.Proof.Frame.{
   calls-parse-round,
   parse-round-at,
 }

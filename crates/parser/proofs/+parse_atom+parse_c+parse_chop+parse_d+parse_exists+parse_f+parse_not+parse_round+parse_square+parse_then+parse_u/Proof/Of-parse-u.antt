@@ -12,8 +12,8 @@ use Rattle.parser.specs.Contract.{Parses}
 use Rattle.parser.proofs.Steps
 use Rattle.parser.proofs.parse_u.Kinds.{ps, r}
 use Rattle.parser.proofs.parse_u.Reads as reads
-use Rattle.parser.proofs.+parse_atom+parse_c+parse_d+parse_exists+parse_f+parse_not+parse_round+parse_square+parse_u.Lts-parse_u as lts
-use Rattle.parser.proofs.+parse_atom+parse_c+parse_d+parse_exists+parse_f+parse_not+parse_round+parse_square+parse_u.Proof.Frame.{
+use Rattle.parser.proofs.+parse_atom+parse_c+parse_chop+parse_d+parse_exists+parse_f+parse_not+parse_round+parse_square+parse_then+parse_u.Lts-parse_u as lts
+use Rattle.parser.proofs.+parse_atom+parse_c+parse_chop+parse_d+parse_exists+parse_f+parse_not+parse_round+parse_square+parse_then+parse_u.Proof.Frame.{
   calls-parse-u,
   parse-u-at,
 }
