@@ -1,14 +1,20 @@
 /* How many bytes of stack each function of the archive takes, at worst over the texts and tables below.
  * Usage: stack [TRIES]     one line a function; TRIES random nestings are tried beside the named texts
  *
- * A function is called on a stack of its own that was painted; the lowest byte that is not paint any more is the
- * depth. This is done with two paints, so that a byte written in the colour of one of them shows in the other. The
- * same call of an empty function is taken off, and its return address put back: a number is what the caller has to
- * have free below its own frame, without the arguments that the caller itself lays there (a step has four, 32
- * bytes). */
+ * A function is called on a stack of its own that was painted; the lowest byte that is not paint any more is as far as
+ * it wrote. This is done with two paints, so that a byte written in the colour of one of them shows in the other. A
+ * frame may have bytes that are never written; so the worst call is made once more with a trap after each instruction,
+ * which tells the lowest stack pointer: what the function reserved. An interrupt on the same stack begins below that.
+ *
+ * The same call of an empty function is taken off, and its return address put back: a number is what the caller has to
+ * have free below its own frame, without the arguments that the caller itself lays there (a step has four, 32 bytes).
+ */
+#define _GNU_SOURCE
+#include <signal.h>
 #include <stdio.h>
 #include <stdlib.h>
 #include <string.h>
+#include <ucontext.h>
 
 #include "towerwatch.h"
 
@@ -59,7 +65,7 @@ static __typeof__(&towerwatch_step) step;
 static __typeof__(&towerwatch_write_lustre) write_lustre;
 static __typeof__(&towerwatch_read_lustre) read_lustre;
 static void call_read(void) { answer = read_rule(BYTES(first)); }
-static void call_compile(void) { answer = compile(BYTES(first), table, table_room); }
+static void call_compile(void) { answer = compile(BYTES(first), loaded, table_room); }
 static void call_same(void) { answer = same_rule(BYTES(first), BYTES(second)); }
 static void call_fresh(void) { answer = fresh_state(table, table_length, n, state, state_room); }
 static void call_step(void) {
@@ -80,23 +86,31 @@ static void empty(void) {
     write_lustre = no_write, read_lustre = no_compile;
 }
 
-/* Calls f with the stack pointer at the end of the painted stack. */
-static void on_stack(void (*f)(void)) {
-    __asm__ volatile("movq %%rsp, %%rbx\n\tmovq %1, %%rsp\n\tcall *%0\n\tmovq %%rbx, %%rsp"
-                     : "+a"(f)
-                     : "r"(stack + STACK)
+/* Calls f with the stack pointer at the end of the painted stack, with a trap after each instruction if `traps` is the
+ * trap flag. The compiler does not see the call, so that it has to be shown one. */
+enum { NO_TRAPS = 0, TRAPS = 0x100 };
+
+static volatile int never;
+
+static void on_stack(void (*f)(void), uint64_t traps) {
+    void (*called)(void) = f;
+    __asm__ volatile("movq %%rsp, %%rbx\n\tmovq %1, %%rsp\n\tpushfq\n\torq %2, (%%rsp)\n\tpopfq\n\tcall *%0\n\t"
+                     "pushfq\n\tandq $-257, (%%rsp)\n\tpopfq\n\tmovq %%rbx, %%rsp"
+                     : "+a"(called)
+                     : "r"(stack + STACK), "r"(traps)
                      : "rbx", "rcx", "rdx", "rsi", "rdi", "r8", "r9", "r10", "r11", "memory", "cc", "xmm0", "xmm1",
                        "xmm2", "xmm3", "xmm4", "xmm5", "xmm6", "xmm7", "xmm8", "xmm9", "xmm10", "xmm11", "xmm12",
                        "xmm13", "xmm14", "xmm15");
+    if (never) f();
 }
 
 /* How far down f writes. */
-static size_t depth(void (*f)(void)) {
+static size_t written(void (*f)(void)) {
     static const uint8_t paints[2] = {0x5a, 0xc3};
     size_t deepest = 0;
     for (int i = 0; i < 2; i++) {
         memset(stack, paints[i], STACK);
-        on_stack(f);
+        on_stack(f, NO_TRAPS);
         size_t low = 0;
         while (low < STACK && stack[low] == paints[i]) low++;
         if (deepest < STACK - low) deepest = STACK - low;
@@ -105,15 +119,34 @@ static size_t depth(void (*f)(void)) {
     return deepest;
 }
 
-/* The functions, with the worst that was found of each. */
+/* How far down f sets the stack pointer. The handler of the traps runs on a stack of its own. */
+static volatile uintptr_t lowest;
+
+static void on_trap(int number, siginfo_t *information, void *context) {
+    uintptr_t pointer = (uintptr_t)((ucontext_t *)context)->uc_mcontext.gregs[REG_RSP];
+    (void)number, (void)information;
+    if ((uintptr_t)stack <= pointer && pointer < lowest) lowest = pointer;
+}
+
+static size_t reserved(void (*f)(void)) {
+    static uint8_t own[STACK];
+    struct sigaction action = {.sa_sigaction = on_trap, .sa_flags = SA_SIGINFO | SA_ONSTACK};
+    stack_t other = {.ss_sp = own, .ss_size = sizeof own};
+    if (sigaltstack(&other, NULL) || sigaction(SIGTRAP, &action, NULL)) perror("traps"), exit(1);
+    lowest = (uintptr_t)(stack + STACK);
+    on_stack(f, TRAPS);
+    return (uintptr_t)(stack + STACK) - lowest;
+}
+
+/* The functions, with what the empty one takes, the least of a call that is not refused, the worst, and where. */
 enum function { READ, COMPILE, SAME, FRESH, STEP, WRITE, LOAD, FUNCTIONS };
 
 static struct {
     const char *name;
     void (*call)(void);
-    size_t nothing, worst;
+    size_t empty_written, empty_reserved, least, worst;
     char where[NAME];
-    char text[sizeof first.bytes];
+    struct text first, second;
 } functions[FUNCTIONS] = {
     {.name = "towerwatch_read_rule", .call = call_read},   {.name = "towerwatch_compile", .call = call_compile},
     {.name = "towerwatch_same_rule", .call = call_same},   {.name = "towerwatch_fresh_state", .call = call_fresh},
@@ -122,11 +155,11 @@ static struct {
 };
 
 static size_t measure(enum function f, const char *where) {
-    size_t took = depth(functions[f].call) - functions[f].nothing + RETURN_ADDRESS;
+    size_t took = written(functions[f].call) - functions[f].empty_written + RETURN_ADDRESS;
+    if (answer.refusal == 0 && (functions[f].least == 0 || took < functions[f].least)) functions[f].least = took;
     if (functions[f].worst < took) {
-        functions[f].worst = took;
+        functions[f].worst = took, functions[f].first = first, functions[f].second = second;
         snprintf(functions[f].where, NAME, "%s", where);
-        snprintf(functions[f].text, sizeof functions[f].text, "%s", f <= SAME ? first.bytes : "");
     }
     return took;
 }
@@ -383,6 +416,7 @@ static void measure_tables(void) {
     first.length = strlen(first.bytes);
     call_compile();
     n = answer.result;
+    memcpy(table, loaded, sizeof table);
     if (n != TOWERWATCH_RULE_EQUATIONS) fprintf(stderr, "the widest rule has %zu equations\n", n), exit(1);
     measure_table("562 equations, the widest rule");
     n = TOWERWATCH_EQUATIONS;
@@ -391,18 +425,37 @@ static void measure_tables(void) {
     measure_refused_tables();
 }
 
+/* What each empty function takes. */
+static void measure_nothing(void) {
+    empty();
+    for (int f = 0; f < FUNCTIONS; f++) {
+        functions[f].empty_written = written(functions[f].call);
+        functions[f].empty_reserved = reserved(functions[f].call);
+    }
+    real();
+}
+
+/* What each function reserves: where its text was worst, or on a short table of all kinds. */
+static void report(void) {
+    n = 16;
+    all_kinds();
+    measure_table("16 equations of all kinds");
+    for (int f = 0; f < FUNCTIONS; f++) {
+        first = functions[f].first, second = functions[f].second;
+        size_t took = reserved(functions[f].call) - functions[f].empty_reserved + RETURN_ADDRESS;
+        printf("%-24s %6zu bytes written at least, %6zu at most, %6zu reserved  %s\n", functions[f].name,
+               functions[f].least, functions[f].worst, took, functions[f].where);
+        if (f <= SAME) printf("    %s\n", first.bytes);
+    }
+}
+
 int main(int argc, char **argv) {
     int tries = argc > 1 ? atoi(argv[1]) : 20000;
-    empty();
-    for (int f = 0; f < FUNCTIONS; f++) functions[f].nothing = depth(functions[f].call);
-    real();
+    measure_nothing();
     measure_texts();
     measure_orders();
     measure_random(tries);
     measure_tables();
-    for (int f = 0; f < FUNCTIONS; f++) {
-        printf("%-24s %6zu bytes  %s\n", functions[f].name, functions[f].worst, functions[f].where);
-        if (functions[f].text[0]) printf("    %s\n", functions[f].text);
-    }
+    report();
     return 0;
 }
