@@ -121,7 +121,7 @@ fn parse_chop(ws: &[u32], at: usize, arena: &mut [u32], top: usize, a: Facts) ->
     Parsed::At(m, end, facts::chop_facts(a, b))
 }
 
-// "D: one or more C joined by `|`, grouped from the left."
+// SPEC 3.2: D, from the left.
 fn parse_d(ws: &[u32], inside: bool, at: usize, arena: &mut [u32], top: usize) -> Parsed
     requires { ⌜ Room (now ws) at (now arena) top ⌝ }
     ensures { λ r. ⌜ Parses (goD inside) (now (ws .entry)) at (now (arena .entry)) top r (now (arena .exit)) ⌝ }
