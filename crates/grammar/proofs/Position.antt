@@ -1,6 +1,6 @@
 -- The grammar once more, over positions in the list of words: `DerivesAt ws l X i t j` says that the words from i up
 -- to, not including, j are an X with the tree t. Shown is what a reading takes: at least one word, none past the end,
--- at most eight numbers of records and one node for each word. Assumes nothing.
+-- at most one record and one node for each word. Assumes nothing.
 use mathlib.Core.Path.{_≡_, refl}
 use mathlib.Core.Bool.{Bool, true, false, _||_, and-eq-true-iff}
 use mathlib.Core.List.{List}
@@ -105,59 +105,97 @@ pub count-pos : (w : ℕ) → isCount w ≡ true → SUM ≤ w
 unfolding isCount
 count-pos w e = within-low SUM AGE w e
 
--- What a reading takes.
+-- ---- records
+
+-- Outside square brackets two records fewer than words: `len` is one record of three words, square brackets are two
+-- words, and the second record of a `then` takes what one of its parts leaves.
+abbrev leftOver : Bool → ℕ
+leftOver true = 0
+leftOver false = 8
+
+-- The numbers of the records, four each, and what is left over.
+pub sized : {ws : List ℕ} {l : Bool} {c : Symbol} {i j : ℕ} {t : Tree} → DerivesAt ws l c i t j →
+    length (flat t) + leftOver l + 4 * i ≤ 4 * j
+sized (f-one r) = sized r
+sized (f-then r e s) = simp length-append (omega (arith, sized r, sized s))
+sized (f-chop r e s) = simp length-append (omega (arith, sized r, sized s))
+sized (d-one r) = sized r
+sized (d-or r e s) = simp length-append (omega (arith, sized r, sized s))
+sized (c-one r) = sized r
+sized (c-and r e s) = simp length-append (omega (arith, sized r, sized s))
+sized (u-not e r) = simp length-append (omega (arith, sized r))
+sized (u-exists e h r) = simp length-append (omega (arith, sized r))
+sized (u-round e r f) = omega (arith, sized r)
+sized (u-constant h) = omega arith
+sized (u-signal h) = omega arith
+sized (u-test h r) = simp length-append (omega (arith, sized r))
+sized (u-len e h n) = omega arith
+sized (u-count k r h n) = simp length-append (omega (arith, sized r))
+sized (b-square e r f) = omega (arith, sized r)
+
+-- ---- words and nodes
+
+record Steps (ws : List ℕ) (i : ℕ) (t : Tree) (j : ℕ) : Type 0 where
+  moves : i < j
+  within : j ≤ length ws
+  few : nodes t + i ≤ j
+
+-- Of two readings with one word between them, whose tree adds at most one node to theirs;
+joined : {ws : List ℕ} {i m j : ℕ} {a b : Tree} (t : Tree) → Steps ws i a m → Steps ws (m + 1) b j →
+    nodes t ≤ nodes a + nodes b + 1 → Steps ws i t j
+joined t x y f = record { moves = omega arith; within = y .within; few = omega arith }
+
+-- of a reading with one word before it, whose tree adds at most one node to its own;
+before : {ws : List ℕ} {i j : ℕ} {a : Tree} (t : Tree) → Steps ws (i + 1) a j → nodes t ≤ nodes a + 1 → Steps ws i t j
+before t x f = record { moves = omega arith; within = x .within; few = omega arith }
+
+-- and of every reading.
+steps : {ws : List ℕ} {l : Bool} {c : Symbol} {i j : ℕ} {t : Tree} → DerivesAt ws l c i t j → Steps ws i t j
+steps (f-one r) = steps r
+steps (f-then r e s) = joined _ (steps r) (steps s) (omega arith)
+steps (f-chop r e s) = joined _ (steps r) (steps s) (omega arith)
+steps (d-one r) = steps r
+steps (d-or r e s) = joined _ (steps r) (steps s) (omega arith)
+steps (c-one r) = steps r
+steps (c-and r e s) = joined _ (steps r) (steps s) (omega arith)
+steps (u-not e r) = before _ (steps r) (omega arith)
+steps (u-exists e h r) =
+    let x = steps r in
+    record { moves = omega arith; within = x .within; few = omega arith }
+steps {ws} (u-round {j = j} e r f) =
+    let x = steps r in
+    let h = inside ws j (omega arith) in
+    record { moves = omega arith; within = omega arith; few = omega arith }
+steps {ws} (u-constant {i} h) =
+    let k = inside ws i (omega (arith, bit-pos (word ws i) h)) in
+    record { moves = omega arith; within = omega arith; few = omega arith }
+steps {ws} (u-signal {i} h) =
+    let k = inside ws i (omega (arith, signal-pos (word ws i) h)) in
+    record { moves = omega arith; within = omega arith; few = omega arith }
+steps (u-test h r) =
+    let x = steps r in
+    record { moves = omega arith; within = x .within; few = omega arith }
+steps {ws} (u-len {i} e h n) =
+    let k = inside ws (i + 1 + 1) (omega (arith, num-pos (word ws (i + 1 + 1)) n)) in
+    record { moves = omega arith; within = omega arith; few = omega arith }
+steps {ws} (u-count {i} {j} k r h n) =
+    let x = steps r in
+    let m = inside ws (j + 1) (omega (arith, num-pos (word ws (j + 1)) n)) in
+    record { moves = omega arith; within = omega arith; few = omega arith }
+steps {ws} (b-square {j = j} e r f) =
+    let x = steps r in
+    let h = inside ws j (omega arith) in
+    record { moves = omega arith; within = omega arith; few = omega arith }
+
+-- ---- what a reading takes
+
 pub record Span (ws : List ℕ) (i : ℕ) (t : Tree) (j : ℕ) : Type 0 where
   pub moves : i < j
   pub within : j ≤ length ws
-  pub small : length (flat t) + 8 * i ≤ 8 * j
+  pub small : length (flat t) + 4 * i ≤ 4 * j
   pub few : nodes t + i ≤ j
 
--- Of two readings with one word between them, whose tree adds at most two records and one node to theirs;
-joined : {ws : List ℕ} {i m j : ℕ} {a b : Tree} (t : Tree) → Span ws i a m → Span ws (m + 1) b j →
-    length (flat t) ≤ length (flat a) + length (flat b) + 8 → nodes t ≤ nodes a + nodes b + 1 → Span ws i t j
-joined t x y s f =
-    record { moves = omega arith; within = y .within; small = omega arith; few = omega arith }
-
--- of a reading with one word before it, whose tree adds at most two records and one node to its own;
-before : {ws : List ℕ} {i j : ℕ} {a : Tree} (t : Tree) → Span ws (i + 1) a j →
-    length (flat t) ≤ length (flat a) + 8 → nodes t ≤ nodes a + 1 → Span ws i t j
-before t x s f =
-    record { moves = omega arith; within = x .within; small = omega arith; few = omega arith }
-
--- and of every reading.
 pub span : {ws : List ℕ} {l : Bool} {c : Symbol} {i j : ℕ} {t : Tree} → DerivesAt ws l c i t j → Span ws i t j
-span (f-one r) = span r
-span (f-then r e s) = joined _ (span r) (span s) (simp length-append (omega arith)) (omega arith)
-span (f-chop r e s) = joined _ (span r) (span s) (simp length-append (omega arith)) (omega arith)
-span (d-one r) = span r
-span (d-or r e s) = joined _ (span r) (span s) (simp length-append (omega arith)) (omega arith)
-span (c-one r) = span r
-span (c-and r e s) = joined _ (span r) (span s) (simp length-append (omega arith)) (omega arith)
-span (u-not e r) = before _ (span r) (simp length-append (omega arith)) (omega arith)
-span (u-exists e h r) =
-    let x = span r in
-    record { moves = omega arith; within = x .within; small = simp length-append (omega arith); few = omega arith }
-span {ws} (u-round {j = j} e r f) =
-    let x = span r in
-    let h = inside ws j (omega arith) in
-    record { moves = omega arith; within = omega arith; small = omega arith; few = omega arith }
-span {ws} (u-constant {i} h) =
-    let k = inside ws i (omega (arith, bit-pos (word ws i) h)) in
-    record { moves = omega arith; within = omega arith; small = omega arith; few = omega arith }
-span {ws} (u-signal {i} h) =
-    let k = inside ws i (omega (arith, signal-pos (word ws i) h)) in
-    record { moves = omega arith; within = omega arith; small = omega arith; few = omega arith }
-span (u-test h r) =
-    let x = span r in
-    record { moves = omega arith; within = x .within; small = simp length-append (omega arith); few = omega arith }
-span {ws} (u-len {i} e h n) =
-    let k = inside ws (i + 1 + 1) (omega (arith, num-pos (word ws (i + 1 + 1)) n)) in
-    record { moves = omega arith; within = omega arith; small = omega arith; few = omega arith }
-span {ws} (u-count {i} {j} k r h n) =
-    let x = span r in
-    let m = inside ws (j + 1) (omega (arith, num-pos (word ws (j + 1)) n)) in
-    record { moves = omega arith; within = omega arith; small = simp length-append (omega arith); few = omega arith }
-span {ws} (b-square {j = j} e r f) =
-    let x = span r in
-    let h = inside ws j (omega arith) in
-    record { moves = omega arith; within = omega arith; small = omega arith; few = omega arith }
+span r =
+    let x = steps r in
+    record { moves = x .moves; within = x .within; small = omega (arith, sized r); few = x .few }

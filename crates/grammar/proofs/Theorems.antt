@@ -49,11 +49,11 @@ module _ (ws : List ℕ) (t : Tree) where
       ap (ended ws) (finds ws t (placed ws t g))
       ∙ ap (λ (b : Bool). cond b (some t) none) (eq-eqb (length ws) (length ws) refl)
 
-  -- A rule has no more nodes than words, and its records take at most eight numbers a word.
+  -- A rule has no more nodes than words, and no more records, of four numbers each.
   pub rule-nodes : Rule ws t → nodes t ≤ length ws
   rule-nodes g = let s = span (placed ws t g) in omega arith
 
-  pub rule-size : Rule ws t → length (flat t) ≤ 8 * length ws
+  pub rule-size : Rule ws t → length (flat t) ≤ 4 * length ws
   rule-size g = let s = span (placed ws t g) in omega arith
 
   -- A rule in which neither `chop` nor `exists` stands is a formula, and has a meaning;

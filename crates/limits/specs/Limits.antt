@@ -9,9 +9,9 @@ textLimit = 2048
 abbrev pub wordLimit : ℕ
 wordLimit = 240
 
--- The records of a tree: at most two for each word. Each is four numbers.
+-- The records of a tree: at most one for each word. Each is four numbers.
 abbrev pub recordLimit : ℕ
-recordLimit = 2 * wordLimit
+recordLimit = wordLimit
 
 abbrev pub arenaLimit : ℕ
 arenaLimit = 4 * recordLimit

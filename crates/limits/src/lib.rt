@@ -7,8 +7,8 @@ pub const TEXT: usize = 2048;
 // The words that a rule text can have.
 pub const WORDS: usize = 240;
 
-// The records of a tree: at most two for each word. Each is four numbers.
-pub const RECORDS: usize = 2 * WORDS;
+// The records of a tree: at most one for each word. Each is four numbers.
+pub const RECORDS: usize = WORDS;
 
 pub const ARENA: usize = 4 * RECORDS;
 

@@ -59,9 +59,9 @@ chain-C l =
 
 module _ {g : Goal} {k : Tree → Goal} {sub : Goal} {f : Tree → Tree → Tree} {op node : ℕ}
     (z : Chain g k sub f op node) where
-  -- The word that joins leaves room for two records after the parts so far.
+  -- The word that joins leaves room for a record after the parts so far.
   pub joined : {ws : List ℕ} {i : ℕ} {before : List ℕ} {top n e : ℕ} {x : Facts} {mid : List ℕ} →
-      Room ws i before top → PartsRead g k ws i before top n e x mid → word ws n ≡ op → Space 8 ws (n + 1) mid e
+      Room ws i before top → PartsRead g k ws i before top n e x mid → word ws n ≡ op → Space 4 ws (n + 1) mid e
   joined {ws} {n = n} room h w = past-word (past-tree (space room) (h .part)) (inside ws n (omega (arith, z .real)))
 
   module _ {ws : List ℕ} {i : ℕ} {before : List ℕ} {top : ℕ} {after : List ℕ} where

@@ -1,5 +1,6 @@
 -- What a parse function has read and stored, in the terms of grammar's specs/Parse.antt; what it has to say of its
 -- answer; and the room that is left in the arena. Assumes nothing.
+use mathlib.Core.Bool.{Bool, false}
 use mathlib.Core.List.{List, [], _++_}
 use mathlib.Core.Path.{_≡_, refl, sym, ap, ap₂, _∙_, subst}
 use Prim.Native.Nat.{ℕ, _+_, _-_, _*_, _≤_, _<_}
@@ -11,9 +12,11 @@ use Rattle.limits.specs.Limits.{wordLimit}
 use Rattle.lists.proofs.Buffers.{sets-append}
 use Rattle.formulas.specs.Tree.{Tree}
 use Rattle.formulas.specs.Arena.{row, flat}
+use Rattle.grammar.specs.Grammar.Symbol.{D}
 use Rattle.grammar.specs.Parse.{Result, Goal, word, read, bind}
+use Rattle.grammar.specs.Parse.Goal.{goD}
 use Rattle.grammar.specs.Parse.Result.{no-rule, ok}
-use Rattle.grammar.proofs.Position.{Span, inside}
+use Rattle.grammar.proofs.Position.{DerivesAt, Span, sized, inside}
 use Rattle.grammar.proofs.Sound.{Holds, read-holds}
 use Rattle.facts.specs.Facts.{factsOf}
 use Rattle.facts.specs.declared.Facts.{Facts}
@@ -178,7 +181,7 @@ module _ {g : Goal} {ws : List ℕ} {i : ℕ} {before : List ℕ} {top : ℕ} {a
 pub record Space (spare : ℕ) (ws : List ℕ) (i : ℕ) (arena : List ℕ) (top : ℕ) : Type 0 where
   pub few : length ws ≤ wordLimit
   pub within : i ≤ length ws
-  pub fits : top + spare + 8 * (length ws - i) ≤ length arena
+  pub fits : top + spare + 4 * (length ws - i) ≤ length arena
 
 module _ {ws : List ℕ} {i : ℕ} {arena : List ℕ} {top : ℕ} where
   pub space : Room ws i arena top → Space 0 ws i arena top
@@ -187,12 +190,16 @@ module _ {ws : List ℕ} {i : ℕ} {arena : List ℕ} {top : ℕ} where
   pub room : {spare : ℕ} → Space spare ws i arena top → Room ws i arena top
   room h = record { few = h .few; within = h .within; fits = omega (arith, h .fits) }
 
-  -- A word that stands there leaves two records more to spare,
-  pub past-word : {spare : ℕ} → Space spare ws i arena top → i < length ws → Space (spare + 8) ws (i + 1) arena top
+  -- Room from a higher place on is room to spare.
+  pub spared : {spare : ℕ} (more : ℕ) → Space spare ws i arena (top + more) → Space (spare + more) ws i arena top
+  spared more h = record { few = h .few; within = h .within; fits = omega (arith, h .fits) }
+
+  -- A word that stands there leaves a record more to spare,
+  pub past-word : {spare : ℕ} → Space spare ws i arena top → i < length ws → Space (spare + 4) ws (i + 1) arena top
   past-word h l = record { few = h .few; within = omega arith; fits = omega (arith, h .fits) }
 
   -- as does one that is known by its number at a parse function's start,
-  pub past-first : {w : ℕ} → Room ws i arena top → word ws i ≡ w → 1 ≤ w → Space 8 ws (i + 1) arena top
+  pub past-first : {w : ℕ} → Room ws i arena top → word ws i ≡ w → 1 ≤ w → Space 4 ws (i + 1) arena top
   past-first h e l = past-word (space h) (inside ws i (omega arith))
 
   -- words that are passed over leave no less,
@@ -206,6 +213,20 @@ module _ {ws : List ℕ} {i : ℕ} {arena : List ℕ} {top : ℕ} where
       let s = p .spans in
       let l = stored-length (p .stored) in
       record { few = h .few; within = s .within; fits = omega (arith, h .fits, p .stored .end) }
+
+  -- a D outside square brackets leaves two records more,
+  pub past-outside : {l : Bool} {n e : ℕ} {f : Facts} {after : List ℕ} →
+      Room ws i arena top → Took (goD l) ws i arena top n e f after → l ≡ false → Space 8 ws n after e
+  past-outside {l} {n} h p q =
+      let t = p .part .tree in
+      let outside = subst (λ (x : Bool). DerivesAt ws x D i t n) q (read-holds ws (goD l) i t n (p .is)) in
+      let s = p .part .spans in
+      let size = stored-length (p .part .stored) in
+      record {
+        few = h .few;
+        within = s .within;
+        fits = omega (arith, h .fits, p .part .stored .end, sized outside);
+      }
 
   -- and a record that is pushed takes four numbers,
   pub past-push : (spare : ℕ) {k a b c e : ℕ} {after : List ℕ} →

@@ -52,11 +52,11 @@ ParsesThen a = ParsesJoined (thenFacts a) (row Arena.LEAD-END 0 0 0) (row Arena.
 abbrev pub ParsesChop : Facts → List ℕ → ℕ → List ℕ → ℕ → Parsed → List ℕ → Type 0
 ParsesChop a = ParsesJoined (chopFacts a) [] (row Arena.CHOP 0 0 0)
 
--- What a parse function is lent: few words, a position among them, and room for two records a word.
+-- What a parse function is lent: few words, a position among them, and room for a record a word.
 pub record Room (ws : List ℕ) (i : ℕ) (arena : List ℕ) (top : ℕ) : Type 0 where
   pub few : length ws ≤ wordLimit
   pub within : i ≤ length ws
-  pub fits : top + 8 * (length ws - i) ≤ length arena
+  pub fits : top + 4 * (length ws - i) ≤ length arena
 
 -- The same where the word at the position is known.
 pub record Begun (w : ℕ) (ws : List ℕ) (i : ℕ) (arena : List ℕ) (top : ℕ) : Type 0 where

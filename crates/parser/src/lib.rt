@@ -96,9 +96,9 @@ pub fn parse_f(ws: &[u32], inside: bool, at: usize, arena: &mut [u32], top: usiz
 
 // `then` at a position and the F after it, where the facts of the D before it are a. This and the next have one caller,
 // so that they are inlined there; as functions of their own they let the answers of their calls share one place of the
-// caller's stack frame.
+// caller's stack frame. A D outside square brackets has two records fewer than words, and `then` needs one of them.
 fn parse_then(ws: &[u32], at: usize, arena: &mut [u32], top: usize, a: Facts) -> Parsed
-    requires { ⌜ Begun THEN (now ws) at (now arena) top × (a .nodes ≤ wordLimit) ⌝ }
+    requires { ⌜ Begun THEN (now ws) at (now arena) (top + 8) × (a .nodes ≤ wordLimit) ⌝ }
     ensures { λ r. ⌜ ParsesThen a (now (ws .entry)) at (now (arena .entry)) top r (now (arena .exit)) ⌝ }
 {
     let mark = push(arena, top, formulas::LEAD_END, 0, 0, 0);

@@ -1,6 +1,6 @@
 -- How many equations an observer has: for each record of the formula's tree at most as many as the widest node has,
--- 66 before and 4 after them. A formula that was read has at most 480 records, so its observer has at most 4,096
--- equations. Assumes nothing.
+-- 66 before and 4 after them. A formula of at most `recordLimit` records has an observer of at most `equationLimit`
+-- equations, which is what a table needs to be well formed; Counts.antt counts closer. Assumes nothing.
 use mathlib.Core.Bool.{Bool}
 use mathlib.Core.List.{List, _++_}
 use Prim.Native.Nat.{ℕ, _+_, _*_, _≤_}

@@ -56,7 +56,7 @@ not-signal c = c .before .before
 -- A word leaves room for one record.
 record-room : (c : tie.After-number-at) → 1 ≤ c .number-at .result →
     start c .args .top + 4 ≤ length (start c .args .arena .now)
-record-room c l = fits-push 4 (past-first (start c .pre) (sym (c .number-at .ensures)) l)
+record-room c l = fits-push 0 (past-first (start c .pre) (sym (c .number-at .ensures)) l)
 
 -- A signal.
 is-signal : (c : tie.Then1) → isSignal (signal-looked c .number-at .result) ≡ true

@@ -64,7 +64,7 @@ module _ (t : ℕ) where
   first c = let args = start c .args in word (args .ws .now) (args .at)
 
   abbrev First-space : Here lts.After-number-at → Type 0
-  First-space c = let args = start c .args in Space 8 (args .ws .now) (args .at + 1) (args .arena .now) (args .top)
+  First-space c = let args = start c .args in Space 4 (args .ws .now) (args .at + 1) (args .arena .now) (args .top)
 
   -- It is the word that was looked at, and where it is one, it leaves room.
   looked-space : (c : Here lts.After-number-at) → 1 ≤ c .number-at .result → First-space c
@@ -114,7 +114,7 @@ module _ (t : ℕ) where
   test-fits : Here lts.Need-push-requires
   test-fits c κs =
       let tree = c .before in
-      fits-tree 4 (test-space (at-test (test-call tree))) (test-tree tree .part)
+      fits-tree 0 (test-space (at-test (test-call tree))) (test-tree tree .part)
 
   is-lead-test-requires : Here lts.Need-is-lead-test-requires
   is-lead-test-requires c κs = is-test (at-test (test-call (c .before .before .before .before)))
@@ -143,7 +143,7 @@ module _ (t : ℕ) where
   add-len c = let s = len-space c in omega arith
 
   len-requires : Here lts.Need-comparison-requires
-  len-requires c κs = let s = len-space (c .before) in (omega arith, fits-push 4 s)
+  len-requires c κs = let s = len-space (c .before) in (omega arith, fits-push 0 s)
 
   a-len-length : Here lts.Need-same-length-3
   a-len-length c = c .before .before .comparison .kept .1 .1 .0
@@ -201,7 +201,7 @@ module _ (t : ℕ) where
   count-compared c κs =
       let tree = c .before .before in
       let s = past-tree (count-space (at-count (count-call tree))) (count-tree tree .part) in
-      (omega arith, fits-push 4 s)
+      (omega arith, fits-push 0 s)
 
   count-p-length : Here lts.Need-same-length-5
   count-p-length c =

@@ -42,7 +42,7 @@ module _ (t : ℕ) where
 
   chop-space : (c : Here lts.After-slice-known) →
       let args = start c .args in
-      Space 8 (args .ws .now) (args .at + 1) (args .arena .now) (args .top)
+      Space 4 (args .ws .now) (args .at + 1) (args .arena .now) (args .top)
   chop-space c = past-first (start c .pre .1 .0 .room) (chop-word c) (omega arith)
 
   add-f : Here lts.Need-add-parse-f
@@ -71,7 +71,7 @@ module _ (t : ℕ) where
   fits : Here lts.Need-push-requires
   fits c κs =
       let here = c .before in
-      fits-tree 4 (chop-space (at-call (call here))) (tree here .part)
+      fits-tree 0 (chop-space (at-call (call here))) (tree here .part)
 
   facts-requires : Here lts.Need-chop-facts-requires
   facts-requires c κs =

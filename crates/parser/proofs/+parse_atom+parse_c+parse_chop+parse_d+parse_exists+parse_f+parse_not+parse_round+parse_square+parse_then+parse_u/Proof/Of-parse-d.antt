@@ -96,7 +96,7 @@ module _ (t : ℕ) where
 
   join-space : (c : Here lts.Then1) →
       let loop = head c .loop in
-      Space 8 (begun (head c) .args .ws .now) (loop .j + 1) (loop .arena) (loop .t)
+      Space 4 (begun (head c) .args .ws .now) (loop .j + 1) (loop .arena) (loop .t)
   join-space c =
       Chains.joined (chain-D (begun (head c) .args .inside)) (begun (head c) .pre .1) (parts (head c)) (join-word c)
 
@@ -132,7 +132,7 @@ module _ (t : ℕ) where
   more-fits : Here lts.Need-push-requires
   more-fits c κs =
       let told = c .before in
-      fits-tree 4 (join-space (joining (more-call told))) (more told .part)
+      fits-tree 0 (join-space (joining (more-call told))) (more told .part)
 
   join-facts-requires : Here lts.Need-join-facts-requires
   join-facts-requires c κs =

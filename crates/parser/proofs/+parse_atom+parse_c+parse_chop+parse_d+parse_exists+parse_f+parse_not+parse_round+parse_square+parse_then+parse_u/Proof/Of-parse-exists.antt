@@ -47,7 +47,7 @@ module _ (t : ℕ) where
 
   exists-space : (c : Here lts.After-slice-known) →
       let args = start c .args in
-      Space 8 (args .ws .now) (args .at + 1) (args .arena .now) (args .top)
+      Space 4 (args .ws .now) (args .at + 1) (args .arena .now) (args .top)
   exists-space c = past-first (start c .pre .1 .room) (exists-word c) (omega arith)
 
   add-exists : Here lts.Need-add-number-at
@@ -73,7 +73,7 @@ module _ (t : ℕ) where
 
   signal-space : (c : Here lts.Else1) →
       let args = start (at-exists c) .args in
-      Space 8 (args .ws .now) (args .at + 2) (args .arena .now) (args .top)
+      Space 4 (args .ws .now) (args .at + 2) (args .arena .now) (args .top)
   signal-space c =
       let args = start (at-exists c) .args in
       let signal = c .before .before .number-at in
@@ -115,7 +115,7 @@ module _ (t : ℕ) where
   fits : Here lts.Need-push-requires
   fits c κs =
       let here = c .before in
-      fits-tree 4 (signal-space (at-signal (call here))) (tree here .part)
+      fits-tree 0 (signal-space (at-signal (call here))) (tree here .part)
 
   u-length : Here lts.Need-same-length-2
   u-length c =

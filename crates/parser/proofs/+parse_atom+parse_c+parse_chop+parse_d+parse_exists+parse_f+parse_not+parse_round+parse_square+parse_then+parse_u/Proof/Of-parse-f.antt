@@ -2,7 +2,7 @@
 use mathlib.Core.Bool.{Bool}
 use mathlib.Core.List.{List}
 use mathlib.Core.Path.{_≡_, sym, ap, _∙_}
-use Prim.Native.Nat.{ℕ, _≤_}
+use Prim.Native.Nat.{ℕ, _+_, _≤_}
 use borrow.Author.Needs.{needs}
 use borrow.Fn.Kinds.{In, Out}
 use native.Mathlib.Omega.{arith}
@@ -12,8 +12,9 @@ use Rattle.grammar.specs.Parse.{word, joinOf}
 use Rattle.grammar.specs.Parse.Goal.{goD}
 use Rattle.grammar.proofs.Position.{span}
 use Rattle.grammar.proofs.Complete.{stop-join}
+use Rattle.parser.specs.Contract.{Room}
 use Rattle.parser.proofs.Steps
-use Rattle.parser.proofs.Stored.{Gave, Space, took, lost, few-nodes, space, room, past-tree}
+use Rattle.parser.proofs.Stored.{Gave, Space, took, lost, few-nodes, space, room, past-tree, past-outside}
 use Rattle.parser.proofs.parse_f.Kinds.{ps, r}
 use Rattle.parser.proofs.parse_f.Reads as reads
 use Rattle.parser.proofs.+parse_atom+parse_c+parse_chop+parse_d+parse_exists+parse_f+parse_not+parse_round+parse_square+parse_then+parse_u.Lts-parse_f as lts
@@ -92,7 +93,7 @@ module _ (t : ℕ) where
   d-few : (c : Here lts.After-known-told) → c .before .j .given .0 .1 .1 .0 .nodes ≤ wordLimit
   d-few c = few-nodes (start (d-call c) .pre .1 .few) (d-tree c .part)
 
-  -- `then` and an F,
+  -- `then` and an F, with the room that a D outside square brackets leaves,
   then-word : (c : Here lts.Then2) → word (text (then-d c)) (next (then-d c)) ≡ Word.THEN
   then-word c = sym (c .before .number-at .ensures) ∙ c .if2 .taken
 
@@ -100,10 +101,12 @@ module _ (t : ℕ) where
   then-requires c κs =
       let here = c .before in
       let d = then-d here in
-      let p = d-tree d .part .spans in (
-        omega (arith, start (d-call d) .pre .0),
-        (record { room = room (d-space d); first = then-word here }, d-few d),
-      )
+      let p = d-tree d .part .spans in
+      let s = past-outside (start (d-call d) .pre .1) (d-tree d) (here .before .before .if1 .left) in
+      let more : Room (text d) (next d) (arena d) (end d + 8) =
+      record { few = s .few; within = s .within; fits = s .fits }
+      in
+      (omega (arith, start (d-call d) .pre .0), (record { room = more; first = then-word here }, d-few d))
 
   then-length : Here lts.Need-same-length-3
   then-length c =

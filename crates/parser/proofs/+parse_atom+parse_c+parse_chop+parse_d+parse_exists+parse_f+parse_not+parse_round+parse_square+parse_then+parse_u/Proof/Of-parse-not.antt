@@ -41,7 +41,7 @@ module _ (t : ℕ) where
 
   not-space : (c : Here lts.After-slice-known) →
       let args = start c .args in
-      Space 8 (args .ws .now) (args .at + 1) (args .arena .now) (args .top)
+      Space 4 (args .ws .now) (args .at + 1) (args .arena .now) (args .top)
   not-space c = past-first (start c .pre .1 .room) (not-word c) (omega arith)
 
   add-u : Here lts.Need-add-parse-u
@@ -70,7 +70,7 @@ module _ (t : ℕ) where
   fits : Here lts.Need-push-requires
   fits c κs =
       let here = c .before in
-      fits-tree 4 (not-space (at-call (call here))) (tree here .part)
+      fits-tree 0 (not-space (at-call (call here))) (tree here .part)
 
   facts-requires : Here lts.Need-not-facts-requires
   facts-requires c κs =

@@ -42,7 +42,7 @@ module _ (t : ℕ) where
 
   round-space : (c : Here lts.After-slice-known) →
       let args = start c .args in
-      Space 8 (args .ws .now) (args .at + 1) (args .arena .now) (args .top)
+      Space 4 (args .ws .now) (args .at + 1) (args .arena .now) (args .top)
   round-space c = past-first (start c .pre .1 .room) (round-word c) (omega arith)
 
   add-f : Here lts.Need-add-parse-f

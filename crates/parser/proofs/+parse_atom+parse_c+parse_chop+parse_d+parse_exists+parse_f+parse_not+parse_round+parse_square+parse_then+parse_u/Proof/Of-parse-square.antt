@@ -44,7 +44,7 @@ module _ (t : ℕ) where
   -- which leaves room.
   open-space : (c : Here lts.Else1) →
       let args = start c .args in
-      Space 8 (args .ws .now) (args .at + 1) (args .arena .now) (args .top)
+      Space 4 (args .ws .now) (args .at + 1) (args .arena .now) (args .top)
   open-space c = past-first (start c .pre .1) (open-word c) (omega arith)
 
   -- What stands in the brackets.

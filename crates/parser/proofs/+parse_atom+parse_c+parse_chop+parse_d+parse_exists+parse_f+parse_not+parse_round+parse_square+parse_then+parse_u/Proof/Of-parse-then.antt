@@ -10,7 +10,8 @@ use Rattle.grammar.specs.Parse.{word}
 use Rattle.grammar.specs.Parse.Goal.{goF}
 use Rattle.grammar.proofs.Position.{span}
 use Rattle.parser.proofs.Steps
-use Rattle.parser.proofs.Stored.{Gave, Space, stored-on, pushed, took, lost, few-nodes, room, past-first, past-push, fits-push, fits-tree}
+use Rattle.parser.proofs.Stored.{Gave, Space, stored-on, pushed, took, lost, few-nodes, room, past-first, past-push, spared}
+use Rattle.parser.proofs.Stored.{fits-push, fits-tree}
 use Rattle.parser.proofs.parse_then.Kinds.{ps, r}
 use Rattle.parser.proofs.parse_then.Reads as reads
 use Rattle.parser.proofs.+parse_atom+parse_c+parse_chop+parse_d+parse_exists+parse_f+parse_not+parse_round+parse_square+parse_then+parse_u.Lts-parse_then as lts
@@ -37,7 +38,7 @@ module _ (t : ℕ) where
   abbrev call : Here lts.After-known-told → Here lts.After-parse-f
   call c = c .before .before .before .before .before
 
-  -- `then`, which leaves room for two records,
+  -- `then`, after which there is room for three records,
   then-word : (c : Here lts.After-slice-known) →
       let args = start c .args in
       word (args .ws .now) (args .at) ≡ Word.THEN
@@ -45,17 +46,17 @@ module _ (t : ℕ) where
 
   then-space : (c : Here lts.After-slice-known) →
       let args = start c .args in
-      Space 8 (args .ws .now) (args .at + 1) (args .arena .now) (args .top)
-  then-space c = past-first (start c .pre .1 .0 .room) (then-word c) (omega arith)
+      Space 12 (args .ws .now) (args .at + 1) (args .arena .now) (args .top)
+  then-space c = spared 8 (past-first (start c .pre .1 .0 .room) (then-word c) (omega arith))
 
   mark-fits : Here lts.Need-push-requires
-  mark-fits c κs = fits-push 4 (then-space (c .before))
+  mark-fits c κs = fits-push 8 (then-space (c .before))
 
-  -- and for one after the mark;
+  -- and for two after the mark;
   mark-space : (c : Here lts.After-push) →
       let args = start (at-mark c) .args in
-      Space 4 (args .ws .now) (args .at + 1) (c .push .last .0) (c .push .result)
-  mark-space c = past-push 4 (then-space (at-mark c)) (c .push .ensures)
+      Space 8 (args .ws .now) (args .at + 1) (c .push .last .0) (c .push .result)
+  mark-space c = past-push 8 (then-space (at-mark c)) (c .push .ensures)
 
   add-f : Here lts.Need-add-parse-f
   add-f c = let s = then-space (at-mark (c .before .before)) in omega arith
@@ -87,7 +88,7 @@ module _ (t : ℕ) where
   fits : Here lts.Need-push-requires-2
   fits c κs =
       let here = c .before in
-      fits-tree 0 (mark-space (mark (call here))) (tree here .part)
+      fits-tree 4 (mark-space (mark (call here))) (tree here .part)
 
   facts-requires : Here lts.Need-then-facts-requires
   facts-requires c κs =
