@@ -5,7 +5,7 @@ use mathlib.Core.Path.{_≡_, refl, sym, ap, subst, subst₂, _∙_}
 use Prim.Native.Nat.{ℕ, _*_, _≤_, _<_}
 use native.Mathlib.Omega.{arith}
 use lib.ListN.{length, take}
-use Rattle.limits.specs.Limits.{standardCap, tableRoom}
+use Rattle.limits.specs.Limits.{standardCap, tableRoom, ruleEquations}
 use Rattle.formulas.specs.Formula.{Formula}
 use Rattle.formulas.specs.Tree.{Tree, nodes, formulaOf}
 use Rattle.formulas.proofs.Laws.{means}
@@ -65,6 +65,12 @@ compiled-rule (not-read e) h room = absurd (not-refused h e)
 compiled-rule (no-room e l) h room = absurd (omega arith)
 compiled-rule (observed {n} e is l few same kept o) h room = (n, refl)
 
+few-equations : {text before after : List ℕ} {r : Compiled} {n : ℕ} → Compiles text before r after → r ≡ Equations n
+    → n ≤ ruleEquations
+few-equations (not-read e) q = absurd (refused-equations q)
+few-equations (no-room e l) q = absurd (refused-equations q)
+few-equations {n = n} (observed {n = m} e is l few same kept o) q = let number : m ≡ n = cc in omega arith
+
 -- One text has one tree, and it has one formula.
 one-formula : {x y : Option Formula} {f g : Formula} → x ≡ some f → y ≡ some g → x ≡ y → f ≡ g
 one-formula p q e = cc
@@ -92,6 +98,7 @@ kept =
         refuses = refused-text;
         no-room = short-table;
         compiles = compiled-rule;
+        few = λ c. few-equations c refl;
         observes = λ c h is rest. observed-rule c refl h is rest;
       };
       round-trips = record {

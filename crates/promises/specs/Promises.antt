@@ -19,7 +19,7 @@ use mathlib.Core.Option.{some}
 use mathlib.Core.Path.{_≡_}
 use Prim.Native.Nat.{ℕ, _*_, _≤_, _<_}
 use lib.ListN.{length, take, drop}
-use Rattle.limits.specs.Limits.{standardCap, tableRoom}
+use Rattle.limits.specs.Limits.{standardCap, tableRoom, ruleEquations}
 use Rattle.traces.specs.Trace.{Trace}
 use Rattle.formulas.specs.Formula.{Formula, Prop}
 use Rattle.formulas.specs.Tree.{Tree, nodes, formulaOf}
@@ -72,7 +72,7 @@ Running = (t : List ℕ) (n : ℕ) → checked t n ≡ Passed → RunsAsLustre s
 
 -- SPEC 12.3 (demand 3). A text with a refusal gets that, a rule with too short a table 9 (SPEC 7.9), and both leave the
 -- table as it was. A rule is compiled where there is room, and then the n equations at the front of the table, whatever
--- stands after them, observe its formula.
+-- stands after them, observe its formula. No rule has more equations than SPEC 12.6 says.
 pub record Compiling : Type 0 where
   pub refuses : {text before after : List ℕ} {r : Compiled} {k : ℕ} → Compiles text before r after
       → HasOutcome text (refused k) → (r ≡ Refused k) × (after ≡ before)
@@ -80,6 +80,7 @@ pub record Compiling : Type 0 where
       → HasOutcome text (rule t) → length before < tableRoom → (r ≡ Refused 9) × (after ≡ before)
   pub compiles : {text before after : List ℕ} {r : Compiled} {t : Tree} → Compiles text before r after
       → HasOutcome text (rule t) → tableRoom ≤ length before → (n : ℕ) × (r ≡ Equations n)
+  pub few : {text before after : List ℕ} {n : ℕ} → Compiles text before (Equations n) after → n ≤ ruleEquations
   pub observes : {text before after : List ℕ} {n : ℕ} {t : Tree} {f : Formula}
       → Compiles text before (Equations n) after → HasOutcome text (rule t) → formulaOf t ≡ some f
       → (rest : List ℕ) → Observes standardCap (take (4 * n) after ++ rest) n f (nodes t)
