@@ -138,13 +138,13 @@ static size_t reserved(void (*f)(void)) {
     return (uintptr_t)(stack + STACK) - lowest;
 }
 
-/* The functions, with what the empty one takes, the least of a call that is not refused, the worst, and where. */
+/* The functions, with what the empty one takes, the first text or table, the worst, and where that was. */
 enum function { READ, COMPILE, SAME, FRESH, STEP, WRITE, LOAD, FUNCTIONS };
 
 static struct {
     const char *name;
     void (*call)(void);
-    size_t empty_written, empty_reserved, least, worst;
+    size_t empty_written, empty_reserved, brief, worst;
     char where[NAME];
     struct text first, second;
 } functions[FUNCTIONS] = {
@@ -156,7 +156,7 @@ static struct {
 
 static size_t measure(enum function f, const char *where) {
     size_t took = written(functions[f].call) - functions[f].empty_written + RETURN_ADDRESS;
-    if (answer.refusal == 0 && (functions[f].least == 0 || took < functions[f].least)) functions[f].least = took;
+    if (functions[f].worst == 0) functions[f].brief = took;
     if (functions[f].worst < took) {
         functions[f].worst = took, functions[f].first = first, functions[f].second = second;
         snprintf(functions[f].where, NAME, "%s", where);
@@ -443,8 +443,8 @@ static void report(void) {
     for (int f = 0; f < FUNCTIONS; f++) {
         first = functions[f].first, second = functions[f].second;
         size_t took = reserved(functions[f].call) - functions[f].empty_reserved + RETURN_ADDRESS;
-        printf("%-24s %6zu bytes written at least, %6zu at most, %6zu reserved  %s\n", functions[f].name,
-               functions[f].least, functions[f].worst, took, functions[f].where);
+        printf("%-24s %6zu reserved, %6zu written, %6zu for a short one  %s\n", functions[f].name, took,
+               functions[f].worst, functions[f].brief, functions[f].where);
         if (f <= SAME) printf("    %s\n", first.bytes);
     }
 }
