@@ -265,7 +265,7 @@ static void measure_ordered(char op, int order, char square, int place) {
     for (int i = 0; i <= BRACKETS + OPERATORS; i++) {
         int bracket = order == 0 ? i < BRACKETS : order == 1 ? OPERATORS <= i : i % 3 == 0;
         if (i == place) nest[used++] = square;
-        if (i < BRACKETS + OPERATORS) nest[used++] = bracket ? '(' : i < place ? op: '!';
+        if (i < BRACKETS + OPERATORS) nest[used++] = bracket ? '(' : i < place ? op : '!';
     }
     if (!within(nest)) fprintf(stderr, "a nest is too large\n"), exit(1);
     for (int ending = 0; ending < ENDINGS; ending++) measure_nest(nest, ending);
