@@ -10,7 +10,8 @@
  * Each function answers a struct of two numbers. Where `refusal` is 0, `result` holds; otherwise `refusal` is one
  * of the numbers TOWERWATCH_REFUSED_..., `result` is 0, and no buffer was changed. Where more than one applies, it
  * is the first in the order in which the function's comment lists them. docs/FIRMWARE.md says what to do with each,
- * and how much stack a function takes. */
+ * and how much stack a function takes; docs/SPECIFICATION.md has each in exact words, refusal k as clause 7.k, and
+ * each function as a clause of chapter 8. */
 #ifndef TOWERWATCH_H
 #define TOWERWATCH_H
 
@@ -29,8 +30,8 @@ extern "C" {
 #define TOWERWATCH_VERSION_MAJOR 1
 #define TOWERWATCH_VERSION_MINOR 0
 
-/* Limits of a rule text: its bytes, its words, how many round brackets are open at a time, and how many of `!`, `then`,
- * `chop` and `exists` it has together. */
+/* Limits of a rule text: its bytes, its words, how many round brackets are open at a time, and how often `!`, `then`,
+ * `chop` and `exists` come up, all four counted. */
 #define TOWERWATCH_TEXT_BYTES 2048
 #define TOWERWATCH_WORDS 240
 #define TOWERWATCH_OPEN_BRACKETS 16
@@ -60,8 +61,8 @@ extern "C" {
 #define TOWERWATCH_REFUSED_WORD_COUNT 4     /* it has over TOWERWATCH_WORDS words */
 #define TOWERWATCH_REFUSED_NESTING 5        /* over TOWERWATCH_OPEN_BRACKETS or over TOWERWATCH_OPERATORS */
 #define TOWERWATCH_REFUSED_GRAMMAR 6        /* its words are in no order that the grammar has */
-#define TOWERWATCH_REFUSED_CHOP_OR_EXISTS 7 /* `chop` or `exists` stands in it */
-#define TOWERWATCH_REFUSED_LEAD 8           /* the left of some `then` is no lead */
+#define TOWERWATCH_REFUSED_CHOP_OR_EXISTS 7 /* one of its words is `chop` or `exists` */
+#define TOWERWATCH_REFUSED_LEAD 8           /* what stands left of a `then` is no lead */
 /* 9 to 15 of lent buffers, */
 #define TOWERWATCH_REFUSED_TABLE_ROOM 9     /* a table to be filled has under TOWERWATCH_TABLE_NUMBERS numbers */
 #define TOWERWATCH_REFUSED_TABLE_LENGTH 10  /* n is 0 or above TOWERWATCH_EQUATIONS, or above the table's equations */
@@ -71,7 +72,7 @@ extern "C" {
 #define TOWERWATCH_REFUSED_STATE 14         /* a memory's cell is out of its range */
 #define TOWERWATCH_REFUSED_LUSTRE_ROOM 15   /* the buffer is shorter than the Lustre text */
 /* 16 of a Lustre text. */
-#define TOWERWATCH_REFUSED_LUSTRE 16        /* no well-formed table writes exactly these bytes */
+#define TOWERWATCH_REFUSED_LUSTRE 16        /* the bytes are no table's text */
 
 struct towerwatch_answer {
     uint32_t refusal; /* 0: not refused */
