@@ -56,7 +56,7 @@ unfolding ruleOf splitOf words wordOf runOf run classOf keywordOf keywordAmong n
     treeOf read parse isOp isSignal isNum isBit isTest isCount hasWord deep counted operatorCount
 is-read = refl
 
--- So every table that is long enough gets as many equations.
+-- Compiled into a table that is long enough, it has as many equations.
 pub widest-reached : (table : List ℕ) → tableRoom ≤ length table
     → compiled widestText table .answer ≡ Equations ruleEquations
 widest-reached table room =

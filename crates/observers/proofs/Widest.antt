@@ -1,8 +1,8 @@
 -- No rule's observer has more equations than `ruleEquations`.
 --
 -- The equations of a tree are counted with one for each signal that stands in it (`equationCount`, crate scheme).
--- Inside square brackets they are at most the words. Outside, w words with k of the operators that refusal 5 counts
--- have at most e equations where
+-- Inside square brackets they are at most the words. Outside, e equations of w words, k of which are operators that
+-- refusal 5 counts, have
 --     4 * (e + 1) ≤ 5 * (w + 1) + 32 * k.
 -- Of the atoms `len` has the most for its words, 4 for 3, and the two sides are equal. `&` and `|` are one word and one
 -- equation, so that both sides of two parts add up to those of the whole. A `then` is one operator, and has 8 equations
@@ -134,6 +134,7 @@ few-equations (B-square {s} g) = simp length-append (omega (arith, few-equations
 
 -- ---- a rule
 
+-- A rule has at most `wordLimit` words and `operatorLimit` operators.
 few-operators : (ws : List ℕ) → beyondLimits ws ≡ false → operatorCount ws ≤ operatorLimit
 few-operators ws e = ltb-false operatorLimit (operatorCount ws) (or-right (deep 0 ws) _ e)
   where
