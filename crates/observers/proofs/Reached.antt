@@ -48,10 +48,10 @@ abbrev thens : ℕ → Formula → Formula
 thens zero f = f
 thens (suc n) f = then short (thens n f)
 
-abbrev widestFormula : Formula
-widestFormula = then (ands 27 short) (thens 31 (test begin (constant true)))
+abbrev formula : Formula
+formula = then (ands 27 short) (thens 31 (test begin (constant true)))
 
-is-read : ruleOf widestText ≡ rule (raw widestFormula)
+is-read : ruleOf widestText ≡ rule (raw formula)
 unfolding ruleOf splitOf words wordOf runOf run classOf keywordOf keywordAmong numberOf isDigit digitsAfter numeral
     treeOf read parse isOp isSignal isNum isBit isTest isCount hasWord deep counted operatorCount
 is-read = refl
@@ -60,6 +60,6 @@ is-read = refl
 pub widest-reached : (table : List ℕ) → tableRoom ≤ length table
     → compiled widestText table .answer ≡ Equations ruleEquations
 widest-reached table room =
-    let counted : length (observer widestFormula) ≡ ruleEquations = refl in
-    let stores = room-compiled widestText table (raw widestFormula) is-read widestFormula refl room (observer widestFormula) refl in
+    let counted : length (observer formula) ≡ ruleEquations = refl in
+    let stores = room-compiled widestText table (raw formula) is-read formula refl room (observer formula) refl in
     sym (ap (λ (x : AfterCompile). x .answer) stores) ∙ ap Equations counted

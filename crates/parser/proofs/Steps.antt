@@ -30,7 +30,8 @@ use Rattle.grammar.proofs.Words.{test-number, count-number}
 use Rattle.facts.specs.Facts.{factsOf, atomFacts, negFacts, thenFacts, chopFacts, existsFacts}
 use Rattle.facts.specs.declared.Facts.{Facts}
 use Rattle.parser.specs.Contract.{joinedOf, comparisonRecord}
-use Rattle.parser.specs.Contract.{Parses, ParsesJoined, ParsesThen, ParsesChop, Pushed, ParsesLeaf, ParsesComparison}
+use Rattle.parser.specs.Contract.{Parses, ParsesJoined, ParsesThen, ParsesChop, Pushed}
+use Rattle.parser.specs.Contract.{ParsesLeaf, ParsesComparison}
 use Rattle.parser.specs.declared.Parsed.{Parsed}
 use Rattle.parser.specs.declared.Parsed.the-variants.{At, No}
 use Rattle.parser.proofs.Stored.{Stored, Took, stored-none, pushed, stored-as, stored-on}

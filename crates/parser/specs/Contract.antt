@@ -32,8 +32,8 @@ pub record Parses (g : Goal) (ws : List ℕ) (i : ℕ) (before : List ℕ) (top 
   pub result : r ≡ parsedOf (read ws g i) top
   pub filled : (t : Tree) (j : ℕ) → read ws g i ≡ ok t j → after ≡ sets before top (flat t)
 
--- The enum of a tree that a D begins and an F ends: records before and after those of the F stand from `top` on, and the
--- tree's facts are known by those of the F.
+-- The enum of a tree that a D begins and an F ends: records before and after those of the F stand from `top` on, and
+-- the tree's facts are known by those of the F.
 abbrev pub joinedOf : (Facts → Facts) → List ℕ → List ℕ → ℕ → Result → Parsed
 joinedOf known first last top no-rule = No
 joinedOf known first last top (ok t m) = At m (top + length (first ++ (flat t ++ last))) (known (factsOf t))

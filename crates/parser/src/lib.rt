@@ -86,10 +86,10 @@ pub fn parse_f(ws: &[u32], inside: bool, at: usize, arena: &mut [u32], top: usiz
     }
     let k = lists::number_at(ws, j);
     if k == words::THEN {
-        return parse_then(ws, j, arena, t, a);
+        return then(ws, j, arena, t, a);
     }
     if k == words::CHOP {
-        return parse_chop(ws, j, arena, t, a);
+        return chop(ws, j, arena, t, a);
     }
     Parsed::At(j, t, a)
 }
@@ -97,7 +97,7 @@ pub fn parse_f(ws: &[u32], inside: bool, at: usize, arena: &mut [u32], top: usiz
 // `then` at a position and the F after it, where the facts of the D before it are a. This and the next have one caller,
 // so that they are inlined there; as functions of their own they let the answers of their calls share one place of the
 // caller's stack frame. A D outside square brackets has two records fewer than words, and `then` needs one of them.
-fn parse_then(ws: &[u32], at: usize, arena: &mut [u32], top: usize, a: Facts) -> Parsed
+fn then(ws: &[u32], at: usize, arena: &mut [u32], top: usize, a: Facts) -> Parsed
     requires { ⌜ Begun THEN (now ws) at (now arena) (top + 8) × (a .nodes ≤ wordLimit) ⌝ }
     ensures { λ r. ⌜ ParsesThen a (now (ws .entry)) at (now (arena .entry)) top r (now (arena .exit)) ⌝ }
 {
@@ -110,7 +110,7 @@ fn parse_then(ws: &[u32], at: usize, arena: &mut [u32], top: usize, a: Facts) ->
 }
 
 // `chop`, likewise.
-fn parse_chop(ws: &[u32], at: usize, arena: &mut [u32], top: usize, a: Facts) -> Parsed
+fn chop(ws: &[u32], at: usize, arena: &mut [u32], top: usize, a: Facts) -> Parsed
     requires { ⌜ Begun CHOP (now ws) at (now arena) top × (a .nodes ≤ wordLimit) ⌝ }
     ensures { λ r. ⌜ ParsesChop a (now (ws .entry)) at (now (arena .entry)) top r (now (arena .exit)) ⌝ }
 {
@@ -172,22 +172,22 @@ fn parse_u(ws: &[u32], inside: bool, at: usize, arena: &mut [u32], top: usize) -
 {
     let k = lists::number_at(ws, at);
     if k == words::NOT {
-        return parse_not(ws, inside, at, arena, top);
+        return not(ws, inside, at, arena, top);
     }
     if k == words::ROUND {
-        return parse_round(ws, inside, at, arena, top);
+        return round(ws, inside, at, arena, top);
     }
     if inside {
         return leaf(ws, at, arena, top);
     }
     if k == words::EXISTS {
-        return parse_exists(ws, at, arena, top);
+        return exists(ws, at, arena, top);
     }
-    parse_atom(ws, at, arena, top)
+    atom(ws, at, arena, top)
 }
 
-// A U that begins with `!`. This and the next two are functions of their own for the same reason as `parse_then`.
-fn parse_not(ws: &[u32], inside: bool, at: usize, arena: &mut [u32], top: usize) -> Parsed
+// A U that begins with `!`. This and the next two are functions of their own for the same reason as `then`.
+fn not(ws: &[u32], inside: bool, at: usize, arena: &mut [u32], top: usize) -> Parsed
     requires { ⌜ Begun NOT (now ws) at (now arena) top ⌝ }
     ensures { λ r. ⌜ Parses (goU inside) (now (ws .entry)) at (now (arena .entry)) top r (now (arena .exit)) ⌝ }
 {
@@ -199,7 +199,7 @@ fn parse_not(ws: &[u32], inside: bool, at: usize, arena: &mut [u32], top: usize)
 }
 
 // A U in round brackets.
-fn parse_round(ws: &[u32], inside: bool, at: usize, arena: &mut [u32], top: usize) -> Parsed
+fn round(ws: &[u32], inside: bool, at: usize, arena: &mut [u32], top: usize) -> Parsed
     requires { ⌜ Begun ROUND (now ws) at (now arena) top ⌝ }
     ensures { λ r. ⌜ Parses (goU inside) (now (ws .entry)) at (now (arena .entry)) top r (now (arena .exit)) ⌝ }
 {
@@ -213,7 +213,7 @@ fn parse_round(ws: &[u32], inside: bool, at: usize, arena: &mut [u32], top: usiz
 }
 
 // A U that begins with `exists`, outside square brackets.
-fn parse_exists(ws: &[u32], at: usize, arena: &mut [u32], top: usize) -> Parsed
+fn exists(ws: &[u32], at: usize, arena: &mut [u32], top: usize) -> Parsed
     requires { ⌜ Begun EXISTS (now ws) at (now arena) top ⌝ }
     ensures { λ r. ⌜ Parses (goU false) (now (ws .entry)) at (now (arena .entry)) top r (now (arena .exit)) ⌝ }
 {
@@ -229,13 +229,13 @@ fn parse_exists(ws: &[u32], at: usize, arena: &mut [u32], top: usize) -> Parsed
 }
 
 // SPEC 3.5: an atom.
-fn parse_atom(ws: &[u32], at: usize, arena: &mut [u32], top: usize) -> Parsed
+fn atom(ws: &[u32], at: usize, arena: &mut [u32], top: usize) -> Parsed
     requires { ⌜ Room (now ws) at (now arena) top ⌝ }
     ensures { λ r. ⌜ Parses goA (now (ws .entry)) at (now (arena .entry)) top r (now (arena .exit)) ⌝ }
 {
     let k = lists::number_at(ws, at);
     if words::is_test(k) {
-        let Parsed::At(j, t, _) = parse_square(ws, at + 1, arena, top) else {
+        let Parsed::At(j, t, _) = prop(ws, at + 1, arena, top) else {
             return Parsed::No;
         };
         let end = push(arena, t, formulas::TEST + (k - words::BEGIN), 0, 0, 0);
@@ -245,7 +245,7 @@ fn parse_atom(ws: &[u32], at: usize, arena: &mut [u32], top: usize) -> Parsed
         return comparison(ws, at + 1, arena, top, formulas::LEN, true);
     }
     if words::is_count(k) {
-        let Parsed::At(j, t, _) = parse_square(ws, at + 1, arena, top) else {
+        let Parsed::At(j, t, _) = prop(ws, at + 1, arena, top) else {
             return Parsed::No;
         };
         return comparison(
@@ -261,7 +261,7 @@ fn parse_atom(ws: &[u32], at: usize, arena: &mut [u32], top: usize) -> Parsed
 }
 
 // SPEC 3.6: a P in square brackets.
-fn parse_square(ws: &[u32], at: usize, arena: &mut [u32], top: usize) -> Parsed
+fn prop(ws: &[u32], at: usize, arena: &mut [u32], top: usize) -> Parsed
     requires { ⌜ Room (now ws) at (now arena) top ⌝ }
     ensures { λ r. ⌜ Parses goB (now (ws .entry)) at (now (arena .entry)) top r (now (arena .exit)) ⌝ }
 {

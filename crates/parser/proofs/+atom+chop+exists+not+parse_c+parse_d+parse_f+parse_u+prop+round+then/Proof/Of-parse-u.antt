@@ -12,8 +12,8 @@ use Rattle.parser.specs.Contract.{Parses}
 use Rattle.parser.proofs.Steps
 use Rattle.parser.proofs.parse_u.Kinds.{ps, r}
 use Rattle.parser.proofs.parse_u.Reads as reads
-use Rattle.parser.proofs.+parse_atom+parse_c+parse_chop+parse_d+parse_exists+parse_f+parse_not+parse_round+parse_square+parse_then+parse_u.Lts-parse_u as lts
-use Rattle.parser.proofs.+parse_atom+parse_c+parse_chop+parse_d+parse_exists+parse_f+parse_not+parse_round+parse_square+parse_then+parse_u.Proof.Frame.{
+use Rattle.parser.proofs.+atom+chop+exists+not+parse_c+parse_d+parse_f+parse_u+prop+round+then.Lts-parse_u as lts
+use Rattle.parser.proofs.+atom+chop+exists+not+parse_c+parse_d+parse_f+parse_u+prop+round+then.Proof.Frame.{
   calls-parse-u,
   parse-u-at,
 }
@@ -23,18 +23,18 @@ module _ (t : ℕ) where
   abbrev Here : (lts.Claims → In 2 ps → Out 2 ps r → Type 0) → Type 0
   Here place = place (calls-parse-u t) (parse-u-at t) reads.Post
 
-  -- The places: the start; after a word that is neither `!` nor a round bracket; from the call of `parse_atom`.
+  -- The places: the start; after a word that is neither `!` nor a round bracket; from the call of `atom`.
   abbrev start : Here lts.After-number-at → Here lts.Start
   start c = c .before .before .before
 
   abbrev other-start : Here lts.Else2 → Here lts.Start
   other-start c = start (c .before .before)
 
-  abbrev no-exists : Here lts.After-parse-atom → Here lts.Else4
+  abbrev no-exists : Here lts.After-atom → Here lts.Else4
   no-exists c = c .before .before
 
   -- `!`.
-  not-requires : Here lts.Need-parse-not-requires
+  not-requires : Here lts.Need-not-requires
   not-requires c κs =
       let word-read = c .before .before in
       let pre = start word-read .pre in (
@@ -43,13 +43,13 @@ module _ (t : ℕ) where
       )
 
   a-not-length : Here lts.Need-same-length
-  a-not-length c = c .before .before .parse-not .kept .1 .1 .1 .0
+  a-not-length c = c .before .before .not .kept .1 .1 .1 .0
 
   a-not : Here lts.Need-returns
-  a-not c = c .before .before .parse-not .ensures
+  a-not c = c .before .before .not .ensures
 
   -- A round bracket.
-  round-requires : Here lts.Need-parse-round-requires
+  round-requires : Here lts.Need-round-requires
   round-requires c κs =
       let word-read = c .before .before .before in
       let pre = start word-read .pre in (
@@ -58,10 +58,10 @@ module _ (t : ℕ) where
       )
 
   a-round-length : Here lts.Need-same-length-2
-  a-round-length c = c .before .before .parse-round .kept .1 .1 .1 .0
+  a-round-length c = c .before .before .round .kept .1 .1 .1 .0
 
   a-round : Here lts.Need-returns-2
-  a-round c = c .before .before .parse-round .ensures
+  a-round c = c .before .before .round .ensures
 
   -- Neither,
   no-not : (c : Here lts.Else2) →
@@ -88,7 +88,7 @@ module _ (t : ℕ) where
       Steps.U-leaf (no-not here) (no-round here) (leaf .before .before .if3 .taken) (leaf .leaf .ensures)
 
   -- Outside them: `exists`,
-  exists-requires : Here lts.Need-parse-exists-requires
+  exists-requires : Here lts.Need-exists-requires
   exists-requires c κs =
       let here = c .before .before .before in
       let pre = other-start here .pre in (
@@ -97,7 +97,7 @@ module _ (t : ℕ) where
       )
 
   an-exists-length : Here lts.Need-same-length-4
-  an-exists-length c = c .before .before .parse-exists .kept .1 .1 .0
+  an-exists-length c = c .before .before .exists .kept .1 .1 .0
 
   an-exists : Here lts.Need-returns-4
   an-exists c =
@@ -106,17 +106,17 @@ module _ (t : ℕ) where
       let args = other-start (outside .before) .args in
       subst
       (λ (x : Bool). Parses (goU x) (args .ws .now) (args .at) (args .arena .now) (args .top)
-      (call .parse-exists .result) (call .parse-exists .last .1 .1 .0))
-      (sym (outside .if3 .left)) (call .parse-exists .ensures)
+      (call .exists .result) (call .exists .last .1 .1 .0))
+      (sym (outside .if3 .left)) (call .exists .ensures)
 
   -- or an atom.
-  parse-atom-requires : Here lts.Need-parse-atom-requires
-  parse-atom-requires c κs =
+  atom-requires : Here lts.Need-atom-requires
+  atom-requires c κs =
       let pre = other-start (c .before .before .before) .pre in
       (omega (arith, pre .0), pre .1)
 
   an-atom-length : Here lts.Need-same-length-5
-  an-atom-length c = c .before .before .parse-atom .kept .1 .1 .0
+  an-atom-length c = c .before .before .atom .kept .1 .1 .0
 
   an-atom : Here lts.Need-returns-5
   an-atom c =
@@ -125,7 +125,7 @@ module _ (t : ℕ) where
       let outside = other .before in
       let here = outside .before in
       Steps.U-atom (no-not here) (no-round here) (outside .if3 .left)
-      (λ e. other .if4 .left (here .before .before .number-at .ensures ∙ e)) (call .parse-atom .ensures)
+      (λ e. other .if4 .left (here .before .before .number-at .ensures ∙ e)) (call .atom .ensures)
 
   -- So the member meets its contract, if the calls with lower measures do.
   pub met : {M : Type 1} → lts.Closed (calls-parse-u t) (parse-u-at t) reads.Post M
@@ -133,4 +133,4 @@ module _ (t : ℕ) where
       lts.spec (calls-parse-u t) (parse-u-at t) reads.Post
       (λ c κs. search needs) not-requires a-not-length a-not round-requires a-round-length a-round
       leaf-requires a-leaf-length a-leaf exists-requires an-exists-length an-exists
-      parse-atom-requires an-atom-length an-atom
+      atom-requires an-atom-length an-atom

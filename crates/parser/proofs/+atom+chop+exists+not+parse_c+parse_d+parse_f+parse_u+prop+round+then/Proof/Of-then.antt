@@ -1,4 +1,4 @@
--- The answers of the member `parse_then`: `then` and an F. Assumes nothing.
+-- The answers of the member `then`: `then` and an F. Assumes nothing.
 use mathlib.Core.Bool.{false}
 use mathlib.Core.Path.{_≡_, _∙_}
 use Prim.Native.Nat.{ℕ, _+_}
@@ -10,20 +10,20 @@ use Rattle.grammar.specs.Parse.{word}
 use Rattle.grammar.specs.Parse.Goal.{goF}
 use Rattle.grammar.proofs.Position.{span}
 use Rattle.parser.proofs.Steps
-use Rattle.parser.proofs.Stored.{Gave, Space, stored-on, pushed, took, lost, few-nodes, room, past-first, past-push, spared}
-use Rattle.parser.proofs.Stored.{fits-push, fits-tree}
-use Rattle.parser.proofs.parse_then.Kinds.{ps, r}
-use Rattle.parser.proofs.parse_then.Reads as reads
-use Rattle.parser.proofs.+parse_atom+parse_c+parse_chop+parse_d+parse_exists+parse_f+parse_not+parse_round+parse_square+parse_then+parse_u.Lts-parse_then as lts
-use Rattle.parser.proofs.+parse_atom+parse_c+parse_chop+parse_d+parse_exists+parse_f+parse_not+parse_round+parse_square+parse_then+parse_u.Proof.Frame.{
-  calls-parse-then,
-  parse-then-at,
+use Rattle.parser.proofs.Stored.{Gave, Space, stored-on, pushed, took, lost, few-nodes, room}
+use Rattle.parser.proofs.Stored.{past-first, past-push, spared, fits-push, fits-tree}
+use Rattle.parser.proofs.then.Kinds.{ps, r}
+use Rattle.parser.proofs.then.Reads as reads
+use Rattle.parser.proofs.+atom+chop+exists+not+parse_c+parse_d+parse_f+parse_u+prop+round+then.Lts-then as lts
+use Rattle.parser.proofs.+atom+chop+exists+not+parse_c+parse_d+parse_f+parse_u+prop+round+then.Proof.Frame.{
+  calls-then,
+  then-at,
 }
 
 module _ (t : ℕ) where
   -- A place or a need of the member, where its measure is t.
   abbrev Here : (lts.Claims → In 2 ps → Out 2 ps r → Type 0) → Type 0
-  Here place = place (calls-parse-then t) (parse-then-at t) reads.Post
+  Here place = place (calls-then t) (then-at t) reads.Post
 
   -- The places: the start; the mark, the call of `parse_f` after it, and its tree.
   abbrev start : Here lts.After-slice-known → Here lts.Start
@@ -111,8 +111,8 @@ module _ (t : ℕ) where
       (c .then-facts .ensures)
 
   -- So the member meets its contract, if the calls with lower measures do.
-  pub met : {M : Type 1} → lts.Closed (calls-parse-then t) (parse-then-at t) reads.Post M
+  pub met : {M : Type 1} → lts.Closed (calls-then t) (then-at t) reads.Post M
   met =
-      lts.spec (calls-parse-then t) (parse-then-at t) reads.Post
+      lts.spec (calls-then t) (then-at t) reads.Post
       mark-fits add-f f-requires (λ c. search needs) (λ c. search needs) no-f-length no-f fits facts-requires
       f-length f

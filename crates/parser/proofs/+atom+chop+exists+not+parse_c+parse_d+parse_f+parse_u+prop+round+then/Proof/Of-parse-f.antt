@@ -17,8 +17,8 @@ use Rattle.parser.proofs.Steps
 use Rattle.parser.proofs.Stored.{Gave, Space, took, lost, few-nodes, space, room, past-tree, past-outside}
 use Rattle.parser.proofs.parse_f.Kinds.{ps, r}
 use Rattle.parser.proofs.parse_f.Reads as reads
-use Rattle.parser.proofs.+parse_atom+parse_c+parse_chop+parse_d+parse_exists+parse_f+parse_not+parse_round+parse_square+parse_then+parse_u.Lts-parse_f as lts
-use Rattle.parser.proofs.+parse_atom+parse_c+parse_chop+parse_d+parse_exists+parse_f+parse_not+parse_round+parse_square+parse_then+parse_u.Proof.Frame.{
+use Rattle.parser.proofs.+atom+chop+exists+not+parse_c+parse_d+parse_f+parse_u+prop+round+then.Lts-parse_f as lts
+use Rattle.parser.proofs.+atom+chop+exists+not+parse_c+parse_d+parse_f+parse_u+prop+round+then.Proof.Frame.{
   calls-parse-f,
   parse-f-at,
 }
@@ -35,17 +35,17 @@ module _ (t : ℕ) where
   abbrev d-call : Here lts.After-known-told → Here lts.After-parse-d
   d-call c = c .before .before .before .before .before
 
-  -- `then`, and the call of `parse_then`; `chop`, and the call of `parse_chop`.
+  -- `then`, and the call of `then`; `chop`, and the call of `chop`.
   abbrev then-d : Here lts.Then2 → Here lts.After-known-told
   then-d c = c .before .before .before
 
-  abbrev at-then : Here lts.After-parse-then → Here lts.Then2
+  abbrev at-then : Here lts.After-then → Here lts.Then2
   at-then c = c .before .before
 
   abbrev chop-d : Here lts.Then3 → Here lts.After-known-told
   chop-d c = c .before .before .before .before
 
-  abbrev at-chop : Here lts.After-parse-chop → Here lts.Then3
+  abbrev at-chop : Here lts.After-chop → Here lts.Then3
   at-chop c = c .before .before
 
   -- The words, the position after the D, the place after its records, and the arena with them.
@@ -97,7 +97,7 @@ module _ (t : ℕ) where
   then-word : (c : Here lts.Then2) → word (text (then-d c)) (next (then-d c)) ≡ Word.THEN
   then-word c = sym (c .before .number-at .ensures) ∙ c .if2 .taken
 
-  then-requires : Here lts.Need-parse-then-requires
+  then-requires : Here lts.Need-then-requires
   then-requires c κs =
       let here = c .before in
       let d = then-d here in
@@ -111,19 +111,19 @@ module _ (t : ℕ) where
   then-length : Here lts.Need-same-length-3
   then-length c =
       let call = c .before .before in
-      call .parse-then .kept .1 .1 .0 ∙ d-call (then-d (at-then call)) .parse-d .kept .1 .1 .1 .0
+      call .then .kept .1 .1 .0 ∙ d-call (then-d (at-then call)) .parse-d .kept .1 .1 .1 .0
 
   a-then : Here lts.Need-returns-3
   a-then c =
       let call = c .before .before in
       let here = at-then call in
-      Steps.F-then (d-tree (then-d here)) (here .before .before .if1 .left) (then-word here) (call .parse-then .ensures)
+      Steps.F-then (d-tree (then-d here)) (here .before .before .if1 .left) (then-word here) (call .then .ensures)
 
   -- or `chop` and an F.
   chop-word : (c : Here lts.Then3) → word (text (chop-d c)) (next (chop-d c)) ≡ Word.CHOP
   chop-word c = sym (c .before .before .number-at .ensures) ∙ c .if3 .taken
 
-  chop-requires : Here lts.Need-parse-chop-requires
+  chop-requires : Here lts.Need-chop-requires
   chop-requires c κs =
       let here = c .before in
       let d = chop-d here in
@@ -135,14 +135,14 @@ module _ (t : ℕ) where
   chop-length : Here lts.Need-same-length-4
   chop-length c =
       let call = c .before .before in
-      call .parse-chop .kept .1 .1 .0 ∙ d-call (chop-d (at-chop call)) .parse-d .kept .1 .1 .1 .0
+      call .chop .kept .1 .1 .0 ∙ d-call (chop-d (at-chop call)) .parse-d .kept .1 .1 .1 .0
 
   a-chop : Here lts.Need-returns-4
   a-chop c =
       let call = c .before .before in
       let here = at-chop call in
       Steps.F-chop (d-tree (chop-d here)) (here .before .before .before .if1 .left) (chop-word here)
-      (call .parse-chop .ensures)
+      (call .chop .ensures)
 
   -- Neither: the D alone.
   d-alone-length : Here lts.Need-same-length-5

@@ -1,4 +1,4 @@
--- The answers of the member `parse_square`: a P in square brackets. Assumes nothing.
+-- The answers of the member `prop`: a P in square brackets. Assumes nothing.
 use mathlib.Core.Bool.{true}
 use mathlib.Core.Path.{_≡_, sym, _∙_}
 use Prim.Native.Nat.{ℕ, _+_}
@@ -12,18 +12,18 @@ use Rattle.grammar.proofs.Position.{span}
 use Rattle.parser.proofs.Steps
 use Rattle.parser.proofs.Steps.{square}
 use Rattle.parser.proofs.Stored.{Gave, Space, took, lost, past-first, room}
-use Rattle.parser.proofs.parse_square.Kinds.{ps, r}
-use Rattle.parser.proofs.parse_square.Reads as reads
-use Rattle.parser.proofs.+parse_atom+parse_c+parse_chop+parse_d+parse_exists+parse_f+parse_not+parse_round+parse_square+parse_then+parse_u.Lts-parse_square as lts
-use Rattle.parser.proofs.+parse_atom+parse_c+parse_chop+parse_d+parse_exists+parse_f+parse_not+parse_round+parse_square+parse_then+parse_u.Proof.Frame.{
-  calls-parse-square,
-  parse-square-at,
+use Rattle.parser.proofs.prop.Kinds.{ps, r}
+use Rattle.parser.proofs.prop.Reads as reads
+use Rattle.parser.proofs.+atom+chop+exists+not+parse_c+parse_d+parse_f+parse_u+prop+round+then.Lts-prop as lts
+use Rattle.parser.proofs.+atom+chop+exists+not+parse_c+parse_d+parse_f+parse_u+prop+round+then.Proof.Frame.{
+  calls-prop,
+  prop-at,
 }
 
 module _ (t : ℕ) where
   -- A place or a need of the member, where its measure is t.
   abbrev Here : (lts.Claims → In 2 ps → Out 2 ps r → Type 0) → Type 0
-  Here place = place (calls-parse-square t) (parse-square-at t) reads.Post
+  Here place = place (calls-prop t) (prop-at t) reads.Post
 
   -- The places: the start; the bracket that opens; the call of `parse_f`, and its tree.
   abbrev start : Here lts.Else1 → Here lts.Start
@@ -102,8 +102,8 @@ module _ (t : ℕ) where
       (sym (c .before .number-at2 .ensures) ∙ c .if2 .left)
 
   -- So the member meets its contract, if the calls with lower measures do.
-  pub met : {M : Type 1} → lts.Closed (calls-parse-square t) (parse-square-at t) reads.Post M
+  pub met : {M : Type 1} → lts.Closed (calls-prop t) (prop-at t) reads.Post M
   met =
-      lts.spec (calls-parse-square t) (parse-square-at t) reads.Post
+      lts.spec (calls-prop t) (prop-at t) reads.Post
       (λ c κs. search needs) unopened add-parse-f contents-requires (λ c. search needs) (λ c. search needs)
       empty-length empty (λ c κs. search needs) unclosed-length unclosed add-end closed-length closed

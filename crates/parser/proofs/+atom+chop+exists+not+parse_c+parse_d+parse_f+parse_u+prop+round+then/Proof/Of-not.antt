@@ -1,4 +1,4 @@
--- The answers of the member `parse_not`: `!` and a U. Assumes nothing.
+-- The answers of the member `not`: `!` and a U. Assumes nothing.
 use Prim.Native.Nat.{ℕ, _+_}
 use mathlib.Core.Path.{_≡_, _∙_}
 use borrow.Author.Needs.{needs}
@@ -10,18 +10,18 @@ use Rattle.grammar.specs.Parse.Goal.{goU}
 use Rattle.grammar.proofs.Position.{span}
 use Rattle.parser.proofs.Steps
 use Rattle.parser.proofs.Stored.{Gave, Space, took, lost, few-nodes, room, past-first, fits-tree}
-use Rattle.parser.proofs.parse_not.Kinds.{ps, r}
-use Rattle.parser.proofs.parse_not.Reads as reads
-use Rattle.parser.proofs.+parse_atom+parse_c+parse_chop+parse_d+parse_exists+parse_f+parse_not+parse_round+parse_square+parse_then+parse_u.Lts-parse_not as lts
-use Rattle.parser.proofs.+parse_atom+parse_c+parse_chop+parse_d+parse_exists+parse_f+parse_not+parse_round+parse_square+parse_then+parse_u.Proof.Frame.{
-  calls-parse-not,
-  parse-not-at,
+use Rattle.parser.proofs.not.Kinds.{ps, r}
+use Rattle.parser.proofs.not.Reads as reads
+use Rattle.parser.proofs.+atom+chop+exists+not+parse_c+parse_d+parse_f+parse_u+prop+round+then.Lts-not as lts
+use Rattle.parser.proofs.+atom+chop+exists+not+parse_c+parse_d+parse_f+parse_u+prop+round+then.Proof.Frame.{
+  calls-not,
+  not-at,
 }
 
 module _ (t : ℕ) where
   -- A place or a need of the member, where its measure is t.
   abbrev Here : (lts.Claims → In 2 ps → Out 2 ps r → Type 0) → Type 0
-  Here place = place (calls-parse-not t) (parse-not-at t) reads.Post
+  Here place = place (calls-not t) (not-at t) reads.Post
 
   -- The places: the start; the call of `parse_u`, and its tree.
   abbrev start : Here lts.After-slice-known → Here lts.Start
@@ -89,7 +89,7 @@ module _ (t : ℕ) where
       (c .before .before .before .push .ensures) (c .not-facts .ensures)
 
   -- So the member meets its contract, if the calls with lower measures do.
-  pub met : {M : Type 1} → lts.Closed (calls-parse-not t) (parse-not-at t) reads.Post M
+  pub met : {M : Type 1} → lts.Closed (calls-not t) (not-at t) reads.Post M
   met =
-      lts.spec (calls-parse-not t) (parse-not-at t) reads.Post
+      lts.spec (calls-not t) (not-at t) reads.Post
       add-u u-requires (λ c. search needs) (λ c. search needs) no-u-length no-u fits facts-requires u-length u

@@ -1,4 +1,4 @@
--- The answers of the member `parse_round`: an F in round brackets. Assumes nothing.
+-- The answers of the member `round`: an F in round brackets. Assumes nothing.
 use mathlib.Core.Path.{_≡_, sym, _∙_}
 use Prim.Native.Nat.{ℕ, _+_}
 use borrow.Author.Needs.{needs}
@@ -11,18 +11,18 @@ use Rattle.grammar.proofs.Position.{span}
 use Rattle.parser.proofs.Steps
 use Rattle.parser.proofs.Steps.{round}
 use Rattle.parser.proofs.Stored.{Gave, Space, took, lost, room, past-first}
-use Rattle.parser.proofs.parse_round.Kinds.{ps, r}
-use Rattle.parser.proofs.parse_round.Reads as reads
-use Rattle.parser.proofs.+parse_atom+parse_c+parse_chop+parse_d+parse_exists+parse_f+parse_not+parse_round+parse_square+parse_then+parse_u.Lts-parse_round as lts
-use Rattle.parser.proofs.+parse_atom+parse_c+parse_chop+parse_d+parse_exists+parse_f+parse_not+parse_round+parse_square+parse_then+parse_u.Proof.Frame.{
-  calls-parse-round,
-  parse-round-at,
+use Rattle.parser.proofs.round.Kinds.{ps, r}
+use Rattle.parser.proofs.round.Reads as reads
+use Rattle.parser.proofs.+atom+chop+exists+not+parse_c+parse_d+parse_f+parse_u+prop+round+then.Lts-round as lts
+use Rattle.parser.proofs.+atom+chop+exists+not+parse_c+parse_d+parse_f+parse_u+prop+round+then.Proof.Frame.{
+  calls-round,
+  round-at,
 }
 
 module _ (t : ℕ) where
   -- A place or a need of the member, where its measure is t.
   abbrev Here : (lts.Claims → In 2 ps → Out 2 ps r → Type 0) → Type 0
-  Here place = place (calls-parse-round t) (parse-round-at t) reads.Post
+  Here place = place (calls-round t) (round-at t) reads.Post
 
   -- The places: the start; the call of `parse_f`, and its tree.
   abbrev start : Here lts.After-slice-known → Here lts.Start
@@ -98,8 +98,8 @@ module _ (t : ℕ) where
       (sym (c .before .number-at .ensures) ∙ c .if1 .left)
 
   -- So the member meets its contract, if the calls with lower measures do.
-  pub met : {M : Type 1} → lts.Closed (calls-parse-round t) (parse-round-at t) reads.Post M
+  pub met : {M : Type 1} → lts.Closed (calls-round t) (round-at t) reads.Post M
   met =
-      lts.spec (calls-parse-round t) (parse-round-at t) reads.Post
+      lts.spec (calls-round t) (round-at t) reads.Post
       add-f f-requires (λ c. search needs) (λ c. search needs) no-f-length no-f (λ c κs. search needs)
       unclosed-length unclosed add-end closed-length closed

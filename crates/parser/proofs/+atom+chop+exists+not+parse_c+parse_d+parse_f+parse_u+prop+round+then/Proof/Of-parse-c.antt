@@ -1,4 +1,4 @@
--- The answers of the member `parse_d`: C joined by `|`. What they share with `parse_c` is in Chains. Assumes nothing.
+-- The answers of the member `parse_c`: U joined by `&`. What they share with `parse_d` is in Chains. Assumes nothing.
 use mathlib.Core.List.{List}
 use mathlib.Core.Path.{_≡_, sym, _∙_}
 use Prim.Native.Nat.{ℕ, _+_, _-_}
@@ -8,24 +8,24 @@ use native.Mathlib.Omega.{arith}
 use lib.ListN.{length}
 use Rattle.words.specs.Word
 use Rattle.grammar.specs.Parse.{word}
-use Rattle.grammar.specs.Parse.Goal.{goD, goDs, goC}
+use Rattle.grammar.specs.Parse.Goal.{goC, goCs, goU}
 use Rattle.grammar.proofs.Position.{span}
 use Rattle.parser.proofs.Stored.{Gave, PartsRead, Space, took, lost, few-nodes, same-size, room, fits-tree}
 use Rattle.parser.proofs.Chains
-use Rattle.parser.proofs.Chains.{chain-D}
-use Rattle.parser.proofs.parse_d.Kinds.{ps, r}
-use Rattle.parser.proofs.parse_d.Reads as reads
-use Rattle.parser.proofs.+parse_atom+parse_c+parse_chop+parse_d+parse_exists+parse_f+parse_not+parse_round+parse_square+parse_then+parse_u.Lts-parse_d as lts
-use Rattle.parser.proofs.+parse_atom+parse_c+parse_chop+parse_d+parse_exists+parse_f+parse_not+parse_round+parse_square+parse_then+parse_u.Proof.Frame.{
-  calls-parse-d,
-  parse-d-at,
+use Rattle.parser.proofs.Chains.{chain-C}
+use Rattle.parser.proofs.parse_c.Kinds.{ps, r}
+use Rattle.parser.proofs.parse_c.Reads as reads
+use Rattle.parser.proofs.+atom+chop+exists+not+parse_c+parse_d+parse_f+parse_u+prop+round+then.Lts-parse_c as lts
+use Rattle.parser.proofs.+atom+chop+exists+not+parse_c+parse_d+parse_f+parse_u+prop+round+then.Proof.Frame.{
+  calls-parse-c,
+  parse-c-at,
 }
 
 -- Whatever arena it was that the first part went into, the parts so far stand there.
 abbrev Inv-loop : lts.InvT-loop
 Inv-loop ws inside at arena₀ top first low j₀ t₀ facts₀ arena j t facts =
-    (o : List ℕ) → PartsRead (goD inside) (goDs inside) ws at o top j₀ t₀ facts₀ arena₀ →
-    PartsRead (goD inside) (goDs inside) ws at o top j t facts arena
+    (o : List ℕ) → PartsRead (goC inside) (goCs inside) ws at o top j₀ t₀ facts₀ arena₀ →
+    PartsRead (goC inside) (goCs inside) ws at o top j t facts arena
 
 -- The words left.
 abbrev μ-loop : lts.MeasureT-loop
@@ -34,13 +34,13 @@ abbrev μ-loop : lts.MeasureT-loop
 module _ (t : ℕ) where
   -- A place or a need of the member, where its measure is t.
   abbrev Here : (lts.Claims → In 2 ps → Out 2 ps r → lts.InvT-loop → lts.MeasureT-loop → Type 0) → Type 0
-  Here place = place (calls-parse-d t) (parse-d-at t) reads.Post Inv-loop μ-loop
+  Here place = place (calls-parse-c t) (parse-c-at t) reads.Post Inv-loop μ-loop
 
-  -- The places: the start; the first call of `parse_c`; the loop's head; the word that joins; the second call.
-  abbrev start : Here lts.After-parse-c → Here lts.Start
+  -- The places: the start; the first call of `parse_u`; the loop's head; the word that joins; the second call.
+  abbrev start : Here lts.After-parse-u → Here lts.Start
   start c = c .before .before .before .before
 
-  abbrev first-call : Here lts.After-known-told → Here lts.After-parse-c
+  abbrev first-call : Here lts.After-known-told → Here lts.After-parse-u
   first-call c = c .before .before .before .before .before
 
   abbrev begun : Here lts.At-loop → Here lts.Start
@@ -49,34 +49,34 @@ module _ (t : ℕ) where
   abbrev head : Here lts.Then1 → Here lts.At-loop
   head c = c .before .before
 
-  abbrev joining : Here lts.After-parse-c2 → Here lts.Then1
+  abbrev joining : Here lts.After-parse-u2 → Here lts.Then1
   joining c = c .before .before
 
-  abbrev more-call : Here lts.After-known-told2 → Here lts.After-parse-c2
+  abbrev more-call : Here lts.After-known-told2 → Here lts.After-parse-u2
   more-call c = c .before .before .before .before .before
 
   -- The first part, if there is one,
-  first-requires : Here lts.Need-parse-c-requires
+  first-requires : Here lts.Need-parse-u-requires
   first-requires c κs =
       let pre = c .before .before .before .pre in
       (omega (arith, pre .0), pre .1)
 
   none-length : Here lts.Need-same-length
-  none-length c = c .before .before .before .before .parse-c .kept .1 .1 .1 .0
+  none-length c = c .before .before .before .before .parse-u .kept .1 .1 .1 .0
 
   none : Here lts.Need-returns
   none c =
       let at-call = c .before .before .before .before in
-      Chains.none (chain-D (start at-call .args .inside)) (lost (at-call .parse-c .ensures) (c .enum-told .given .1))
+      Chains.none (chain-C (start at-call .args .inside)) (lost (at-call .parse-u .ensures) (c .enum-told .given .1))
 
   first : (c : Here lts.After-known-told) →
       let args = start (first-call c) .args in
       let part = c .before .first .given .0 in
-      PartsRead (goD (args .inside)) (goDs (args .inside)) (args .ws .now) (args .at) (args .arena .now) (args .top)
-      (part .0) (part .1 .0) (part .1 .1 .0) (first-call c .parse-c .last .1 .1 .1 .0)
+      PartsRead (goC (args .inside)) (goCs (args .inside)) (args .ws .now) (args .at) (args .arena .now) (args .top)
+      (part .0) (part .1 .0) (part .1 .1 .0) (first-call c .parse-u .last .1 .1 .1 .0)
   first c =
-      Chains.first (chain-D (start (first-call c) .args .inside))
-      (took (first-call c .parse-c .ensures) (λ a m h. span h) (c .before .first .given .1))
+      Chains.first (chain-C (start (first-call c) .args .inside))
+      (took (first-call c .parse-u .ensures) (λ a m h. span h) (c .before .first .given .1))
 
   loop-holds : Here lts.Need-loop-holds
   loop-holds c = λ o h. h
@@ -85,25 +85,25 @@ module _ (t : ℕ) where
   parts : (c : Here lts.At-loop) →
       let args = begun c .args in
       let loop = c .loop in
-      PartsRead (goD (args .inside)) (goDs (args .inside)) (args .ws .now) (args .at) (args .arena .now) (args .top)
+      PartsRead (goC (args .inside)) (goCs (args .inside)) (args .ws .now) (args .at) (args .arena .now) (args .top)
       (loop .j) (loop .t) (loop .facts) (loop .arena)
   parts c = c .loop .inv (begun c .args .arena .now) (first (c .before))
 
   -- the word that joins them to one more, and the room that it leaves.
   join-word : (c : Here lts.Then1) →
-      word (begun (head c) .args .ws .now) (head c .loop .j) ≡ Word.OR
+      word (begun (head c) .args .ws .now) (head c .loop .j) ≡ Word.AND
   join-word c = sym (c .before .number-at .ensures) ∙ c .if1 .taken
 
   join-space : (c : Here lts.Then1) →
       let loop = head c .loop in
       Space 4 (begun (head c) .args .ws .now) (loop .j + 1) (loop .arena) (loop .t)
   join-space c =
-      Chains.joined (chain-D (begun (head c) .args .inside)) (begun (head c) .pre .1) (parts (head c)) (join-word c)
+      Chains.joined (chain-C (begun (head c) .args .inside)) (begun (head c) .pre .1) (parts (head c)) (join-word c)
 
-  add-more : Here lts.Need-add-parse-c
+  add-more : Here lts.Need-add-parse-u
   add-more c = let s = join-space c in omega arith
 
-  more-requires : Here lts.Need-parse-c-requires-2
+  more-requires : Here lts.Need-parse-u-requires-2
   more-requires c κs =
       let s = join-space (c .before) in
       let p = parts (head (c .before)) .part .spans in
@@ -112,22 +112,22 @@ module _ (t : ℕ) where
   missing-length : Here lts.Need-same-length-2
   missing-length c =
       let at-call = c .before .before .before .before in
-      at-call .parse-c2 .kept .1 .1 .1 .0 ∙ same-size (parts (head (joining at-call)) .part)
+      at-call .parse-u2 .kept .1 .1 .1 .0 ∙ same-size (parts (head (joining at-call)) .part)
 
   missing : Here lts.Need-returns-2
   missing c =
       let at-call = c .before .before .before .before in
       let here = joining at-call in
-      Chains.missing (chain-D (begun (head here) .args .inside)) (parts (head here)) (join-word here)
-      (lost (at-call .parse-c2 .ensures) (c .enum-told2 .given .1))
+      Chains.missing (chain-C (begun (head here) .args .inside)) (parts (head here)) (join-word here)
+      (lost (at-call .parse-u2 .ensures) (c .enum-told2 .given .1))
 
   -- One part more.
   more : (c : Here lts.After-known-told2) →
       let here = head (joining (more-call c)) in
       let args = begun here .args in
-      Gave (goC (args .inside)) (args .ws .now) (here .loop .j + 1) (here .loop .arena) (here .loop .t)
-      (c .before .m .given .0) (more-call c .parse-c2 .last .1 .1 .1 .0)
-  more c = took (more-call c .parse-c2 .ensures) (λ a m h. span h) (c .before .m .given .1)
+      Gave (goU (args .inside)) (args .ws .now) (here .loop .j + 1) (here .loop .arena) (here .loop .t)
+      (c .before .m .given .0) (more-call c .parse-u2 .last .1 .1 .1 .0)
+  more c = took (more-call c .parse-u2 .ensures) (λ a m h. span h) (c .before .m .given .1)
 
   more-fits : Here lts.Need-push-requires
   more-fits c κs =
@@ -149,7 +149,7 @@ module _ (t : ℕ) where
       let told = c .before .before .before .before .before in
       let here = joining (more-call told) in
       λ o h.
-      Chains.more (chain-D (begun (head here) .args .inside)) (head here .loop .inv o h) (join-word here) (more told)
+      Chains.more (chain-C (begun (head here) .args .inside)) (head here .loop .inv o h) (join-word here) (more told)
       (c .before .before .before .push .ensures) (c .join-facts .ensures)
 
   -- No part more.
@@ -159,13 +159,13 @@ module _ (t : ℕ) where
   done : Here lts.Need-returns-3
   done c =
       let here = c .before .before in
-      Chains.done (chain-D (begun here .args .inside)) (parts here)
+      Chains.done (chain-C (begun here .args .inside)) (parts here)
       (λ e. c .if1 .left (c .before .number-at .ensures ∙ e))
 
   -- So the member meets its contract, if the calls with lower measures do.
-  pub met : {M : Type 1} → lts.Closed (calls-parse-d t) (parse-d-at t) reads.Post M
+  pub met : {M : Type 1} → lts.Closed (calls-parse-c t) (parse-c-at t) reads.Post M
   met =
-      lts.spec (calls-parse-d t) (parse-d-at t) reads.Post Inv-loop μ-loop
+      lts.spec (calls-parse-c t) (parse-c-at t) reads.Post Inv-loop μ-loop
       first-requires (λ c. search needs) (λ c. search needs) none-length none loop-holds
       (λ c κs. search needs) add-more more-requires (λ c. search needs) (λ c. search needs) missing-length
       missing more-fits join-facts-requires loop-less loop-again done-length done

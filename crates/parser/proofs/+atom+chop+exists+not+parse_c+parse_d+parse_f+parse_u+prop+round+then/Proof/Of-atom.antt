@@ -1,4 +1,4 @@
--- The answers of the member `parse_atom`: a test, `len`, or a count. Assumes nothing.
+-- The answers of the member `atom`: a test, `len`, or a count. Assumes nothing.
 use mathlib.Core.Bool.{true}
 use mathlib.Core.Path.{_≡_, sym, ap, _∙_}
 use Prim.Native.Nat.{ℕ, _+_, _≤_}
@@ -15,30 +15,30 @@ use Rattle.facts.specs.Facts.{atomFacts}
 use Rattle.parser.proofs.Steps
 use Rattle.parser.proofs.Stored.{Gave, Space, took, lost, fails}
 use Rattle.parser.proofs.Stored.{room, past-first, past-tree, fits-push, fits-tree}
-use Rattle.parser.proofs.parse_atom.Kinds.{ps, r}
-use Rattle.parser.proofs.parse_atom.Reads as reads
-use Rattle.parser.proofs.+parse_atom+parse_c+parse_chop+parse_d+parse_exists+parse_f+parse_not+parse_round+parse_square+parse_then+parse_u.Lts-parse_atom as lts
-use Rattle.parser.proofs.+parse_atom+parse_c+parse_chop+parse_d+parse_exists+parse_f+parse_not+parse_round+parse_square+parse_then+parse_u.Proof.Frame.{
-  calls-parse-atom,
-  parse-atom-at,
+use Rattle.parser.proofs.atom.Kinds.{ps, r}
+use Rattle.parser.proofs.atom.Reads as reads
+use Rattle.parser.proofs.+atom+chop+exists+not+parse_c+parse_d+parse_f+parse_u+prop+round+then.Lts-atom as lts
+use Rattle.parser.proofs.+atom+chop+exists+not+parse_c+parse_d+parse_f+parse_u+prop+round+then.Proof.Frame.{
+  calls-atom,
+  atom-at,
 }
 
 module _ (t : ℕ) where
   -- A place or a need of the member, where its measure is t.
   abbrev Here : (lts.Claims → In 2 ps → Out 2 ps r → Type 0) → Type 0
-  Here place = place (calls-parse-atom t) (parse-atom-at t) reads.Post
+  Here place = place (calls-atom t) (atom-at t) reads.Post
 
-  -- The places: the start; the word, where it is a test; the call of `parse_square`, and its tree;
+  -- The places: the start; the word, where it is a test; the call of `prop`, and its tree;
   abbrev start : Here lts.After-number-at → Here lts.Start
   start c = c .before .before .before
 
   abbrev test-looked : Here lts.Then1 → Here lts.After-number-at
   test-looked c = c .before .before
 
-  abbrev at-test : Here lts.After-parse-square → Here lts.Then1
+  abbrev at-test : Here lts.After-prop → Here lts.Then1
   at-test c = c .before .before
 
-  abbrev test-call : Here lts.After-known-told → Here lts.After-parse-square
+  abbrev test-call : Here lts.After-known-told → Here lts.After-prop
   test-call c = c .before .before .before .before .before
 
   -- that tree, from where the test's record is put;
@@ -49,14 +49,14 @@ module _ (t : ℕ) where
   abbrev len-looked : Here lts.Then2 → Here lts.After-number-at
   len-looked c = c .before .before .before
 
-  -- the word, where it is a count; the call of `parse_square`, and its tree.
+  -- the word, where it is a count; the call of `prop`, and its tree.
   abbrev count-looked : Here lts.Then3 → Here lts.After-number-at
   count-looked c = c .before .before .before .before .before
 
-  abbrev at-count : Here lts.After-parse-square2 → Here lts.Then3
+  abbrev at-count : Here lts.After-prop2 → Here lts.Then3
   at-count c = c .before .before
 
-  abbrev count-call : Here lts.After-known-told2 → Here lts.After-parse-square2
+  abbrev count-call : Here lts.After-known-told2 → Here lts.After-prop2
   count-call c = c .before .before .before .before .before
 
   -- The first word, and the room after it.
@@ -80,30 +80,30 @@ module _ (t : ℕ) where
   test-space : (c : Here lts.Then1) → First-space (test-looked c)
   test-space c = looked-space (test-looked c) (omega (arith, test-pos _ (is-test c)))
 
-  add-test : Here lts.Need-add-parse-square
+  add-test : Here lts.Need-add-prop
   add-test c = let s = test-space c in omega arith
 
-  test-requires : Here lts.Need-parse-square-requires
+  test-requires : Here lts.Need-prop-requires
   test-requires c κs =
       let here = c .before in
       let s = test-space here in
       (omega (arith, start (test-looked here) .pre .0), room s)
 
   test-no-p-length : Here lts.Need-same-length
-  test-no-p-length c = c .before .before .before .before .parse-square .kept .1 .1 .0
+  test-no-p-length c = c .before .before .before .before .prop .kept .1 .1 .0
 
   test-no-p : Here lts.Need-returns
   test-no-p c =
       let call = c .before .before .before .before in
       fails _ (Steps.test-is _ _ (test-word (at-test call)))
-      (lost (call .parse-square .ensures) (c .enum-told .given .1))
+      (lost (call .prop .ensures) (c .enum-told .given .1))
 
   -- and its P in square brackets.
   test-tree : (c : Here lts.After-known-told) →
       let args = start (test-looked (at-test (test-call c))) .args in
       Gave goB (args .ws .now) (args .at + 1) (args .arena .now) (args .top)
-      (c .before .j .given .0) (test-call c .parse-square .last .1 .1 .0)
-  test-tree c = took (test-call c .parse-square .ensures) (λ a m h. span h) (c .before .j .given .1)
+      (c .before .j .given .0) (test-call c .prop .last .1 .1 .0)
+  test-tree c = took (test-call c .prop .ensures) (λ a m h. span h) (c .before .j .given .1)
 
   sub-test : Here lts.Need-sub-push
   sub-test c = test-pos _ (is-test (at-test (test-call (c .before))))
@@ -122,7 +122,7 @@ module _ (t : ℕ) where
   test-p-length : Here lts.Need-same-length-2
   test-p-length c =
       let after-push = c .before .before .before .before in
-      after-push .push .kept .0 ∙ test-call (pushed-tree after-push) .parse-square .kept .1 .1 .0
+      after-push .push .kept .0 ∙ test-call (pushed-tree after-push) .prop .kept .1 .1 .0
 
   test-p : Here lts.Need-returns-2
   test-p c =
@@ -163,30 +163,30 @@ module _ (t : ℕ) where
   count-space : (c : Here lts.Then3) → First-space (count-looked c)
   count-space c = looked-space (count-looked c) (omega (arith, count-pos _ (is-count c)))
 
-  add-count : Here lts.Need-add-parse-square-2
+  add-count : Here lts.Need-add-prop-2
   add-count c = let s = count-space c in omega arith
 
-  count-requires : Here lts.Need-parse-square-requires-2
+  count-requires : Here lts.Need-prop-requires-2
   count-requires c κs =
       let here = c .before in
       let s = count-space here in
       (omega (arith, start (count-looked here) .pre .0), room s)
 
   count-no-p-length : Here lts.Need-same-length-4
-  count-no-p-length c = c .before .before .before .before .parse-square2 .kept .1 .1 .0
+  count-no-p-length c = c .before .before .before .before .prop2 .kept .1 .1 .0
 
   count-no-p : Here lts.Need-returns-4
   count-no-p c =
       let call = c .before .before .before .before in
       fails _ (Steps.count-is _ _ (count-word (at-count call)))
-      (lost (call .parse-square2 .ensures) (c .enum-told2 .given .1))
+      (lost (call .prop2 .ensures) (c .enum-told2 .given .1))
 
   -- its P in square brackets, and op n.
   count-tree : (c : Here lts.After-known-told2) →
       let args = start (count-looked (at-count (count-call c))) .args in
       Gave goB (args .ws .now) (args .at + 1) (args .arena .now) (args .top)
-      (c .before .j2 .given .0) (count-call c .parse-square2 .last .1 .1 .0)
-  count-tree c = took (count-call c .parse-square2 .ensures) (λ a m h. span h) (c .before .j2 .given .1)
+      (c .before .j2 .given .0) (count-call c .prop2 .last .1 .1 .0)
+  count-tree c = took (count-call c .prop2 .ensures) (λ a m h. span h) (c .before .j2 .given .1)
 
   sub-count : Here lts.Need-sub-comparison
   sub-count c = count-pos _ (is-count (at-count (count-call (c .before))))
@@ -206,7 +206,7 @@ module _ (t : ℕ) where
   count-p-length : Here lts.Need-same-length-5
   count-p-length c =
       let tree = c .before .before .before .before .before in
-      c .before .before .comparison2 .kept .1 .1 .0 ∙ count-call tree .parse-square2 .kept .1 .1 .0
+      c .before .before .comparison2 .kept .1 .1 .0 ∙ count-call tree .prop2 .kept .1 .1 .0
 
   count-p : Here lts.Need-returns-5
   count-p c =
@@ -227,9 +227,9 @@ module _ (t : ℕ) where
       (ap isCount w ∙ sym (c .before .is-count .ensures) ∙ c .if3 .left)
 
   -- So the member meets its contract, if the calls with lower measures do.
-  pub met : {M : Type 1} → lts.Closed (calls-parse-atom t) (parse-atom-at t) reads.Post M
+  pub met : {M : Type 1} → lts.Closed (calls-atom t) (atom-at t) reads.Post M
   met =
-      lts.spec (calls-parse-atom t) (parse-atom-at t) reads.Post
+      lts.spec (calls-atom t) (atom-at t) reads.Post
       (λ c κs. search needs) (λ c κs. search needs) add-test test-requires (λ c. search needs)
       (λ c. search needs) test-no-p-length test-no-p sub-test add-test-kind test-fits is-lead-test-requires
       (λ c κs. search needs) test-p-length test-p add-len len-requires a-len-length a-len

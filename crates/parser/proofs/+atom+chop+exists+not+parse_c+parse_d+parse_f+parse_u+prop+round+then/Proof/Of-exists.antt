@@ -1,4 +1,4 @@
--- The answers of the member `parse_exists`: `exists`, a signal and a U. Assumes nothing.
+-- The answers of the member `exists`: `exists`, a signal and a U. Assumes nothing.
 use mathlib.Core.Bool.{true, false}
 use mathlib.Core.Path.{_≡_, refl, sym, ap, _∙_}
 use Prim.Native.Nat.{ℕ, _+_}
@@ -13,18 +13,18 @@ use Rattle.grammar.specs.Parse.Goal.{goU}
 use Rattle.grammar.proofs.Position.{span, inside, signal-pos}
 use Rattle.parser.proofs.Steps
 use Rattle.parser.proofs.Stored.{Gave, Space, took, lost, room, past-first, skip, fits-tree}
-use Rattle.parser.proofs.parse_exists.Kinds.{ps, r}
-use Rattle.parser.proofs.parse_exists.Reads as reads
-use Rattle.parser.proofs.+parse_atom+parse_c+parse_chop+parse_d+parse_exists+parse_f+parse_not+parse_round+parse_square+parse_then+parse_u.Lts-parse_exists as lts
-use Rattle.parser.proofs.+parse_atom+parse_c+parse_chop+parse_d+parse_exists+parse_f+parse_not+parse_round+parse_square+parse_then+parse_u.Proof.Frame.{
-  calls-parse-exists,
-  parse-exists-at,
+use Rattle.parser.proofs.exists.Kinds.{ps, r}
+use Rattle.parser.proofs.exists.Reads as reads
+use Rattle.parser.proofs.+atom+chop+exists+not+parse_c+parse_d+parse_f+parse_u+prop+round+then.Lts-exists as lts
+use Rattle.parser.proofs.+atom+chop+exists+not+parse_c+parse_d+parse_f+parse_u+prop+round+then.Proof.Frame.{
+  calls-exists,
+  exists-at,
 }
 
 module _ (t : ℕ) where
   -- A place or a need of the member, where its measure is t.
   abbrev Here : (lts.Claims → In 2 ps → Out 2 ps r → Type 0) → Type 0
-  Here place = place (calls-parse-exists t) (parse-exists-at t) reads.Post
+  Here place = place (calls-exists t) (exists-at t) reads.Post
 
   -- The places: the start; the signal, the call of `parse_u`, and its tree.
   abbrev start : Here lts.After-slice-known → Here lts.Start
@@ -131,8 +131,8 @@ module _ (t : ℕ) where
       (c .exists-facts .ensures)
 
   -- So the member meets its contract, if the calls with lower measures do.
-  pub met : {M : Type 1} → lts.Closed (calls-parse-exists t) (parse-exists-at t) reads.Post M
+  pub met : {M : Type 1} → lts.Closed (calls-exists t) (exists-at t) reads.Post M
   met =
-      lts.spec (calls-parse-exists t) (parse-exists-at t) reads.Post
+      lts.spec (calls-exists t) (exists-at t) reads.Post
       add-exists (λ c κs. search needs) (λ c κs. search needs) no-signal add-signal u-requires (λ c. search needs)
       (λ c. search needs) no-u-length no-u sub-signal fits (λ c κs. search needs) u-length u

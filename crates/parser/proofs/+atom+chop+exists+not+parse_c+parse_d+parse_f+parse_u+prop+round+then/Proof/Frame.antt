@@ -1,0 +1,314 @@
+-- What each member of the cycle is measured by, is given, and asks of the others. The measure is the depth that
+-- reading needs (grammar, specs/Parse.antt). Assumes nothing.
+use Prim.Native.Nat.{ℕ, _<_}
+use borrow.Fn.Kinds.{In}
+use borrow.Fn.PlainCycle.{Measures, is, falls, and}
+use Rattle.grammar.specs.Parse.{depth}
+use Rattle.grammar.specs.Parse.Goal.{goF, goD, goC, goU, goA, goB}
+use Rattle.parser.proofs.atom.Reads as atom
+use Rattle.parser.proofs.atom.Kinds.{ps as ps-atom}
+use Rattle.parser.proofs.+atom+chop+exists+not+parse_c+parse_d+parse_f+parse_u+prop+round+then.Lts-atom.{
+  Claims as Claims-atom,
+}
+use Rattle.parser.proofs.parse_c.Reads as parse-c
+use Rattle.parser.proofs.parse_c.Kinds.{ps as ps-c}
+use Rattle.parser.proofs.+atom+chop+exists+not+parse_c+parse_d+parse_f+parse_u+prop+round+then.Lts-parse_c.{
+  Claims as Claims-c,
+}
+use Rattle.parser.proofs.chop.Reads as chop
+use Rattle.parser.proofs.chop.Kinds.{ps as ps-chop}
+use Rattle.parser.proofs.+atom+chop+exists+not+parse_c+parse_d+parse_f+parse_u+prop+round+then.Lts-chop.{
+  Claims as Claims-chop,
+}
+use Rattle.parser.proofs.parse_d.Reads as parse-d
+use Rattle.parser.proofs.parse_d.Kinds.{ps as ps-d}
+use Rattle.parser.proofs.+atom+chop+exists+not+parse_c+parse_d+parse_f+parse_u+prop+round+then.Lts-parse_d.{
+  Claims as Claims-d,
+}
+use Rattle.parser.proofs.exists.Reads as exists
+use Rattle.parser.proofs.exists.Kinds.{ps as ps-exists}
+use Rattle.parser.proofs.+atom+chop+exists+not+parse_c+parse_d+parse_f+parse_u+prop+round+then.Lts-exists.{
+  Claims as Claims-exists,
+}
+use Rattle.parser.proofs.parse_f.Reads as parse-f
+use Rattle.parser.proofs.parse_f.Kinds.{ps as ps-f}
+use Rattle.parser.proofs.+atom+chop+exists+not+parse_c+parse_d+parse_f+parse_u+prop+round+then.Lts-parse_f.{
+  Claims as Claims-f,
+}
+use Rattle.parser.proofs.not.Reads as not
+use Rattle.parser.proofs.not.Kinds.{ps as ps-not}
+use Rattle.parser.proofs.+atom+chop+exists+not+parse_c+parse_d+parse_f+parse_u+prop+round+then.Lts-not.{
+  Claims as Claims-not,
+}
+use Rattle.parser.proofs.round.Reads as round
+use Rattle.parser.proofs.round.Kinds.{ps as ps-round}
+use Rattle.parser.proofs.+atom+chop+exists+not+parse_c+parse_d+parse_f+parse_u+prop+round+then.Lts-round.{
+  Claims as Claims-round,
+}
+use Rattle.parser.proofs.prop.Reads as prop
+use Rattle.parser.proofs.prop.Kinds.{ps as ps-square}
+use Rattle.parser.proofs.+atom+chop+exists+not+parse_c+parse_d+parse_f+parse_u+prop+round+then.Lts-prop.{
+  Claims as Claims-square,
+}
+use Rattle.parser.proofs.then.Reads as then
+use Rattle.parser.proofs.then.Kinds.{ps as ps-then}
+use Rattle.parser.proofs.+atom+chop+exists+not+parse_c+parse_d+parse_f+parse_u+prop+round+then.Lts-then.{
+  Claims as Claims-then,
+}
+use Rattle.parser.proofs.parse_u.Reads as parse-u
+use Rattle.parser.proofs.parse_u.Kinds.{ps as ps-u}
+use Rattle.parser.proofs.+atom+chop+exists+not+parse_c+parse_d+parse_f+parse_u+prop+round+then.Lts-parse_u.{
+  Claims as Claims-u,
+}
+use Rattle.facts.proofs.atom_facts.Reads as atom-facts
+use Rattle.facts.proofs.chop_facts.Reads as chop-facts
+use Rattle.parser.proofs.comparison.Reads as comparison
+use Rattle.facts.proofs.exists_facts.Reads as exists-facts
+use Rattle.words.proofs.is_count.Reads as is-count
+use Rattle.facts.proofs.is_lead_count.Reads as is-lead-count
+use Rattle.facts.proofs.is_lead_test.Reads as is-lead-test
+use Rattle.words.proofs.is_signal.Reads as is-signal
+use Rattle.words.proofs.is_test.Reads as is-test
+use Rattle.facts.proofs.join_facts.Reads as join-facts
+use Rattle.parser.proofs.leaf.Reads as leaf
+use Rattle.facts.proofs.not_facts.Reads as not-facts
+use Rattle.lists.proofs.number_at.Reads as number-at
+use Rattle.parser.proofs.push.Reads as push
+use Rattle.facts.proofs.then_facts.Reads as then-facts
+
+-- The measures. What begins with `!`, `exists`, a round bracket, `then` or `chop` is
+-- measured as an atom.
+abbrev pub μ-atom : Measures 2 ps-atom ℕ
+μ-atom κs a = depth (a .0 .now) goA (a .1 .0)
+
+abbrev pub μ-parse-c : Measures 2 ps-c ℕ
+μ-parse-c κs a = depth (a .0 .now) (goC (a .1 .0)) (a .1 .1 .0)
+
+abbrev pub μ-chop : Measures 2 ps-chop ℕ
+μ-chop κs a = depth (a .0 .now) goA (a .1 .0)
+
+abbrev pub μ-parse-d : Measures 2 ps-d ℕ
+μ-parse-d κs a = depth (a .0 .now) (goD (a .1 .0)) (a .1 .1 .0)
+
+abbrev pub μ-exists : Measures 2 ps-exists ℕ
+μ-exists κs a = depth (a .0 .now) goA (a .1 .0)
+
+abbrev pub μ-parse-f : Measures 2 ps-f ℕ
+μ-parse-f κs a = depth (a .0 .now) (goF (a .1 .0)) (a .1 .1 .0)
+
+abbrev pub μ-not : Measures 2 ps-not ℕ
+μ-not κs a = depth (a .0 .now) goA (a .1 .1 .0)
+
+abbrev pub μ-round : Measures 2 ps-round ℕ
+μ-round κs a = depth (a .0 .now) goA (a .1 .1 .0)
+
+abbrev pub μ-prop : Measures 2 ps-square ℕ
+μ-prop κs a = depth (a .0 .now) goB (a .1 .0)
+
+abbrev pub μ-then : Measures 2 ps-then ℕ
+μ-then κs a = depth (a .0 .now) goA (a .1 .0)
+
+abbrev pub μ-parse-u : Measures 2 ps-u ℕ
+μ-parse-u κs a = depth (a .0 .now) (goU (a .1 .0)) (a .1 .1 .0)
+
+-- What a member is given where its measure is t, and what it asks where a lower one is called.
+abbrev pub atom-at : ℕ → In 2 ps-atom
+atom-at t = and 2 ps-atom (is 2 ps-atom μ-atom t) atom.Pre
+
+abbrev atom-below : ℕ → In 2 ps-atom
+atom-below t = and 2 ps-atom (falls 2 ps-atom _<_ μ-atom t) atom.Pre
+
+abbrev pub parse-c-at : ℕ → In 2 ps-c
+parse-c-at t = and 2 ps-c (is 2 ps-c μ-parse-c t) parse-c.Pre
+
+abbrev parse-c-below : ℕ → In 2 ps-c
+parse-c-below t = and 2 ps-c (falls 2 ps-c _<_ μ-parse-c t) parse-c.Pre
+
+abbrev pub chop-at : ℕ → In 2 ps-chop
+chop-at t = and 2 ps-chop (is 2 ps-chop μ-chop t) chop.Pre
+
+abbrev chop-below : ℕ → In 2 ps-chop
+chop-below t = and 2 ps-chop (falls 2 ps-chop _<_ μ-chop t) chop.Pre
+
+abbrev pub parse-d-at : ℕ → In 2 ps-d
+parse-d-at t = and 2 ps-d (is 2 ps-d μ-parse-d t) parse-d.Pre
+
+abbrev parse-d-below : ℕ → In 2 ps-d
+parse-d-below t = and 2 ps-d (falls 2 ps-d _<_ μ-parse-d t) parse-d.Pre
+
+abbrev pub exists-at : ℕ → In 2 ps-exists
+exists-at t = and 2 ps-exists (is 2 ps-exists μ-exists t) exists.Pre
+
+abbrev exists-below : ℕ → In 2 ps-exists
+exists-below t = and 2 ps-exists (falls 2 ps-exists _<_ μ-exists t) exists.Pre
+
+abbrev pub parse-f-at : ℕ → In 2 ps-f
+parse-f-at t = and 2 ps-f (is 2 ps-f μ-parse-f t) parse-f.Pre
+
+abbrev parse-f-below : ℕ → In 2 ps-f
+parse-f-below t = and 2 ps-f (falls 2 ps-f _<_ μ-parse-f t) parse-f.Pre
+
+abbrev pub not-at : ℕ → In 2 ps-not
+not-at t = and 2 ps-not (is 2 ps-not μ-not t) not.Pre
+
+abbrev not-below : ℕ → In 2 ps-not
+not-below t = and 2 ps-not (falls 2 ps-not _<_ μ-not t) not.Pre
+
+abbrev pub round-at : ℕ → In 2 ps-round
+round-at t = and 2 ps-round (is 2 ps-round μ-round t) round.Pre
+
+abbrev round-below : ℕ → In 2 ps-round
+round-below t = and 2 ps-round (falls 2 ps-round _<_ μ-round t) round.Pre
+
+abbrev pub prop-at : ℕ → In 2 ps-square
+prop-at t = and 2 ps-square (is 2 ps-square μ-prop t) prop.Pre
+
+abbrev prop-below : ℕ → In 2 ps-square
+prop-below t = and 2 ps-square (falls 2 ps-square _<_ μ-prop t) prop.Pre
+
+abbrev pub then-at : ℕ → In 2 ps-then
+then-at t = and 2 ps-then (is 2 ps-then μ-then t) then.Pre
+
+abbrev then-below : ℕ → In 2 ps-then
+then-below t = and 2 ps-then (falls 2 ps-then _<_ μ-then t) then.Pre
+
+abbrev pub parse-u-at : ℕ → In 2 ps-u
+parse-u-at t = and 2 ps-u (is 2 ps-u μ-parse-u t) parse-u.Pre
+
+abbrev parse-u-below : ℕ → In 2 ps-u
+parse-u-below t = and 2 ps-u (falls 2 ps-u _<_ μ-parse-u t) parse-u.Pre
+
+-- What each member asks of the functions that it calls, and learns from them.
+abbrev pub calls-atom : ℕ → Claims-atom
+calls-atom t = (
+  number-at.Asked,
+  number-at.Learnt,
+  is-test.Asked,
+  is-test.Learnt,
+  prop-below t,
+  prop.Post,
+  push.Asked,
+  push.Learnt,
+  is-lead-test.Asked,
+  is-lead-test.Learnt,
+  atom-facts.Asked,
+  atom-facts.Learnt,
+  comparison.Asked,
+  comparison.Learnt,
+  is-count.Asked,
+  is-count.Learnt,
+  is-lead-count.Asked,
+  is-lead-count.Learnt,
+)
+
+abbrev pub calls-parse-c : ℕ → Claims-c
+calls-parse-c t = (
+  parse-u-below t,
+  parse-u.Post,
+  number-at.Asked,
+  number-at.Learnt,
+  push.Asked,
+  push.Learnt,
+  join-facts.Asked,
+  join-facts.Learnt,
+)
+
+abbrev pub calls-chop : ℕ → Claims-chop
+calls-chop t = (
+  parse-f-below t,
+  parse-f.Post,
+  push.Asked,
+  push.Learnt,
+  chop-facts.Asked,
+  chop-facts.Learnt,
+)
+
+abbrev pub calls-parse-d : ℕ → Claims-d
+calls-parse-d t = (
+  parse-c-below t,
+  parse-c.Post,
+  number-at.Asked,
+  number-at.Learnt,
+  push.Asked,
+  push.Learnt,
+  join-facts.Asked,
+  join-facts.Learnt,
+)
+
+abbrev pub calls-exists : ℕ → Claims-exists
+calls-exists t = (
+  number-at.Asked,
+  number-at.Learnt,
+  is-signal.Asked,
+  is-signal.Learnt,
+  parse-u-below t,
+  parse-u.Post,
+  push.Asked,
+  push.Learnt,
+  exists-facts.Asked,
+  exists-facts.Learnt,
+)
+
+abbrev pub calls-parse-f : ℕ → Claims-f
+calls-parse-f t = (
+  parse-d-below t,
+  parse-d.Post,
+  number-at.Asked,
+  number-at.Learnt,
+  then-below t,
+  then.Post,
+  chop-below t,
+  chop.Post,
+)
+
+abbrev pub calls-not : ℕ → Claims-not
+calls-not t = (
+  parse-u-below t,
+  parse-u.Post,
+  push.Asked,
+  push.Learnt,
+  not-facts.Asked,
+  not-facts.Learnt,
+)
+
+abbrev pub calls-round : ℕ → Claims-round
+calls-round t = (
+  parse-f-below t,
+  parse-f.Post,
+  number-at.Asked,
+  number-at.Learnt,
+)
+
+abbrev pub calls-prop : ℕ → Claims-square
+calls-prop t = (
+  number-at.Asked,
+  number-at.Learnt,
+  parse-f-below t,
+  parse-f.Post,
+)
+
+abbrev pub calls-then : ℕ → Claims-then
+calls-then t = (
+  push.Asked,
+  push.Learnt,
+  parse-f-below t,
+  parse-f.Post,
+  then-facts.Asked,
+  then-facts.Learnt,
+)
+
+abbrev pub calls-parse-u : ℕ → Claims-u
+calls-parse-u t = (
+  number-at.Asked,
+  number-at.Learnt,
+  not-below t,
+  not.Post,
+  round-below t,
+  round.Post,
+  leaf.Asked,
+  leaf.Learnt,
+  exists-below t,
+  exists.Post,
+  atom-below t,
+  atom.Post,
+)
