@@ -25,7 +25,7 @@ extern "C" {
 /* The version of this face. The major number rises where a caller's code may have to change: a function means
  * something else, takes other arguments, or a number below has another value. A function that means something else
  * also takes another number of arguments, so that a caller written for the old one does not compile. The minor
- * number rises where something is added. The archive does not know it: take header and archive from one state of
+ * number rises where something is added. The archive has no version: take header and archive from one state of
  * the repository. */
 #define TOWERWATCH_VERSION_MAJOR 1
 #define TOWERWATCH_VERSION_MINOR 0
@@ -79,8 +79,8 @@ struct towerwatch_answer {
     uint32_t result;  /* 0 where refused */
 };
 
-/* Reads a rule text. Result: its node count. Refused: 1 if the text is empty or too long; then, whichever word is
- * earliest, 2, 3 or 4; then 5, 6, 7, 8. */
+/* Reads a rule text. Result: its node count. Refused: 1 if the text is empty or too long; then 4, 2 or 3,
+ * whichever falls at the earliest word, and at one word in this order; then 5, 6, 7, 8. */
 struct towerwatch_answer towerwatch_read_rule(const uint8_t *text, size_t text_len);
 
 /* Compiles a rule text. table: TOWERWATCH_TABLE_NUMBERS numbers or more; its front is set to the n equations, four

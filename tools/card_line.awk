@@ -5,7 +5,7 @@
 function settings(text,   part, count, i) {
     count = split(text, part, ",")
     for (i = 1; i <= count; i++)
-        if (!wave_number(part[i])) return "`" part[i] "` is no number up to 999999 without a needless 0"
+        if (!wave_number(part[i])) return wave_no_number(part[i])
     return "it has " count " numbers, not eight"
 }
 
@@ -29,7 +29,7 @@ function wrong(line,   name) {
     if (ended != 10) return "it does not end in byte 10"
     if (kind == 1) return "the edition is not 1"
     if (kind == 2) return settings(substr(line, length(name) + 1))
-    if (kind == 4) return "`" substr(line, length(name) + 1) "` is no number up to 999999 without a needless 0"
+    if (kind == 4) return wave_no_number(substr(line, length(name) + 1))
     if (kind == 5) return tick(substr(line, length(name) + 1))
     return ""
 }

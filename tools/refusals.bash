@@ -182,14 +182,19 @@ place_in_card() {
     fi
     head -n "$line" "$work/card" | tail -n +"$line" | awk -v drawn="$(card_line_drawn "$kind")" -v kind="$kind" \
         -v ended="$(head -n "$line" "$work/card" | tail -c 1 | od -An -tu1)" \
-        -f "$here/waveform.awk" -f "$here/card_line.awk"
+        -f "$here/waveform.awk" -f "$here/card_line.awk" | tr '\000-\011\013-\037\177-\377' '?'
     echo "docs/RULES.md has: $(card_line_drawn "$kind")"
 }
 
-# the line at which a card is refused by 17: the first that the program refuses when good lines follow
+# the line at which a card is refused by 17: the first that has no end, or that the program refuses when good lines
+# follow
 broken_line() {
     local line
     for line in 1 2 3 4; do
+        if [ "$(head -n "$line" "$work/card" | wc -l)" -lt "$line" ]; then
+            echo "$line"
+            return
+        fi
         {
             head -n "$line" "$work/card"
             printf 'edition=1\nk=0,0,0,0,0,0,0,0\nwatch=end[1]\nticks=0\n' | tail -n +$((line + 1))

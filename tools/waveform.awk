@@ -50,9 +50,11 @@ function wave_number(text) {
     return text ~ /^[0-9]+$/ && length(text) <= 6 && (text == "0" || text !~ /^0/)
 }
 
+function wave_no_number(text) { return "`" text "` is no number up to 999999 without a needless 0" }
+
 function wave_take_setting(name, number) {
     if (name !~ /^k[0-7]$/) return "`" name "` is no setting: they are k0 to k7"
-    if (!wave_number(number)) return "`" number "` is no number up to 999999 without a needless 0"
+    if (!wave_number(number)) return wave_no_number(number)
     wave[name] = number
     wave_name[++wave_names] = name
     return ""
