@@ -56,7 +56,7 @@ extern "C" {
 
 /* The refusals, each with its cause. 1 to 8 are of a rule text, */
 #define TOWERWATCH_REFUSED_TEXT_LENGTH 1    /* it is empty or has over TOWERWATCH_TEXT_BYTES bytes */
-#define TOWERWATCH_REFUSED_WORD 2           /* something is no word, or a number begins with a needless 0 */
+#define TOWERWATCH_REFUSED_WORD 2           /* something is no word, or a number has a 0 too many */
 #define TOWERWATCH_REFUSED_NUMBER 3         /* a signal, a parameter or a number to compare with is too high */
 #define TOWERWATCH_REFUSED_WORD_COUNT 4     /* it has over TOWERWATCH_WORDS words */
 #define TOWERWATCH_REFUSED_NESTING 5        /* over TOWERWATCH_OPEN_BRACKETS or over TOWERWATCH_OPERATORS */
@@ -93,8 +93,8 @@ struct towerwatch_answer towerwatch_compile(const uint8_t *text, size_t text_len
 struct towerwatch_answer towerwatch_same_rule(const uint8_t *first, size_t first_len, const uint8_t *second,
                                               size_t second_len);
 
-/* Makes a fresh state for the table's n equations: cell i belongs to equation i. Cells of memories are set to their
- * initial value, all other cells are kept.
+/* Makes a fresh state for the table's n equations, a cell for each, in their order. The cells of memories are set to
+ * their initial value, all others are kept.
  * table: 4 * n numbers or more, only read. state: n numbers or more.
  * Result: 0. Refused: 10, 11, 12. */
 struct towerwatch_answer towerwatch_fresh_state(const uint32_t *table, size_t table_len, size_t n, uint32_t *state,

@@ -42,7 +42,7 @@ pub plays : (w : World) (l : List ℕ) (s : Says) (k : Stage) → s ≡ lineSays
 unfolding lined played
 plays w l s k e f = rw (f, e)
 
--- The rule text is the part of the bytes that the reader hands out.
+-- The rule text is the part of the bytes that the card reader gives.
 rule-long : (k : Stage) (l text : List ℕ) → rule text ≡ lineSays k l → length ruleHead ≤ length l
 rule-long k l text e = (rw (sym e) at (says-follows k l)) .1
 
