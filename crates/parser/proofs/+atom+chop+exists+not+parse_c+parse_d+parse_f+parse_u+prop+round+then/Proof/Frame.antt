@@ -46,9 +46,9 @@ use Rattle.parser.proofs.+atom+chop+exists+not+parse_c+parse_d+parse_f+
   Claims as Claims-round,
 }
 use Rattle.parser.proofs.prop.Reads as prop
-use Rattle.parser.proofs.prop.Kinds.{ps as ps-square}
+use Rattle.parser.proofs.prop.Kinds.{ps as ps-prop}
 use Rattle.parser.proofs.+atom+chop+exists+not+parse_c+parse_d+parse_f+parse_u+prop+round+then.Lts-prop.{
-  Claims as Claims-square,
+  Claims as Claims-prop,
 }
 use Rattle.parser.proofs.then.Reads as then
 use Rattle.parser.proofs.then.Kinds.{ps as ps-then}
@@ -76,8 +76,7 @@ use Rattle.lists.proofs.number_at.Reads as number-at
 use Rattle.parser.proofs.push.Reads as push
 use Rattle.facts.proofs.then_facts.Reads as then-facts
 
--- The measures. What begins with `!`, `exists`, a round bracket, `then` or `chop` is
--- measured as an atom.
+-- The measures. What begins with `!`, `exists`, a round bracket, `then` or `chop` is measured as an atom.
 abbrev pub μ-atom : Measures 2 ps-atom ℕ
 μ-atom κs a = depth (a .0 .now) goA (a .1 .0)
 
@@ -102,7 +101,7 @@ abbrev pub μ-not : Measures 2 ps-not ℕ
 abbrev pub μ-round : Measures 2 ps-round ℕ
 μ-round κs a = depth (a .0 .now) goA (a .1 .1 .0)
 
-abbrev pub μ-prop : Measures 2 ps-square ℕ
+abbrev pub μ-prop : Measures 2 ps-prop ℕ
 μ-prop κs a = depth (a .0 .now) goB (a .1 .0)
 
 abbrev pub μ-then : Measures 2 ps-then ℕ
@@ -160,11 +159,11 @@ round-at t = and 2 ps-round (is 2 ps-round μ-round t) round.Pre
 abbrev round-below : ℕ → In 2 ps-round
 round-below t = and 2 ps-round (falls 2 ps-round _<_ μ-round t) round.Pre
 
-abbrev pub prop-at : ℕ → In 2 ps-square
-prop-at t = and 2 ps-square (is 2 ps-square μ-prop t) prop.Pre
+abbrev pub prop-at : ℕ → In 2 ps-prop
+prop-at t = and 2 ps-prop (is 2 ps-prop μ-prop t) prop.Pre
 
-abbrev prop-below : ℕ → In 2 ps-square
-prop-below t = and 2 ps-square (falls 2 ps-square _<_ μ-prop t) prop.Pre
+abbrev prop-below : ℕ → In 2 ps-prop
+prop-below t = and 2 ps-prop (falls 2 ps-prop _<_ μ-prop t) prop.Pre
 
 abbrev pub then-at : ℕ → In 2 ps-then
 then-at t = and 2 ps-then (is 2 ps-then μ-then t) then.Pre
@@ -279,7 +278,7 @@ calls-round t = (
   number-at.Learnt,
 )
 
-abbrev pub calls-prop : ℕ → Claims-square
+abbrev pub calls-prop : ℕ → Claims-prop
 calls-prop t = (
   number-at.Asked,
   number-at.Learnt,
