@@ -7,14 +7,15 @@ use lib.Dec.{eqb}
 use lib.ListN.{getD}
 use Rattle.traces.specs.Trace.{nonzero}
 use Rattle.traces.specs.Compare.{Op, opOf, opNumber}
+use Rattle.traces.specs.Compare.Op.{lt}
 use Rattle.traces.proofs.Laws.{nonzero-truth, op-number}
 use Rattle.formulas.specs.Formula.{Num, Test, Count}
 use Rattle.formulas.specs.Formula.Num.{literal, parameter}
 use Rattle.formulas.specs.Formula.Test.{begin, end, point, held, kept}
 use Rattle.formulas.specs.Formula.Count.{sum, age}
 use Rattle.formulas.specs.Tree.{Tree}
-use Rattle.formulas.specs.Tree.Tree.{constant, signal, neg, and, or, then, chop, exists, test, len, count}
-use Rattle.formulas.specs.Arena.{NOT, AND, OR, TEST, COUNT, LEAD-END, THEN, CHOP, EXISTS}
+use Rattle.formulas.specs.Tree.Tree.{constant, signal, neg, and, or, then, chop, exists, test, len, count, lag}
+use Rattle.formulas.specs.Arena.{NOT, AND, OR, TEST, COUNT, RUN, FINE, ALWAYS, LEAD-END, THEN, CHOP, EXISTS}
 use Rattle.formulas.specs.Arena.{testNumber, countNumber, LITERAL, numKind, numValue, row, flat}
 
 -- ---- reading one record
@@ -59,6 +60,9 @@ readers a b c =
     ∷ one (λ p. count sum p (opOf a) (numOf b c))
     ∷ one (λ p. count age p (opOf a) (numOf b c))
     ∷ none
+    ∷ two (λ p q. lag p (numOf b c) q)
+    ∷ none
+    ∷ none
     ∷ two then
     ∷ none
     ∷ two chop
@@ -100,13 +104,20 @@ back-len : (o : Op) (n : Num) (r : List ℕ) (st : Stack) → back (flat (len o 
 unfolding back
 back-len o n r st = rw (op-number o, back-num n)
 
--- a count's record, after its P.
+-- a count's record, after its P;
 back-count : (k : Count) (p : Tree) (o : Op) (n : Num) (r : List ℕ) (st : Stack) →
     back (row (COUNT + countNumber k) (opNumber o) (numKind n) (numValue n) ++ r) (p ∷ st)
     ≡ back r (count k p o n ∷ st)
 unfolding back
 back-count sum p o n r st = rw (op-number o, back-num n)
 back-count age p o n r st = rw (op-number o, back-num n)
+
+-- a lag's last two records, after its P, its Q and the record between them.
+back-lag : (p : Tree) (n : Num) (q : Tree) (r : List ℕ) (st : Stack) →
+    back ((row FINE (opNumber lt) (numKind n) (numValue n) ++ row ALWAYS 0 0 0) ++ r) (q ∷ p ∷ st)
+    ≡ back r (lag p n q ∷ st)
+unfolding back
+back-lag p n q r st = rw (back-num n)
 
 -- Grouping: a tree's records before one more record, and two trees' before one more.
 after-one : (s x r : List ℕ) (st : Stack) → back ((s ++ x) ++ r) st ≡ back (s ++ (x ++ r)) st
@@ -146,6 +157,13 @@ back-flat (len o n) r st = back-len o n r st
 back-flat (count k p o n) r st =
     let x : List ℕ = row (COUNT + countNumber k) (opNumber o) (numKind n) (numValue n) in
     after-one (flat p) x r st ∙ back-flat p (x ++ r) st ∙ back-count k p o n r st
+back-flat (lag p n q) r st =
+    let x : List ℕ = row FINE (opNumber lt) (numKind n) (numValue n) ++ row ALWAYS 0 0 0 in
+    after-one (flat p) (row RUN 0 0 0 ++ (flat q ++ x)) r st
+    ∙ back-flat p (row RUN 0 0 0 ++ ((flat q ++ x) ++ r)) st
+    ∙ after-one (flat q) x r (p ∷ st)
+    ∙ back-flat q (x ++ r) (p ∷ st)
+    ∙ back-lag p n q r st
 
 -- Equal records, equal trees.
 pub flat-one : (t t′ : Tree) → flat t ≡ flat t′ → t ≡ t′

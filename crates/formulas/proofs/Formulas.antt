@@ -4,7 +4,7 @@ use mathlib.Core.Option.{Option, none, some, Option·none-ne-some}
 use Rattle.formulas.specs.Formula.{Prop, Formula}
 use Rattle.formulas.specs.Tree.{Tree, map, map₂, propOf, formulaOf}
 pub use Rattle.formulas.specs.Raw.{rawP, raw}
-use Rattle.formulas.specs.Tree.Tree.{constant, signal, neg, and, or, then, chop, exists, test, len, count}
+use Rattle.formulas.specs.Tree.Tree.{constant, signal, neg, and, or, then, chop, exists, test, len, count, lag}
 
 -- They are read back.
 pub prop-rawP : (p : Prop) → propOf (rawP p) ≡ some p
@@ -18,6 +18,7 @@ pub raw-formula : (f : Formula) → formulaOf (raw f) ≡ some f
 raw-formula (Formula.test k p) = ap (map (Formula.test k)) (prop-rawP p)
 raw-formula (Formula.len o n) = refl
 raw-formula (Formula.count k p o n) = ap (map (λ q. Formula.count k q o n)) (prop-rawP p)
+raw-formula (Formula.lag p n q) = ap₂ (map₂ (λ a b. Formula.lag a n b)) (prop-rawP p) (prop-rawP q)
 raw-formula (Formula.neg f) = ap (map Formula.neg) (raw-formula f)
 raw-formula (Formula.and f g) = ap₂ (map₂ Formula.and) (raw-formula f) (raw-formula g)
 raw-formula (Formula.or f g) = ap₂ (map₂ Formula.or) (raw-formula f) (raw-formula g)
@@ -67,6 +68,7 @@ prop-raw (exists j t) p e = absurd (Option·none-ne-some p e)
 prop-raw (test k q) p e = absurd (Option·none-ne-some p e)
 prop-raw (len o n) p e = absurd (Option·none-ne-some p e)
 prop-raw (count k q o n) p e = absurd (Option·none-ne-some p e)
+prop-raw (lag a n b) p e = absurd (Option·none-ne-some p e)
 
 -- a tree that has a formula is the tree of that formula.
 pub formula-raw : (t : Tree) (f : Formula) → formulaOf t ≡ some f → t ≡ raw f
@@ -93,3 +95,6 @@ formula-raw (len o n) f e = let g : Formula.len o n ≡ f = cc in ap raw g
 formula-raw (count k p o n) f e =
     let m = map-some (λ q. Formula.count k q o n) (propOf p) f e in
     ap (λ q. count k q o n) (prop-raw p (m .part) (m .there)) ∙ ap raw (m .made)
+formula-raw (lag p n q) f e =
+    let m = map₂-some (λ a b. Formula.lag a n b) (propOf p) (propOf q) f e in
+    ap₂ (λ a b. lag a n b) (prop-raw p (m .left) (m .there)) (prop-raw q (m .right) (m .beside)) ∙ ap raw (m .made)

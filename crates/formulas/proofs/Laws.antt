@@ -8,13 +8,13 @@ use mathlib.Core.Option.{Option, none, some}
 use Prim.Native.Nat.{ℕ, zero, suc, _+_, _-_, _≤_, _<_}
 use native.Mathlib.Omega.{arith}
 use native.Mathlib.Nat.{eq-or-lt-of-le}
-use lib.Dec.{eqb, ltb}
+use lib.Dec.{eqb, ltb, leb}
 use borrow.Author.Tests.{leb-true, ltb-true, eqb-true, le-leb, lt-ltb, eq-eqb}
 use Rattle.traces.specs.Trace.{Trace, nonzero, bit, starts, truth}
 use Rattle.traces.specs.Compare.{Op, compares}
 use Rattle.traces.specs.Compare.Op.{le, lt, eq, gt, ge}
 use Rattle.formulas.specs.Formula.{Formula}
-use Rattle.formulas.specs.Meaning.{value, each, any, tally, streak, at, meaning, latest, verdict, since}
+use Rattle.formulas.specs.Meaning.{value, each, any, tally, streak, due, lagged, at, meaning, latest, verdict, since}
 use Rattle.formulas.specs.Laws.{Compared, Counted, InARow, Starts, Latest, Means}
 
 -- ---- truth values and comparisons
@@ -219,6 +219,36 @@ then-iff x y z b e =
     parts : (m : ℕ) → (x m && (not (y m) && z m) ≡ true) ↔ ((x m ≡ true) × ((¬ (y m ≡ true)) × (z m ≡ true)))
     parts m = both (x m) (not (y m) && z m) Iff·rfl (both (not (y m)) (z m) (not-iff (y m)) Iff·rfl)
 
+-- ---- `lag`
+
+-- Where x gives y.
+gives-iff : (x y : Bool) → (not x || y ≡ true) ↔ ((x ≡ true) → (y ≡ true))
+gives-iff true y = (λ e h. e, λ h. h refl)
+gives-iff false y = (λ e h. absurd (false≢true h), λ h. refl)
+
+module _ (p : ℕ → Bool) (n : ℕ) where
+  due-iff : (i j : ℕ) → (due p n i j ≡ true) ↔ ((n ≤ j - i) × ((k : ℕ) → i ≤ k → k < j → p k ≡ true))
+  due-iff i j = both (leb n (j - i)) (each p i (j - i)) (leb-true n (j - i), le-leb n (j - i)) (each-on p i j)
+
+  lag-iff : (q : ℕ → Bool) (b e : ℕ) →
+      (lagged p n q b e ≡ true)
+      ↔ ((i j : ℕ) → b ≤ i → i < j → j ≤ e → n ≤ j - i → ((k : ℕ) → i ≤ k → k < j → p k ≡ true) → q j ≡ true)
+  lag-iff q b e = (
+    λ h i j l m u far runs. gives-iff (due p n i j) (q j) .0
+        (from i .0 (each-on all-from b e .0 h i l (omega arith)) j m (omega arith)) (due-iff i j .1 (far, runs)),
+    λ h. each-on all-from b e .1 (λ i l u. from i .1 (λ j m v. gives-iff (due p n i j) (q j) .1
+        (λ d. let (far, runs) = due-iff i j .0 d in h i j l m (omega arith) far runs))),
+  )
+    where
+      of : ℕ → ℕ → Bool
+      of i j = not (due p n i j) || q j
+
+      all-from : ℕ → Bool
+      all-from i = each (of i) (suc i) (e - i)
+
+      from : (i : ℕ) → (all-from i ≡ true) ↔ ((j : ℕ) → i < j → j < suc i + (e - i) → of i j ≡ true)
+      from i = each-iff (of i) (suc i) (e - i)
+
 -- ---- signals and starts
 
 -- A number that is not 0 is above 0,
@@ -305,6 +335,7 @@ module _ (trace : Trace) where
         len-on = λ o n b e. compared o (e - b) (value n (trace e));
         sum-on = λ p o n b e h. sum-iff (at trace p) b e h o (value n (trace e));
         age-on = λ p o n b e h. age-iff (at trace p) b e h o (value n (trace e));
+        lag-on = λ p n q b e. lag-iff (at trace p) (value n (trace e)) (at trace q) b e;
         then-on = λ l f b e. then-iff (meaning trace l b) (λ m. meaning trace l b (suc m))
             (λ m. meaning trace f (suc m) e) b e;
         not-on = λ f b e. not-iff (meaning trace f b e);

@@ -12,7 +12,7 @@ use Rattle.formulas.specs.Formula.{Prop, Formula}
 use Rattle.formulas.specs.Formula.Prop.{constant, signal, negP, andP, orP}
 use Rattle.formulas.specs.Formula.Test.{begin, end, point, held, kept}
 use Rattle.formulas.specs.Formula.Count.{sum, age}
-use Rattle.formulas.specs.Formula.Formula.{test, len, count, neg, and, or, then}
+use Rattle.formulas.specs.Formula.Formula.{test, len, count, lag, neg, and, or, then}
 use Rattle.formulas.specs.Meaning.{value, at, meaning, latest, verdict}
 use Rattle.formulas.specs.Laws.{Compared, Counted, InARow, Latest, Means}
 use Rattle.formulas.proofs.Laws.{no, Seen, seen, means}
@@ -83,6 +83,13 @@ module _
         through (laws .age-on p o n b e h) (means trace .age-on p o n b e h)
         (count-same (λ c. Compared o c (value n (trace e))) (λ c. row-same (only-at p))
         (λ c. row-same (λ i. Iff·symm (only-at p i))))
+    only-on (lag p n q) b e h =
+        through (laws .lag-on p n q b e) (means trace .lag-on p n q b e) (
+          λ s i j l m u far runs.
+              only-at q j .0 (s i j l m u far (λ k v w. only-at p k .1 (runs k v w))),
+          λ s i j l m u far runs.
+              only-at q j .1 (s i j l m u far (λ k v w. only-at p k .0 (runs k v w))),
+        )
     only-on (neg f) b e h = through (laws .not-on f b e) (means trace .not-on f b e) (Iff·not (only-on f b e h))
     only-on (and f g) b e h =
         through (laws .and-on f g b e) (means trace .and-on f g b e) (Iff·and (only-on f b e h) (only-on g b e h))

@@ -4,12 +4,13 @@ use mathlib.Core.List.{List, [], _∷_, _++_}
 use Prim.Native.Nat.{ℕ, _+_}
 use Rattle.traces.specs.Trace.{truth}
 use Rattle.traces.specs.Compare.{opNumber}
+use Rattle.traces.specs.Compare.Op.{lt}
 use Rattle.formulas.specs.Formula.{Num, Test, Count}
 use Rattle.formulas.specs.Formula.Num.{literal, parameter}
 use Rattle.formulas.specs.Formula.Test.{begin, end, point, held, kept}
 use Rattle.formulas.specs.Formula.Count.{sum, age}
 use Rattle.formulas.specs.Tree.{Tree}
-use Rattle.formulas.specs.Tree.Tree.{constant, signal, neg, and, or, then, chop, exists, test, len, count}
+use Rattle.formulas.specs.Tree.Tree.{constant, signal, neg, and, or, then, chop, exists, test, len, count, lag}
 
 -- The kinds of records. `LEAD-END` stands between the two parts of a `then`; no tree's record has `WHOLE`.
 abbrev pub CONSTANT : ℕ
@@ -38,21 +39,31 @@ LEN = 10
 abbrev pub COUNT : ℕ
 COUNT = 11
 
+-- the three records of a `lag`: after its P, after its Q, and the last
+abbrev pub RUN : ℕ
+RUN = 13
+
+abbrev pub FINE : ℕ
+FINE = 14
+
+abbrev pub ALWAYS : ℕ
+ALWAYS = 15
+
 abbrev pub LEAD-END : ℕ
-LEAD-END = 13
+LEAD-END = 16
 
 abbrev pub THEN : ℕ
-THEN = 14
+THEN = 17
 
 -- a whole rule
 abbrev pub WHOLE : ℕ
-WHOLE = 15
+WHOLE = 18
 
 abbrev pub CHOP : ℕ
-CHOP = 16
+CHOP = 19
 
 abbrev pub EXISTS : ℕ
-EXISTS = 17
+EXISTS = 20
 
 -- The tests and the counts, numbered in the order of SPEC 3.5.
 abbrev pub testNumber : Test → ℕ
@@ -99,3 +110,5 @@ flat (exists j t) = flat t ++ row EXISTS j 0 0
 flat (test k p) = flat p ++ row (TEST + testNumber k) 0 0 0
 flat (len o n) = row LEN (opNumber o) (numKind n) (numValue n)
 flat (count k p o n) = flat p ++ row (COUNT + countNumber k) (opNumber o) (numKind n) (numValue n)
+flat (lag p n q) =
+    flat p ++ (row RUN 0 0 0 ++ (flat q ++ (row FINE (opNumber lt) (numKind n) (numValue n) ++ row ALWAYS 0 0 0)))

@@ -7,7 +7,7 @@ use Rattle.limits.specs.Limits.{signalCount, parameterCount}
 use Rattle.formulas.specs.Formula.{Num}
 use Rattle.formulas.specs.Formula.Num.{literal, parameter}
 use Rattle.formulas.specs.Tree.{Tree}
-use Rattle.formulas.specs.Tree.Tree.{constant, signal, neg, and, or, then, chop, exists, test, len, count}
+use Rattle.formulas.specs.Tree.Tree.{constant, signal, neg, and, or, then, chop, exists, test, len, count, lag}
 
 abbrev pub signalBound : ℕ → Bool
 signalBound j = ltb j signalCount
@@ -30,3 +30,4 @@ module _ (limit : ℕ) where
   bounded (test k p) = bounded p
   bounded (len o n) = numBound n
   bounded (count k p o n) = bounded p && numBound n
+  bounded (lag p n q) = bounded p && (numBound n && bounded q)

@@ -29,6 +29,7 @@ pub data Formula : Type 0 where
   test : Test → Prop → Formula
   len : Op → Num → Formula
   count : Count → Prop → Op → Num → Formula
+  lag : Prop → Num → Prop → Formula
   neg : Formula → Formula
   and : Formula → Formula → Formula
   or : Formula → Formula → Formula

@@ -1,4 +1,4 @@
--- The laws of the interval meaning, clause by clause (SPEC 4.1 to SPEC 4.10): when P holds at a tick, when a formula
+-- The laws of the interval meaning, clause by clause (SPEC 4.1 to SPEC 4.11): when P holds at a tick, when a formula
 -- holds on an interval, and what the verdict is. They use none of the recursions of specs/Meaning.antt. What is defined
 -- there has these laws (proofs/Laws.antt), and nothing else has (proofs/Only.antt). Definitions only.
 use mathlib.Core.Bool.{true, false}
@@ -14,7 +14,7 @@ use Rattle.formulas.specs.Formula.Num.{literal, parameter}
 use Rattle.formulas.specs.Formula.Prop.{constant, signal, negP, andP, orP}
 use Rattle.formulas.specs.Formula.Test.{begin, end, point, held, kept}
 use Rattle.formulas.specs.Formula.Count.{sum, age}
-use Rattle.formulas.specs.Formula.Formula.{test, len, count, neg, and, or, then}
+use Rattle.formulas.specs.Formula.Formula.{test, len, count, lag, neg, and, or, then}
 use Rattle.formulas.specs.Meaning.{value}
 
 -- SPEC 4.8: the number x itself compared with n.
@@ -75,6 +75,10 @@ module _ (trace : Trace) where
         On (count sum p o n) b e ↔ ((c : ℕ) × Counted (At p) b e c × Compared o c (value n (trace e)))
     pub age-on : (p : Prop) (o : Op) (n : Num) (b e : ℕ) → b ≤ e →
         On (count age p o n) b e ↔ ((c : ℕ) × InARow (At p) b e c × Compared o c (value n (trace e)))
+    -- SPEC 4.11: where P has been on from i on and for n ticks or more before j, Q at j.
+    pub lag-on : (p : Prop) (n : Num) (q : Prop) (b e : ℕ) →
+        On (lag p n q) b e
+        ↔ ((i j : ℕ) → b ≤ i → i < j → j ≤ e → value n (trace e) ≤ j - i → ((k : ℕ) → i ≤ k → k < j → At p k) → At q j)
     -- SPEC 4.6: after some m the left part l is false, and f begins.
     pub then-on : (l f : Formula) (b e : ℕ) →
         On (then l f) b e

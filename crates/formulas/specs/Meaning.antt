@@ -1,8 +1,8 @@
--- The interval meaning (SPEC 4.1 to SPEC 4.10) of a formula on an interval b to e of a trace. Definitions only.
+-- The interval meaning (SPEC 4.1 to SPEC 4.11) of a formula on an interval b to e of a trace. Definitions only.
 use mathlib.Core.Bool.{Bool, true, false, not, _&&_, _||_, cond}
 use mathlib.Core.Option.{Option, none, some}
 use Prim.Native.Nat.{ℕ, zero, suc, _-_}
-use lib.Dec.{eqb, ltb}
+use lib.Dec.{eqb, ltb, leb}
 use Rattle.traces.specs.declared.Tick.{Tick}
 use Rattle.traces.specs.Trace.{Trace, signalAt, parameterAt, starts, truth}
 use Rattle.traces.specs.Compare.{compares}
@@ -11,7 +11,7 @@ use Rattle.formulas.specs.Formula.Num.{literal, parameter}
 use Rattle.formulas.specs.Formula.Prop.{constant, signal, negP, andP, orP}
 use Rattle.formulas.specs.Formula.Test.{begin, end, point, held, kept}
 use Rattle.formulas.specs.Formula.Count.{sum, age}
-use Rattle.formulas.specs.Formula.Formula.{test, len, count, neg, and, or, then}
+use Rattle.formulas.specs.Formula.Formula.{test, len, count, lag, neg, and, or, then}
 
 -- SPEC 4.1: P at a tick. A constant is its truth value, a signal says whether it is on.
 abbrev pub holds : Prop → Tick → Bool
@@ -45,6 +45,14 @@ streak p zero n = cond (p zero) 1 0
 streak p (suc e) zero = cond (p (suc e)) 1 0
 streak p (suc e) (suc n) = cond (p (suc e)) (suc (streak p e n)) 0
 
+-- SPEC 4.11: j is n or more after i, and each number from i up to but not including j has p;
+abbrev pub due : (ℕ → Bool) → ℕ → ℕ → ℕ → Bool
+due p n i j = leb n (j - i) && each p i (j - i)
+
+-- for all i < j in b to e of which that is so, j has q.
+abbrev pub lagged : (ℕ → Bool) → ℕ → (ℕ → Bool) → ℕ → ℕ → Bool
+lagged p n q b e = each (λ i. each (λ j. not (due p n i j) || q j) (suc i) (e - i)) b (e - b)
+
 module _ (trace : Trace) where
   -- P at tick i
   abbrev pub at : Prop → ℕ → Bool
@@ -52,8 +60,9 @@ module _ (trace : Trace) where
 
   -- The formula on b to e. SPEC 4.2: `begin` and `end` ask for P at that end, `point` for a single tick with P.
   -- SPEC 4.3: `kept` asks for P at every tick before e, `held` for such a tick as well. SPEC 4.4: `sum` leaves out e.
-  -- SPEC 4.5: `age` begins with it. SPEC 4.8: these and `len` are compared with the value of n at e. SPEC 4.7: `!`, `&`
-  -- and `|`. SPEC 4.6: `then` asks for an m after which the left part is false, and the right part begins.
+  -- SPEC 4.5: `age` begins with it. SPEC 4.8: these and `len` are compared with the value of n at e. SPEC 4.11: `lag`
+  -- has the value of n at e too. SPEC 4.7: `!`, `&` and `|`. SPEC 4.6: `then` asks for an m after which the left part is
+  -- false, and the right part begins.
   abbrev pub meaning : Formula → ℕ → ℕ → Bool
   meaning (test begin p) b e = at p b
   meaning (test end p) b e = at p e
@@ -63,6 +72,7 @@ module _ (trace : Trace) where
   meaning (len o n) b e = compares o (e - b) (value n (trace e))
   meaning (count sum p o n) b e = compares o (tally (at p) b (e - b)) (value n (trace e))
   meaning (count age p o n) b e = compares o (streak (at p) e (e - b)) (value n (trace e))
+  meaning (lag p n q) b e = lagged (at p) (value n (trace e)) (at q) b e
   meaning (neg f) b e = not (meaning f b e)
   meaning (and f g) b e = meaning f b e && meaning g b e
   meaning (or f g) b e = meaning f b e || meaning g b e

@@ -1,7 +1,7 @@
 -- Formulas as trees: the tree that a formula is the formula of. Definitions only.
 use Rattle.formulas.specs.Formula.{Prop, Formula}
 use Rattle.formulas.specs.Tree.{Tree}
-use Rattle.formulas.specs.Tree.Tree.{constant, signal, neg, and, or, then, test, len, count}
+use Rattle.formulas.specs.Tree.Tree.{constant, signal, neg, and, or, then, test, len, count, lag}
 
 -- A proposition's tree, and a formula's.
 abbrev pub rawP : Prop → Tree
@@ -15,6 +15,7 @@ abbrev pub raw : Formula → Tree
 raw (Formula.test k p) = test k (rawP p)
 raw (Formula.len o n) = len o n
 raw (Formula.count k p o n) = count k (rawP p) o n
+raw (Formula.lag p n q) = lag (rawP p) n (rawP q)
 raw (Formula.neg f) = neg (raw f)
 raw (Formula.and f g) = and (raw f) (raw g)
 raw (Formula.or f g) = or (raw f) (raw g)

@@ -22,6 +22,7 @@ pub data Tree : Type 0 where
   test : Test → Tree → Tree
   len : Op → Num → Tree
   count : Count → Tree → Op → Num → Tree
+  lag : Tree → Num → Tree → Tree
 
 -- SPEC 3.8: the number of nodes. `chop` and `exists` are none; what an atom has in square brackets is not looked at.
 abbrev pub nodes : Tree → ℕ
@@ -36,6 +37,7 @@ nodes (exists j t) = nodes t
 nodes (test k p) = 1
 nodes (len o n) = 1
 nodes (count k p o n) = 1
+nodes (lag p n q) = 1
 
 -- SPEC 3.9: the comparisons that a lead may have.
 abbrev pub upper : Op → Bool
@@ -58,7 +60,7 @@ abbrev pub leadCount : Count → Bool
 leadCount sum = true
 leadCount age = false
 
--- SPEC 3.9: leads, of these atoms and `len`, by `&` and `|` alone.
+-- SPEC 3.9: leads, of these atoms, `len` and `lag`, by `&` and `|` alone.
 abbrev pub lead : Tree → Bool
 lead (constant c) = false
 lead (signal j) = false
@@ -71,6 +73,7 @@ lead (exists j t) = false
 lead (test k p) = leadTest k
 lead (len o n) = upper o
 lead (count k p o n) = leadCount k && upper o
+lead (lag p n q) = true
 
 -- SPEC 3.10: every `then`, wherever it stands, has a lead on its left.
 abbrev pub leads : Tree → Bool
@@ -85,6 +88,7 @@ leads (exists j t) = leads t
 leads (test k p) = true
 leads (len o n) = true
 leads (count k p o n) = true
+leads (lag p n q) = true
 
 -- Where all parts are there, what is made of them.
 abbrev pub map {ℓ κ} : {A : Type ℓ} {B : Type κ} → (A → B) → Option A → Option B
@@ -109,6 +113,7 @@ propOf (exists j t) = none
 propOf (test k p) = none
 propOf (len o n) = none
 propOf (count k p o n) = none
+propOf (lag p n q) = none
 
 -- SPEC 3.7: the formula of a tree; one with `chop` or `exists` has none, and so no meaning.
 abbrev pub formulaOf : Tree → Option Formula
@@ -123,3 +128,4 @@ formulaOf (exists j t) = none
 formulaOf (test k p) = map (Formula.test k) (propOf p)
 formulaOf (len o n) = some (Formula.len o n)
 formulaOf (count k p o n) = map (λ q. Formula.count k q o n) (propOf p)
+formulaOf (lag p n q) = map₂ (λ a b. Formula.lag a n b) (propOf p) (propOf q)

@@ -20,17 +20,24 @@ pub const LEN: u32 = 10;
 // `sum`, and then `age`.
 pub const COUNT: u32 = 11;
 
-// Between the two parts of a `then`.
-pub const LEAD_END: u32 = 13;
+// The three records of a `lag`: after its P, after its Q, and the last.
+pub const RUN: u32 = 13;
 
-pub const THEN: u32 = 14;
+pub const FINE: u32 = 14;
+
+pub const ALWAYS: u32 = 15;
+
+// Between the two parts of a `then`.
+pub const LEAD_END: u32 = 16;
+
+pub const THEN: u32 = 17;
 
 // A whole rule: no tree's record has this kind.
-pub const WHOLE: u32 = 15;
+pub const WHOLE: u32 = 18;
 
-pub const CHOP: u32 = 16;
+pub const CHOP: u32 = 19;
 
-pub const EXISTS: u32 = 17;
+pub const EXISTS: u32 = 20;
 
 // What a record compares a count with.
 pub const LITERAL: u32 = 0;

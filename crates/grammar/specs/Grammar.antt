@@ -12,8 +12,8 @@ use Rattle.formulas.specs.Formula.Num.{literal, parameter}
 use Rattle.formulas.specs.Formula.Test.{begin, end, point, held, kept}
 use Rattle.formulas.specs.Formula.Count.{sum, age}
 use Rattle.formulas.specs.Tree.{Tree}
-use Rattle.formulas.specs.Tree.Tree.{constant, signal, neg, and, or, then, chop, exists, test, len, count}
-use Rattle.words.specs.Word.{ROUND, ROUND-END, SQUARE, SQUARE-END, NOT, AND, OR, LE, BEGIN, LEN, SUM}
+use Rattle.formulas.specs.Tree.Tree.{constant, signal, neg, and, or, then, chop, exists, test, len, count, lag}
+use Rattle.words.specs.Word.{ROUND, ROUND-END, SQUARE, SQUARE-END, NOT, AND, OR, LE, COMMA, BEGIN, LEN, SUM, LAG}
 use Rattle.words.specs.Word.{THEN, CHOP, EXISTS, PARAMETER, SIGNAL, LITERAL}
 use Rattle.words.specs.Word.{isOp, isSignal, isNum, isBit, isTest, isCount}
 
@@ -36,9 +36,14 @@ testWord w = getD (begin ∷ end ∷ point ∷ held ∷ []) (w - BEGIN) kept
 abbrev pub countWord : ℕ → Count
 countWord w = getD (sum ∷ []) (w - SUM) age
 
--- F, D, C and U, and B for P with the square brackets around it.
+-- F, D, C and U, and B for a P between two words, of which the first is given first.
 pub data Symbol : Type 0 where
-  F D C U B : Symbol
+  F D C U : Symbol
+  B : ℕ → ℕ → Symbol
+
+-- P in square brackets.
+abbrev pub Square : Symbol
+Square = B SQUARE SQUARE-END
 
 -- `Derives inside X ws t`: the words ws are an X with the tree t. Inside square brackets stands a P (SPEC 3.6), by the
 -- same rules where they allow it; an F there is a D.
@@ -69,13 +74,17 @@ pub data Derives : Bool → Symbol → List ℕ → Tree → Type 0 where
   U-signal : {w : ℕ} → isSignal w ≡ true → Derives true U (w ∷ []) (signal (signalWord w))
   -- SPEC 3.5: atoms
   U-test : {k : ℕ} {s : List ℕ} {p : Tree}
-      → isTest k ≡ true → Derives false B s p → Derives false U (k ∷ s) (test (testWord k) p)
+      → isTest k ≡ true → Derives false Square s p → Derives false U (k ∷ s) (test (testWord k) p)
   U-len : {o n : ℕ}
       → isOp o ≡ true → isNum n ≡ true → Derives false U (LEN ∷ o ∷ n ∷ []) (len (opWord o) (numWord n))
   U-count : {k : ℕ} {s : List ℕ} {p : Tree} (o n : ℕ)
-      → isCount k ≡ true → Derives false B s p → isOp o ≡ true → isNum n ≡ true
+      → isCount k ≡ true → Derives false Square s p → isOp o ≡ true → isNum n ≡ true
       → Derives false U (k ∷ s ++ o ∷ n ∷ []) (count (countWord k) p (opWord o) (numWord n))
-  B-square : {s : List ℕ} {p : Tree} → Derives true F s p → Derives false B (SQUARE ∷ s ++ SQUARE-END ∷ []) p
+  U-lag : {s u : List ℕ} {p q : Tree} (n : ℕ)
+      → Derives false (B SQUARE COMMA) s p → isNum n ≡ true → Derives false (B COMMA SQUARE-END) u q
+      → Derives false U (LAG ∷ s ++ n ∷ u) (lag p (numWord n) q)
+  B-between : {s : List ℕ} {p : Tree} (before after : ℕ)
+      → Derives true F s p → Derives false (B before after) (before ∷ s ++ after ∷ []) p
 
 -- SPEC 3.1: the words are a rule of the grammar, with that tree.
 abbrev pub Rule : List ℕ → Tree → Type 0

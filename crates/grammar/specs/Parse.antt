@@ -11,8 +11,8 @@ use Rattle.lists.specs.Number.{numberAt}
 use Rattle.traces.specs.Compare.{Op}
 use Rattle.formulas.specs.Formula.{Num}
 use Rattle.formulas.specs.Tree.{Tree}
-use Rattle.formulas.specs.Tree.Tree.{constant, signal, neg, and, or, then, chop, exists, test, len, count}
-use Rattle.words.specs.Word.{ROUND, ROUND-END, SQUARE, SQUARE-END, NOT, AND, OR, LEN, THEN, CHOP, EXISTS}
+use Rattle.formulas.specs.Tree.Tree.{constant, signal, neg, and, or, then, chop, exists, test, len, count, lag}
+use Rattle.words.specs.Word.{ROUND, ROUND-END, SQUARE, SQUARE-END, NOT, AND, OR, COMMA, LEN, LAG, THEN, CHOP, EXISTS}
 use Rattle.words.specs.Word.{isOp, isSignal, isNum, isBit, isTest, isCount}
 use Rattle.grammar.specs.Grammar.{bitWord, signalWord, opWord, numWord, testWord, countWord}
 
@@ -30,7 +30,7 @@ bind no-rule f = no-rule
 bind (ok t j) f = f t j
 
 -- What is to be read: an F, D, C or U (true: inside square brackets), what follows the D or the C that has been read as
--- a tree, an atom, or a P in square brackets.
+-- a tree, an atom, or a P between two words.
 pub data Goal : Type 0 where
   goF : Bool → Goal
   goD : Bool → Goal
@@ -39,7 +39,11 @@ pub data Goal : Type 0 where
   goCs : Bool → Tree → Goal
   goU : Bool → Goal
   goA : Goal
-  goB : Goal
+  goB : ℕ → ℕ → Goal
+
+-- A P in square brackets.
+abbrev pub goSquare : Goal
+goSquare = Goal.goB SQUARE SQUARE-END
 
 -- What the word after a D makes of an F.
 pub data Join : Type 0 where
@@ -60,10 +64,12 @@ unitOf inside w =
 
 -- What an atom begins with.
 pub data Atom : Type 0 where
-  atom-test atom-len atom-count atom-none : Atom
+  atom-test atom-len atom-count atom-lag atom-none : Atom
 
 abbrev pub atomOf : ℕ → Atom
-atomOf w = cond (isTest w) atom-test (cond (eqb w LEN) atom-len (cond (isCount w) atom-count atom-none))
+atomOf w =
+    cond (isTest w) atom-test (cond (eqb w LEN) atom-len
+    (cond (isCount w) atom-count (cond (eqb w LAG) atom-lag atom-none)))
 
 module _ (ws : List ℕ) where
   -- `0`, `1` or a signal at i
@@ -110,15 +116,21 @@ module _ (ws : List ℕ) where
     stepU inside unit-exists i = stepExists (isSignal (word ws (i + 1))) i
     stepU inside unit-atom i = rec goA i
 
+    -- after the P of a `lag`, if n stands at j: `,` and Q
+    abbrev pub stepLag : Tree → Bool → ℕ → Result
+    stepLag p true j = bind (rec (goB COMMA SQUARE-END) (j + 1)) (λ q m. ok (lag p (numWord (word ws j)) q) m)
+    stepLag p false j = no-rule
+
     abbrev pub stepA : Atom → ℕ → Result
-    stepA atom-test i = bind (rec goB (i + 1)) (λ p j. ok (test (testWord (word ws i)) p) j)
+    stepA atom-test i = bind (rec goSquare (i + 1)) (λ p j. ok (test (testWord (word ws i)) p) j)
     stepA atom-len i = withComparison len (i + 1)
-    stepA atom-count i = bind (rec goB (i + 1)) (λ p j. withComparison (count (countWord (word ws i)) p) j)
+    stepA atom-count i = bind (rec goSquare (i + 1)) (λ p j. withComparison (count (countWord (word ws i)) p) j)
+    stepA atom-lag i = bind (rec (goB SQUARE COMMA) (i + 1)) (λ p j. stepLag p (isNum (word ws j)) j)
     stepA atom-none i = no-rule
 
-    abbrev pub stepB : Bool → ℕ → Result
-    stepB true i = bind (rec (goF true) (i + 1)) (closed SQUARE-END)
-    stepB false i = no-rule
+    abbrev pub stepB : Bool → ℕ → ℕ → Result
+    stepB true after i = bind (rec (goF true) (i + 1)) (closed after)
+    stepB false after i = no-rule
 
     abbrev pub step : Goal → ℕ → Result
     step (goF inside) i = bind (rec (goD inside) i) (λ a j. stepF (joinOf inside (word ws j)) a j)
@@ -128,7 +140,7 @@ module _ (ws : List ℕ) where
     step (goCs inside a) i = stepC inside (eqb (word ws i) AND) a i
     step (goU inside) i = stepU inside (unitOf inside (word ws i)) i
     step goA i = stepA (atomOf (word ws i)) i
-    step goB i = stepB (eqb (word ws i) SQUARE) i
+    step (goB before after) i = stepB (eqb (word ws i) before) after i
 
 -- The recursion, to a depth.
 unfoldable pub parse : List ℕ → ℕ → Goal → ℕ → Result
@@ -144,7 +156,7 @@ rank (goC inside) = 3
 rank (goCs inside a) = 1
 rank (goU inside) = 2
 rank goA = 1
-rank goB = 1
+rank (goB before after) = 1
 
 abbrev pub depth : List ℕ → Goal → ℕ → ℕ
 depth ws g i = 6 * (length ws - i) + rank g

@@ -8,8 +8,8 @@ use Rattle.limits.specs.Limits.{textLimit, wordLimit}
 use Rattle.lists.specs.Text.{byte, bytes}
 use Rattle.lists.specs.Text.{lineEnd}
 use Rattle.lists.specs.Decimal.{isDigit, digitsAfter, numeral}
-use Rattle.words.specs.Word.{ROUND, ROUND-END, SQUARE, SQUARE-END, NOT, AND, OR, LE, LT, EQ, GT, GE}
-use Rattle.words.specs.Word.{BEGIN, KEPT, LEN, SUM, AGE, THEN, CHOP, EXISTS, PARAMETER, SIGNAL, LITERAL}
+use Rattle.words.specs.Word.{ROUND, ROUND-END, SQUARE, SQUARE-END, NOT, AND, OR, LE, LT, EQ, GT, GE, COMMA}
+use Rattle.words.specs.Word.{BEGIN, KEPT, LEN, SUM, AGE, LAG, THEN, CHOP, EXISTS, PARAMETER, SIGNAL, LITERAL}
 use Rattle.words.specs.Split.{classOf, run, keywordAmong, keywordOf, numberOf, runOf, wordOf}
 use Rattle.words.specs.Split.{Out, words, splitOf}
 use Rattle.words.specs.Split.Out.{refused, made}
@@ -60,10 +60,18 @@ examples =
     splits (bytes "!(len <= 1 then len <= 1)")
     (NOT ∷ ROUND ∷ LEN ∷ LE ∷ literal 1 ∷ THEN ∷ LEN ∷ LE ∷ literal 1 ∷ ROUND-END ∷ []) ∷
     -- all keywords and operators
-    splits (bytes "begin end point held kept len sum age then chop exists")
-    (BEGIN ∷ END ∷ POINT ∷ HELD ∷ KEPT ∷ LEN ∷ SUM ∷ AGE ∷ THEN ∷ CHOP ∷ EXISTS ∷ []) ∷
-    splits (bytes "()[]!&|< = > <=>=")
-    (ROUND ∷ ROUND-END ∷ SQUARE ∷ SQUARE-END ∷ NOT ∷ AND ∷ OR ∷ LT ∷ EQ ∷ GT ∷ LE ∷ GE ∷ []) ∷
+    splits (bytes "begin end point held kept len sum age lag then chop exists")
+    (BEGIN ∷ END ∷ POINT ∷ HELD ∷ KEPT ∷ LEN ∷ SUM ∷ AGE ∷ LAG ∷ THEN ∷ CHOP ∷ EXISTS ∷ []) ∷
+    splits (bytes "()[]!&|< = > <=>=,")
+    (ROUND ∷ ROUND-END ∷ SQUARE ∷ SQUARE-END ∷ NOT ∷ AND ∷ OR ∷ LT ∷ EQ ∷ GT ∷ LE ∷ GE ∷ COMMA ∷ []) ∷
+    -- `,` and `lag` are words wherever they stand, and so are the numbers beside a `,`
+    splits (bytes "lag[s0,1,s1]")
+    (LAG ∷ SQUARE ∷ signal 0 ∷ COMMA ∷ literal 1 ∷ COMMA ∷ signal 1 ∷ SQUARE-END ∷ []) ∷
+    splits (bytes ",lag,,") (COMMA ∷ LAG ∷ COMMA ∷ COMMA ∷ []) ∷
+    refuses (bytes "lag[s0,1000000,s1]") 3 ∷
+    refuses (bytes "lag[s0,01,s1]") 2 ∷
+    refuses (bytes "la") 2 ∷
+    refuses (bytes "lags") 2 ∷
     -- how long a text is (SPEC 2.1)
     refuses [] 1 ∷
     refuses (spaces (textLimit + 1)) 1 ∷

@@ -11,7 +11,7 @@ use Rattle.lists.specs.Number.{numberAt}
 use Rattle.lists.specs.Same.{same}
 use Rattle.lists.specs.Decimal.{Numeral, isDigit, numeral}
 use Rattle.lists.specs.Decimal.Numeral.{is, above, missing}
-use Rattle.words.specs.Word.{ROUND, ROUND-END, SQUARE, SQUARE-END, NOT, AND, OR, LE, LT, EQ, GT, GE}
+use Rattle.words.specs.Word.{ROUND, ROUND-END, SQUARE, SQUARE-END, NOT, AND, OR, LE, LT, EQ, GT, GE, COMMA}
 use Rattle.words.specs.Word.{BEGIN, PARAMETER, SIGNAL, LITERAL, keywords, within}
 use Rattle.words.specs.declared.Word.{Word}
 use Rattle.words.specs.declared.Word.the-variants.{Made, Bad}
@@ -38,7 +38,8 @@ operator s w = record { sign = byte s; word = w }
 abbrev pub operators : List Operator
 operators =
     operator "(" ROUND ∷ operator ")" ROUND-END ∷ operator "[" SQUARE ∷ operator "]" SQUARE-END ∷ operator "!" NOT ∷
-    operator "&" AND ∷ operator "|" OR ∷ operator "<" LT ∷ operator "=" EQ ∷ operator ">" GT ∷ []
+    operator "&" AND ∷ operator "|" OR ∷ operator "<" LT ∷ operator "=" EQ ∷ operator ">" GT ∷
+    operator "," COMMA ∷ []
 
 abbrev pub wordAmong : List Operator → ℕ → ℕ
 wordAmong [] b = OTHER

@@ -44,35 +44,41 @@ GT = 11
 abbrev pub GE : ℕ
 GE = 12
 
+abbrev pub COMMA : ℕ
+COMMA = 13
+
 -- SPEC 2.5: the names, numbered from BEGIN on.
 abbrev pub BEGIN : ℕ
-BEGIN = 13
+BEGIN = 14
 
 abbrev pub KEPT : ℕ
-KEPT = 17
+KEPT = 18
 
 abbrev pub LEN : ℕ
-LEN = 18
+LEN = 19
 
 abbrev pub SUM : ℕ
-SUM = 19
+SUM = 20
 
 abbrev pub AGE : ℕ
-AGE = 20
+AGE = 21
+
+abbrev pub LAG : ℕ
+LAG = 22
 
 abbrev pub THEN : ℕ
-THEN = 21
+THEN = 23
 
 abbrev pub CHOP : ℕ
-CHOP = 22
+CHOP = 24
 
 abbrev pub EXISTS : ℕ
-EXISTS = 23
+EXISTS = 25
 
 abbrev pub keywords : List (List ℕ)
 keywords =
     bytes "begin" ∷ bytes "end" ∷ bytes "point" ∷ bytes "held" ∷ bytes "kept" ∷ bytes "len" ∷ bytes "sum" ∷
-    bytes "age" ∷ bytes "then" ∷ bytes "chop" ∷ bytes "exists" ∷ []
+    bytes "age" ∷ bytes "lag" ∷ bytes "then" ∷ bytes "chop" ∷ bytes "exists" ∷ []
 
 -- SPEC 2.6: parameter n is the word PARAMETER + n, signal n the word SIGNAL + n. SPEC 2.7: literal n is the word
 -- LITERAL + n.

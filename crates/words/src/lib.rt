@@ -38,27 +38,31 @@ const GT: u32 = 11;
 
 const GE: u32 = 12;
 
-pub const BEGIN: u32 = 13;
+pub const COMMA: u32 = 13;
 
-const END: u32 = 14;
+pub const BEGIN: u32 = 14;
 
-const POINT: u32 = 15;
+const END: u32 = 15;
 
-const HELD: u32 = 16;
+const POINT: u32 = 16;
 
-pub const KEPT: u32 = 17;
+const HELD: u32 = 17;
 
-pub const LEN: u32 = 18;
+pub const KEPT: u32 = 18;
 
-pub const SUM: u32 = 19;
+pub const LEN: u32 = 19;
 
-const AGE: u32 = 20;
+pub const SUM: u32 = 20;
 
-pub const THEN: u32 = 21;
+const AGE: u32 = 21;
 
-pub const CHOP: u32 = 22;
+pub const LAG: u32 = 22;
 
-pub const EXISTS: u32 = 23;
+pub const THEN: u32 = 23;
+
+pub const CHOP: u32 = 24;
+
+pub const EXISTS: u32 = 25;
 
 pub const PARAMETER: u32 = 32;
 
@@ -113,6 +117,7 @@ fn class(b: u8) -> u32
         b'<' => LT,
         b'=' => EQ,
         b'>' => GT,
+        b',' => COMMA,
         _ => OTHER,
     }
 }
@@ -164,7 +169,7 @@ fn keyword(run: &[u8]) -> u32
         b'p' => spelled_or(run, b"point", POINT, 0),
         b'h' => spelled_or(run, b"held", HELD, 0),
         b'k' => spelled_or(run, b"kept", KEPT, 0),
-        b'l' => spelled_or(run, b"len", LEN, 0),
+        b'l' => spelled_or(run, b"len", LEN, spelled_or(run, b"lag", LAG, 0)),
         b's' => spelled_or(run, b"sum", SUM, 0),
         b'a' => spelled_or(run, b"age", AGE, 0),
         b't' => spelled_or(run, b"then", THEN, 0),

@@ -29,6 +29,7 @@ class-spec =
     (λ c. known (c .match .keys9))
     (λ c. known (c .match .keys10))
     (λ c. known (c .match .keys11))
+    (λ c. known (c .match .keys12))
     (λ c. sym (digit-in-run _ (c .before .if1 .left) (c .if2 .taken)))
     (λ c. sym (letter-in-run _ (c .before .if3 .left) (c .if4 .taken)))
     (λ c. sym (other _ (below-digits _ (c .if1 .taken)) (c .before .match .rest)))

@@ -27,13 +27,20 @@ alone : (i : ℕ) (c : tie.After-byte-at) {b r : ℕ} → c .byte-at .result ≡
     → ((l : List ℕ) → one i (b ∷ l) ≡ keywordOf (b ∷ l)) → r ≡ one i (run c) → r ≡ keywordOf (run c)
 alone i = arm (one i)
 
--- `end` and `exists` begin with the same byte.
+-- `end` and `exists` begin with the same byte, and so do `len` and `lag`.
 end-or-exists : tie.Need-returns-2
 unfolding keywordOf keywordAmong
 end-or-exists c =
     let e = c .before .before .before .before in
-    arm (λ r. spelledAs 1 r (one 10 r)) (e .before) (e .match .keys2) tt (λ l. refl)
+    arm (λ r. spelledAs 1 r (one 11 r)) (e .before) (e .match .keys2) tt (λ l. refl)
     (c .spelled-or3 .ensures ∙ rw (c .before .spelled-or2 .ensures))
+
+len-or-lag : tie.Need-returns-6
+unfolding keywordOf keywordAmong
+len-or-lag c =
+    let e = c .before .before .before .before in
+    arm (λ r. spelledAs 5 r (one 8 r)) (e .before) (e .match .keys6) tt (λ l. refl)
+    (c .spelled-or8 .ensures ∙ rw (c .before .spelled-or7 .ensures))
 
 -- No keyword begins with the byte.
 none-begins : tie.Need-returns-11
@@ -58,6 +65,8 @@ keyword-spec =
     (λ c. search needs)
     (λ c κs. search needs)
     (λ c. search needs)
+    (λ c. search needs)
+    (λ c κs. search needs)
     (λ c κs. search needs)
     (λ c. search needs)
     (λ c κs. search needs)
@@ -72,9 +81,9 @@ keyword-spec =
     (λ c. let k = c .before .before in alone 2 (k .before) (k .match .keys3) tt (λ l. refl) (c .spelled-or4 .ensures))
     (λ c. let k = c .before .before in alone 3 (k .before) (k .match .keys4) tt (λ l. refl) (c .spelled-or5 .ensures))
     (λ c. let k = c .before .before in alone 4 (k .before) (k .match .keys5) tt (λ l. refl) (c .spelled-or6 .ensures))
-    (λ c. let k = c .before .before in alone 5 (k .before) (k .match .keys6) tt (λ l. refl) (c .spelled-or7 .ensures))
-    (λ c. let k = c .before .before in alone 6 (k .before) (k .match .keys7) tt (λ l. refl) (c .spelled-or8 .ensures))
-    (λ c. let k = c .before .before in alone 7 (k .before) (k .match .keys8) tt (λ l. refl) (c .spelled-or9 .ensures))
-    (λ c. let k = c .before .before in alone 8 (k .before) (k .match .keys9) tt (λ l. refl) (c .spelled-or10 .ensures))
-    (λ c. let k = c .before .before in alone 9 (k .before) (k .match .keys10) tt (λ l. refl) (c .spelled-or11 .ensures))
+    len-or-lag
+    (λ c. let k = c .before .before in alone 6 (k .before) (k .match .keys7) tt (λ l. refl) (c .spelled-or9 .ensures))
+    (λ c. let k = c .before .before in alone 7 (k .before) (k .match .keys8) tt (λ l. refl) (c .spelled-or10 .ensures))
+    (λ c. let k = c .before .before in alone 9 (k .before) (k .match .keys9) tt (λ l. refl) (c .spelled-or11 .ensures))
+    (λ c. let k = c .before .before in alone 10 (k .before) (k .match .keys10) tt (λ l. refl) (c .spelled-or12 .ensures))
     none-begins)
