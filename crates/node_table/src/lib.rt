@@ -66,12 +66,21 @@ pub struct Node {
 // Past a node's last row.
 const NO_ROW: Row = Row(0, NOUGHT, NOUGHT, NOUGHT);
 
-// The rows that `kept` and `held` share.
+// The rows that `kept`, `held` and `lag` share.
 const KEPT_1: Row = Row(tables::BOOLEAN_PRE as u8, THIRD, NOUGHT, NOUGHT);
 
 const KEPT_2: Row = Row(tables::OR as u8, START, FIRST, NOUGHT);
 
 const KEPT_3: Row = Row(tables::AND as u8, SECOND, LAST, NOUGHT);
+
+// The rows that `age` and `lag` share.
+const RUN_1: Row = Row(tables::COUNT_PRE as u8, FOURTH, NOUGHT, NOUGHT);
+
+const RUN_2: Row = Row(tables::IF as u8, IDLE, FIRST, NOUGHT);
+
+const RUN_3: Row = Row(tables::CAPPED as u8, SECOND, LAST, NOUGHT);
+
+const RUN_4: Row = Row(tables::IF as u8, LAST, THIRD, NOUGHT);
 
 // The nodes. s and n are the start flow and its negation, P the last operand, m a memory.
 
@@ -237,18 +246,46 @@ const SUM_NODE: Node = Node {
     idle: IDLE,
 };
 
-// `age`: c = if P then cap(if n then m else 0, P) else 0, m = 0 -> pre c.
+// `age`: c = if P then cap(r, P) else 0, r = if n then m else 0, m = 0 -> pre c.
 const AGE_NODE: Node = Node {
     count: 5,
-    rows: [
-        Row(tables::COUNT_PRE as u8, FOURTH, NOUGHT, NOUGHT),
-        Row(tables::IF as u8, IDLE, FIRST, NOUGHT),
-        Row(tables::CAPPED as u8, SECOND, LAST, NOUGHT),
-        Row(tables::IF as u8, LAST, THIRD, NOUGHT),
-        Row(COMPARISON, FOURTH, A, C),
-    ],
+    rows: [RUN_1, RUN_2, RUN_3, RUN_4, Row(COMPARISON, FOURTH, A, C)],
     takes: 1,
     result: FIFTH,
+    idle: IDLE,
+};
+
+// The run of the P of a `lag` up to one tick ago: r of `age`.
+const RUN_NODE: Node = Node {
+    count: 4,
+    rows: [RUN_1, RUN_2, RUN_3, RUN_4, NO_ROW],
+    takes: 1,
+    result: SECOND,
+    idle: IDLE,
+};
+
+// That the Q of a `lag`, P here, holds if it is due, r the operand before: (r < n or r <= 0) or P. In `r <= 0` both the
+// comparison and the literal are 0.
+const FINE_NODE: Node = Node {
+    count: 4,
+    rows: [
+        Row(COMPARISON, PREVIOUS, A, C),
+        Row(tables::COMPARE_LITERAL as u8, PREVIOUS, NOUGHT, NOUGHT),
+        Row(tables::OR as u8, FIRST, SECOND, NOUGHT),
+        Row(tables::OR as u8, THIRD, LAST, NOUGHT),
+        NO_ROW,
+    ],
+    takes: 2,
+    result: FOURTH,
+    idle: IDLE,
+};
+
+// That this was so at each tick, the present one too: the rows of `kept`, and their conjunction.
+const ALWAYS_NODE: Node = Node {
+    count: 3,
+    rows: [KEPT_1, KEPT_2, KEPT_3, NO_ROW, NO_ROW],
+    takes: 1,
+    result: THIRD,
     idle: IDLE,
 };
 
@@ -326,6 +363,9 @@ const NODES: [Node; PLACES] = [
     LEN_NODE,
     SUM_NODE,
     AGE_NODE,
+    RUN_NODE,
+    FINE_NODE,
+    ALWAYS_NODE,
     LEAD_END_NODE,
     THEN_NODE,
     WHOLE_NODE,

@@ -2,7 +2,7 @@
 use mathlib.Core.Bool.{Bool, true, false, _&&_, cond}
 use mathlib.Core.Path.{_≡_}
 use mathlib.Core.List.{List, [], _++_}
-use Prim.Native.Nat.{ℕ, _+_, _-_, _*_, _≤_}
+use Prim.Native.Nat.{ℕ, _+_, _-_, _*_, _≤_, _<_}
 use lib.ListN.{length}
 use lib.Seq.{sets}
 use Rattle.limits.specs.Limits.{wordLimit}
@@ -62,6 +62,12 @@ pub record Room (ws : List ℕ) (i : ℕ) (arena : List ℕ) (top : ℕ) : Type 
 pub record Begun (w : ℕ) (ws : List ℕ) (i : ℕ) (arena : List ℕ) (top : ℕ) : Type 0 where
   pub room : Room ws i arena top
   pub first : word ws i ≡ w
+
+-- The same where two words are given, which are not what stands past the end.
+pub record Between (before after : ℕ) (ws : List ℕ) (i : ℕ) (arena : List ℕ) (top : ℕ) : Type 0 where
+  pub room : Room ws i arena top
+  pub opens : 0 < before
+  pub closes : 0 < after
 
 -- One record stored at `top`.
 pub record Pushed (before : List ℕ) (top k a b c : ℕ) (r : ℕ) (after : List ℕ) : Type 0 where

@@ -5,10 +5,10 @@ ghost use mathlib.Core.Bool.{false};
 ghost use Prim.Native.Nat.{_+_, _≤_};
 ghost use lib.ListN.{length};
 ghost use Rattle.limits.specs.Limits.{wordLimit};
-ghost use Rattle.words.specs.Word.{NOT, ROUND, THEN, CHOP, EXISTS};
+ghost use Rattle.words.specs.Word.{NOT, ROUND, LAG, THEN, CHOP, EXISTS};
 ghost use Rattle.grammar.specs.Parse.Goal.{goF, goD, goC, goU, goA, goB};
-ghost use Rattle.parser.specs.Contract.{Parses, ParsesThen, ParsesChop, Room, Begun, Pushed};
-ghost use Rattle.parser.specs.Contract.{ParsesLeaf, ParsesComparison};
+ghost use Rattle.parser.specs.Contract.{Parses, ParsesThen, ParsesChop, Room, Begun, Between};
+ghost use Rattle.parser.specs.Contract.{Pushed, ParsesLeaf, ParsesComparison};
 
 // A tree that was read: the position after its words, the place after its records, and its facts; or none.
 pub enum Parsed {
@@ -235,7 +235,8 @@ fn atom(ws: &[u32], at: usize, arena: &mut [u32], top: usize) -> Parsed
 {
     let k = lists::number_at(ws, at);
     if words::is_test(k) {
-        let Parsed::At(j, t, _) = prop(ws, at + 1, arena, top) else {
+        let Parsed::At(j, t, _) = prop(ws, words::SQUARE, words::SQUARE_END, at + 1, arena, top)
+        else {
             return Parsed::No;
         };
         let end = push(arena, t, formulas::TEST + (k - words::BEGIN), 0, 0, 0);
@@ -245,7 +246,8 @@ fn atom(ws: &[u32], at: usize, arena: &mut [u32], top: usize) -> Parsed
         return comparison(ws, at + 1, arena, top, formulas::LEN, true);
     }
     if words::is_count(k) {
-        let Parsed::At(j, t, _) = prop(ws, at + 1, arena, top) else {
+        let Parsed::At(j, t, _) = prop(ws, words::SQUARE, words::SQUARE_END, at + 1, arena, top)
+        else {
             return Parsed::No;
         };
         return comparison(
@@ -257,21 +259,53 @@ fn atom(ws: &[u32], at: usize, arena: &mut [u32], top: usize) -> Parsed
             facts::is_lead_count(k),
         );
     }
+    if k == words::LAG {
+        return lag(ws, at, arena, top);
+    }
     Parsed::No
 }
 
-// SPEC 3.6: a P in square brackets.
-fn prop(ws: &[u32], at: usize, arena: &mut [u32], top: usize) -> Parsed
-    requires { ⌜ Room (now ws) at (now arena) top ⌝ }
-    ensures { λ r. ⌜ Parses goB (now (ws .entry)) at (now (arena .entry)) top r (now (arena .exit)) ⌝ }
+// An atom that begins with `lag`: P between `[` and `,`, then n, then Q between `,` and `]`.
+fn lag(ws: &[u32], at: usize, arena: &mut [u32], top: usize) -> Parsed
+    requires { ⌜ Begun LAG (now ws) at (now arena) top ⌝ }
+    ensures { λ r. ⌜ Parses goA (now (ws .entry)) at (now (arena .entry)) top r (now (arena .exit)) ⌝ }
 {
-    if lists::number_at(ws, at) != words::SQUARE {
+    let Parsed::At(j, t, _) = prop(ws, words::SQUARE, words::COMMA, at + 1, arena, top) else {
+        return Parsed::No;
+    };
+    let n = lists::number_at(ws, j);
+    if !words::is_num(n) {
+        return Parsed::No;
+    }
+    let run = push(arena, t, formulas::RUN, 0, 0, 0);
+    let Parsed::At(m, e, _) = prop(ws, words::COMMA, words::SQUARE_END, j + 1, arena, run) else {
+        return Parsed::No;
+    };
+    let fine = push(
+        arena,
+        e,
+        formulas::FINE,
+        words::LT - words::LE,
+        facts::num_kind(n),
+        facts::num_value(n),
+    );
+    let end = push(arena, fine, formulas::ALWAYS, 0, 0, 0);
+    Parsed::At(m, end, facts::atom_facts(true))
+}
+
+// SPEC 3.6: a P between two words.
+fn prop(ws: &[u32], before: u32, after: u32, at: usize, arena: &mut [u32], top: usize) -> Parsed
+    requires { ⌜ Between before after (now ws) at (now arena) top ⌝ }
+    ensures { λ r.
+        ⌜ Parses (goB before after) (now (ws .entry)) at (now (arena .entry)) top r (now (arena .exit)) ⌝ }
+{
+    if lists::number_at(ws, at) != before {
         return Parsed::No;
     }
     let Parsed::At(j, t, a) = parse_f(ws, true, at + 1, arena, top) else {
         return Parsed::No;
     };
-    if lists::number_at(ws, j) != words::SQUARE_END {
+    if lists::number_at(ws, j) != after {
         return Parsed::No;
     }
     Parsed::At(j + 1, t, a)

@@ -10,19 +10,21 @@ use lib.ListN.{length}
 use Rattle.lists.specs.Number.{numberAt}
 use Rattle.traces.specs.Trace.{truth}
 use Rattle.traces.specs.Compare.{Op, opNumber}
+use Rattle.traces.specs.Compare.Op.{lt}
 use Rattle.formulas.specs.Formula.{Num, Prop, Formula}
 use Rattle.formulas.specs.Formula.Prop.{constant, signal, negP, andP, orP}
 use Rattle.formulas.specs.Formula.Test.{begin, end, point, held, kept}
 use Rattle.formulas.specs.Formula.Count.{sum, age}
-use Rattle.formulas.specs.Formula.Formula.{test, len, count, neg, and, or, then}
+use Rattle.formulas.specs.Formula.Formula.{test, len, count, lag, neg, and, or, then}
 use Rattle.formulas.specs.Arena.{numKind, numValue}
 use Rattle.tables.specs.Table.{Equation}
 use Rattle.tables.specs.Kind.{SIGNAL, START, NOT}
 use Rattle.limits.specs.Limits.{signalCount}
 use Rattle.tables.specs.Table.{equation}
 use Rattle.scheme.specs.Scheme.{_⊕_, Name, Node, constantNode, signalNode, notNode, andNode, orNode, beginNode}
-use Rattle.scheme.specs.Scheme.{endNode, pointNode, heldNode, keptNode, lenNode, sumNode, ageNode, leadEndNode}
-use Rattle.scheme.specs.Scheme.{thenNode, wholeNode, Values, valueNamed, comparisonOf, filled}
+use Rattle.scheme.specs.Scheme.{endNode, pointNode, heldNode, keptNode, lenNode, sumNode, ageNode, runNode}
+use Rattle.scheme.specs.Scheme.{fineNode, alwaysNode, leadEndNode, thenNode, wholeNode, Values, valueNamed}
+use Rattle.scheme.specs.Scheme.{comparisonOf, filled}
 use Rattle.scheme.specs.Scheme.Name.{Fourth}
 
 -- A block of equations, and the flow that is its result.
@@ -43,14 +45,14 @@ flowsAt o n s p q =
     record { place = o; idle = n; start = s; last = p; previous = q; signal = 0; a = 0; comparison = 0; c = 0 }
 
 -- The values at a comparison of a count with x.
-abbrev pub comparing : (place idle last : ℕ) → Op → Num → Values
-comparing o n p op x =
+abbrev pub comparing : (place idle last previous : ℕ) → Op → Num → Values
+comparing o n p q op x =
     record {
       place = o;
       idle = n;
       start = 0;
       last = p;
-      previous = 0;
+      previous = q;
       signal = 0;
       a = opNumber op;
       comparison = comparisonOf (numKind x);
@@ -94,13 +96,23 @@ abbrev pub held-es : ℕ → ℕ → ℕ → ℕ → List Equation
 held-es s n o p = filled (flowsAt o n s p 0) (heldNode .rows)
 
 abbrev pub len-es : ℕ → ℕ → Op → Num → List Equation
-len-es n o op x = filled (comparing o n 0 op x) (lenNode .rows)
+len-es n o op x = filled (comparing o n 0 0 op x) (lenNode .rows)
 
 abbrev pub sum-es : ℕ → Op → Num → ℕ → ℕ → List Equation
-sum-es n op x o p = filled (comparing o n p op x) (sumNode .rows)
+sum-es n op x o p = filled (comparing o n p 0 op x) (sumNode .rows)
 
 abbrev pub age-es : ℕ → Op → Num → ℕ → ℕ → List Equation
-age-es n op x o p = filled (comparing o n p op x) (ageNode .rows)
+age-es n op x o p = filled (comparing o n p 0 op x) (ageNode .rows)
+
+-- A `lag`: after its P, p; after its Q, q, where r is P's run; and after what the second of these gives, f.
+abbrev pub run-es : ℕ → ℕ → ℕ → List Equation
+run-es n o p = filled (flowsAt o n 0 p 0) (runNode .rows)
+
+abbrev pub fine-es : Num → ℕ → ℕ → ℕ → List Equation
+fine-es x o r q = filled (comparing o 0 q r lt x) (fineNode .rows)
+
+abbrev pub always-es : ℕ → ℕ → ℕ → List Equation
+always-es s o f = filled (flowsAt o 0 s f 0) (alwaysNode .rows)
 
 -- The end of the lead l: the fourth of these flows is the second part's start, the fifth its negation.
 abbrev pub lead-end-es : ℕ → ℕ → ℕ → List Equation
@@ -146,6 +158,24 @@ atom-block rest d o x =
     let o′ : ℕ = placeAfter o (x .es) in
     record { es = x .es ++ rest o′ (x .out); out = ownFlow o′ (d .result) }
 
+-- Where the Q of a `lag` begins, and where its last equations do: after the rows that stand at place o.
+abbrev pub afterRun : ℕ → ℕ
+afterRun o = o ⊕ length (runNode .rows)
+
+abbrev pub afterFine : ℕ → ℕ
+afterFine o = o ⊕ length (fineNode .rows)
+
+-- A `lag` over the blocks x of its P and y of its Q: o′ is the place after x.
+abbrev pub lag-block : ℕ → ℕ → Num → ℕ → Block → Block → Block
+lag-block s n v o′ x y =
+    let o″ : ℕ = placeAfter (afterRun o′) (y .es) in
+    let fine : List Equation = fine-es v o″ (ownFlow o′ (runNode .result)) (y .out) in
+    let always : List Equation = always-es s (afterFine o″) (ownFlow o″ (fineNode .result)) in
+    record {
+      es = x .es ++ (run-es n o′ (x .out) ++ (y .es ++ (fine ++ always)));
+      out = ownFlow (afterFine o″) (alwaysNode .result);
+    }
+
 -- The start flow of a second part and its negation, where the end of its lead stands at place o, and the place after
 -- that.
 abbrev pub secondStart : ℕ → ℕ
@@ -185,6 +215,8 @@ module _ (flowOf : ℕ → ℕ) where
   emit (len op x) s n o = record { es = len-es n o op x; out = ownFlow o (lenNode .result) }
   emit (count sum p op x) s n o = atom-block (sum-es n op x) sumNode o (emitP p o)
   emit (count age p op x) s n o = atom-block (age-es n op x) ageNode o (emitP p o)
+  emit (lag p x q) s n o =
+      let o′ : ℕ = placeAfter o (emitP p o .es) in lag-block s n x o′ (emitP p o) (emitP q (afterRun o′))
   emit (neg f) s n o = not-block o (emit f s n o)
   emit (and f g) s n o = join-block and-es andNode o (emit f s n o) (emit g s n (placeAfter o (emit f s n o .es)))
   emit (or f g) s n o = join-block or-es orNode o (emit f s n o) (emit g s n (placeAfter o (emit f s n o .es)))
@@ -206,6 +238,7 @@ abbrev pub namedBy : Formula → ℕ → Bool
 namedBy (test k p) j = namedByP p j
 namedBy (len o n) j = false
 namedBy (count k p o n) j = namedByP p j
+namedBy (lag p n q) j = namedByP p j || namedByP q j
 namedBy (neg f) j = namedBy f j
 namedBy (and f g) j = namedBy f j || namedBy g j
 namedBy (or f g) j = namedBy f j || namedBy g j

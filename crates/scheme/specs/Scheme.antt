@@ -88,10 +88,21 @@ lenRows = one COUNT-PRE Third ∷ two CAPPED First Idle ∷ two IF Idle Second �
 abbrev pub sumRows : List Row
 sumRows = one COUNT-PRE Third ∷ two IF Idle First ∷ two CAPPED Second Last ∷ comparisonRow Second ∷ []
 
--- c = if P then cap(if n then m else 0, P) else 0, m = 0 -> pre c
+-- c = if P then cap(r, P) else 0, r = if n then m else 0, m = 0 -> pre c: c is P's run up to now, r its run up to one
+-- tick ago
+abbrev pub runRows : List Row
+runRows = one COUNT-PRE Fourth ∷ two IF Idle First ∷ two CAPPED Second Last ∷ two IF Last Third ∷ []
+
+-- and c compared
 abbrev pub ageRows : List Row
-ageRows =
-    one COUNT-PRE Fourth ∷ two IF Idle First ∷ two CAPPED Second Last ∷ two IF Last Third ∷ comparisonRow Fourth ∷ []
+ageRows = runRows ++ (comparisonRow Fourth ∷ [])
+
+-- P is Q of a `lag` and r the run of its P up to one tick ago, the operand before: (r < n or r <= 0) or P. In
+-- `r <= 0` both the comparison and the literal are 0.
+abbrev pub fineRows : List Row
+fineRows =
+    comparisonRow Previous ∷ row (OfKind COMPARE-LITERAL) Previous Nought Nought ∷ two OR First Second
+    ∷ two OR Third Last ∷ []
 
 -- the end of the lead P: n and pre(P) and not P; the last is its negation
 abbrev pub leadEndRows : List Row
@@ -162,6 +173,18 @@ sumNode = node sumRows 1 Fourth Idle
 abbrev pub ageNode : Node
 ageNode = node ageRows 1 Fifth Idle
 
+-- The three nodes of a `lag`. Its P's run up to one tick ago,
+abbrev pub runNode : Node
+runNode = node runRows 1 Second Idle
+
+-- that Q holds if it is due,
+abbrev pub fineNode : Node
+fineNode = node fineRows 2 Fourth Idle
+
+-- and that this was so at each tick, the present one too: the rows of `kept`, and their conjunction.
+abbrev pub alwaysNode : Node
+alwaysNode = node keptRows 1 Third Idle
+
 -- The end of a lead is the start of the second part: the present start waits on the stack until `then` takes it back.
 abbrev pub leadEndNode : Node
 leadEndNode = node leadEndRows 1 Idle Fifth
@@ -177,7 +200,7 @@ abbrev pub nodeList : List Node
 nodeList =
     constantNode ∷ signalNode ∷ notNode ∷ andNode ∷ orNode
     ∷ beginNode ∷ endNode ∷ pointNode ∷ heldNode ∷ keptNode
-    ∷ lenNode ∷ sumNode ∷ ageNode ∷ leadEndNode ∷ thenNode ∷ wholeNode ∷ []
+    ∷ lenNode ∷ sumNode ∷ ageNode ∷ runNode ∷ fineNode ∷ alwaysNode ∷ leadEndNode ∷ thenNode ∷ wholeNode ∷ []
 
 abbrev pub nodeCount : ℕ
 nodeCount = suc WHOLE
