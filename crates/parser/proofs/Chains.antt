@@ -1,5 +1,5 @@
 -- D and C: parts that one word joins, grouped from the left. One set of lemmas over the word, the kind of its records
--- and the goals, for each turn of the code of `parse_d` and of `parse_c`. Assumes nothing.
+-- and the goals, for each turn of the code of `read_d` and of `read_c`. Assumes nothing.
 use mathlib.Core.Bool.{Bool}
 use mathlib.Core.List.{List, _++_}
 use mathlib.Core.Path.{_≡_, refl, sym, ap, ap₂, _∙_}

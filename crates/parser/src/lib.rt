@@ -74,11 +74,11 @@ fn comparison(ws: &[u32], at: usize, arena: &mut [u32], top: usize, k: u32, lead
 }
 
 // SPEC 3.1: F.
-pub fn parse_f(ws: &[u32], inside: bool, at: usize, arena: &mut [u32], top: usize) -> Parsed
+pub fn read_f(ws: &[u32], inside: bool, at: usize, arena: &mut [u32], top: usize) -> Parsed
     requires { ⌜ Room (now ws) at (now arena) top ⌝ }
     ensures { λ r. ⌜ Parses (goF inside) (now (ws .entry)) at (now (arena .entry)) top r (now (arena .exit)) ⌝ }
 {
-    let Parsed::At(j, t, a) = parse_d(ws, inside, at, arena, top) else {
+    let Parsed::At(j, t, a) = read_d(ws, inside, at, arena, top) else {
         return Parsed::No;
     };
     if inside {
@@ -102,7 +102,7 @@ fn then(ws: &[u32], at: usize, arena: &mut [u32], top: usize, a: Facts) -> Parse
     ensures { λ r. ⌜ ParsesThen a (now (ws .entry)) at (now (arena .entry)) top r (now (arena .exit)) ⌝ }
 {
     let mark = push(arena, top, formulas::LEAD_END, 0, 0, 0);
-    let Parsed::At(m, e, b) = parse_f(ws, false, at + 1, arena, mark) else {
+    let Parsed::At(m, e, b) = read_f(ws, false, at + 1, arena, mark) else {
         return Parsed::No;
     };
     let end = push(arena, e, formulas::THEN, 0, 0, 0);
@@ -114,7 +114,7 @@ fn chop(ws: &[u32], at: usize, arena: &mut [u32], top: usize, a: Facts) -> Parse
     requires { ⌜ Begun CHOP (now ws) at (now arena) top × (a .nodes ≤ wordLimit) ⌝ }
     ensures { λ r. ⌜ ParsesChop a (now (ws .entry)) at (now (arena .entry)) top r (now (arena .exit)) ⌝ }
 {
-    let Parsed::At(m, e, b) = parse_f(ws, false, at + 1, arena, top) else {
+    let Parsed::At(m, e, b) = read_f(ws, false, at + 1, arena, top) else {
         return Parsed::No;
     };
     let end = push(arena, e, formulas::CHOP, 0, 0, 0);
@@ -122,18 +122,18 @@ fn chop(ws: &[u32], at: usize, arena: &mut [u32], top: usize, a: Facts) -> Parse
 }
 
 // SPEC 3.2: D, from the left.
-fn parse_d(ws: &[u32], inside: bool, at: usize, arena: &mut [u32], top: usize) -> Parsed
+fn read_d(ws: &[u32], inside: bool, at: usize, arena: &mut [u32], top: usize) -> Parsed
     requires { ⌜ Room (now ws) at (now arena) top ⌝ }
     ensures { λ r. ⌜ Parses (goD inside) (now (ws .entry)) at (now (arena .entry)) top r (now (arena .exit)) ⌝ }
 {
-    let Parsed::At(first, low, a) = parse_c(ws, inside, at, arena, top) else {
+    let Parsed::At(first, low, a) = read_c(ws, inside, at, arena, top) else {
         return Parsed::No;
     };
     let mut j = first;
     let mut t = low;
     let mut facts = a;
     while lists::number_at(ws, j) == words::OR {
-        let Parsed::At(m, e, b) = parse_c(ws, inside, j + 1, arena, t) else {
+        let Parsed::At(m, e, b) = read_c(ws, inside, j + 1, arena, t) else {
             return Parsed::No;
         };
         t = push(arena, e, formulas::OR, 0, 0, 0);
@@ -144,18 +144,18 @@ fn parse_d(ws: &[u32], inside: bool, at: usize, arena: &mut [u32], top: usize) -
 }
 
 // SPEC 3.3: C, from the left.
-fn parse_c(ws: &[u32], inside: bool, at: usize, arena: &mut [u32], top: usize) -> Parsed
+fn read_c(ws: &[u32], inside: bool, at: usize, arena: &mut [u32], top: usize) -> Parsed
     requires { ⌜ Room (now ws) at (now arena) top ⌝ }
     ensures { λ r. ⌜ Parses (goC inside) (now (ws .entry)) at (now (arena .entry)) top r (now (arena .exit)) ⌝ }
 {
-    let Parsed::At(first, low, a) = parse_u(ws, inside, at, arena, top) else {
+    let Parsed::At(first, low, a) = read_u(ws, inside, at, arena, top) else {
         return Parsed::No;
     };
     let mut j = first;
     let mut t = low;
     let mut facts = a;
     while lists::number_at(ws, j) == words::AND {
-        let Parsed::At(m, e, b) = parse_u(ws, inside, j + 1, arena, t) else {
+        let Parsed::At(m, e, b) = read_u(ws, inside, j + 1, arena, t) else {
             return Parsed::No;
         };
         t = push(arena, e, formulas::AND, 0, 0, 0);
@@ -166,7 +166,7 @@ fn parse_c(ws: &[u32], inside: bool, at: usize, arena: &mut [u32], top: usize) -
 }
 
 // SPEC 3.4: U.
-fn parse_u(ws: &[u32], inside: bool, at: usize, arena: &mut [u32], top: usize) -> Parsed
+fn read_u(ws: &[u32], inside: bool, at: usize, arena: &mut [u32], top: usize) -> Parsed
     requires { ⌜ Room (now ws) at (now arena) top ⌝ }
     ensures { λ r. ⌜ Parses (goU inside) (now (ws .entry)) at (now (arena .entry)) top r (now (arena .exit)) ⌝ }
 {
@@ -191,7 +191,7 @@ fn not(ws: &[u32], inside: bool, at: usize, arena: &mut [u32], top: usize) -> Pa
     requires { ⌜ Begun NOT (now ws) at (now arena) top ⌝ }
     ensures { λ r. ⌜ Parses (goU inside) (now (ws .entry)) at (now (arena .entry)) top r (now (arena .exit)) ⌝ }
 {
-    let Parsed::At(j, t, a) = parse_u(ws, inside, at + 1, arena, top) else {
+    let Parsed::At(j, t, a) = read_u(ws, inside, at + 1, arena, top) else {
         return Parsed::No;
     };
     let end = push(arena, t, formulas::NOT, 0, 0, 0);
@@ -203,7 +203,7 @@ fn round(ws: &[u32], inside: bool, at: usize, arena: &mut [u32], top: usize) -> 
     requires { ⌜ Begun ROUND (now ws) at (now arena) top ⌝ }
     ensures { λ r. ⌜ Parses (goU inside) (now (ws .entry)) at (now (arena .entry)) top r (now (arena .exit)) ⌝ }
 {
-    let Parsed::At(j, t, a) = parse_f(ws, inside, at + 1, arena, top) else {
+    let Parsed::At(j, t, a) = read_f(ws, inside, at + 1, arena, top) else {
         return Parsed::No;
     };
     if lists::number_at(ws, j) != words::ROUND_END {
@@ -221,7 +221,7 @@ fn exists(ws: &[u32], at: usize, arena: &mut [u32], top: usize) -> Parsed
     if !words::is_signal(w) {
         return Parsed::No;
     }
-    let Parsed::At(j, t, a) = parse_u(ws, false, at + 2, arena, top) else {
+    let Parsed::At(j, t, a) = read_u(ws, false, at + 2, arena, top) else {
         return Parsed::No;
     };
     let end = push(arena, t, formulas::EXISTS, w - words::SIGNAL, 0, 0);
@@ -302,7 +302,7 @@ fn prop(ws: &[u32], before: u32, after: u32, at: usize, arena: &mut [u32], top: 
     if lists::number_at(ws, at) != before {
         return Parsed::No;
     }
-    let Parsed::At(j, t, a) = parse_f(ws, true, at + 1, arena, top) else {
+    let Parsed::At(j, t, a) = read_f(ws, true, at + 1, arena, top) else {
         return Parsed::No;
     };
     if lists::number_at(ws, j) != after {

@@ -142,7 +142,7 @@ fn read_words(ws: &[u32], arena: &mut [u32]) -> Records
     if over {
         return Records::Refused(5);
     }
-    let Parsed::At(next, top, facts) = parser::parse_f(ws, false, 0, arena, 0) else {
+    let Parsed::At(next, top, facts) = parser::read_f(ws, false, 0, arena, 0) else {
         return Records::Refused(6);
     };
     if next != ws.len() {

@@ -23,14 +23,14 @@ use Rattle.rules.proofs.read_words.Tie as tie
 abbrev start : tie.After-limits-of → tie.Start
 start c = c .before .before .before
 
-abbrev passed : tie.After-parse-f → tie.After-limits-of
+abbrev passed : tie.After-read-f → tie.After-limits-of
 passed c = c .before .before .before
 
-abbrev call : tie.After-known-told → tie.After-parse-f
+abbrev call : tie.After-known-told → tie.After-read-f
 call c = c .before .before .before .before .before
 
 -- The words.
-abbrev text : tie.After-parse-f → List ℕ
+abbrev text : tie.After-read-f → List ℕ
 text c = start (passed c) .args .ws .now
 
 -- Over the limits.
@@ -40,7 +40,7 @@ over-limits c =
     laid-refused 5 (limits-words (start pass .args .ws .now) (sym (pass .limits-of .ensures .0) ∙ c .if1 .taken))
 
 -- Within them,
-within : (c : tie.After-parse-f) → beyondLimits (text c) ≡ false
+within : (c : tie.After-read-f) → beyondLimits (text c) ≡ false
 within c = sym (passed c .limits-of .ensures .0) ∙ c .before .before .if1 .left
 
 -- no tree;
@@ -49,13 +49,13 @@ no-tree c =
     let at-call = c .before .before .before .before in
     laid-refused 6
     (tree-words (text at-call) (within at-call)
-    (lost-tree (text at-call) (lost (at-call .parse-f .ensures) (c .enum-told .given .1))))
+    (lost-tree (text at-call) (lost (at-call .read-f .ensures) (c .enum-told .given .1))))
 
 -- a tree, and what the pass told of the fragment;
 tree : (c : tie.After-known-told) →
     Gave (goF false) (text (call c)) 0 (start (passed (call c)) .args .arena .now) 0
-    (c .before .next .given .0) (call c .parse-f .last .1 .1 .1 .0)
-tree c = took (call c .parse-f .ensures) (λ a m h. span h) (c .before .next .given .1)
+    (c .before .next .given .0) (call c .read-f .last .1 .1 .1 .0)
+tree c = took (call c .read-f .ensures) (λ a m h. span h) (c .before .next .given .1)
 
 fragment : (c : tie.After-known-told) → beyond (text (call c)) ≡ passed (call c) .limits-of .result .beyond
 fragment c = beyond-told _ (within (call c)) (passed (call c) .limits-of .ensures .1)

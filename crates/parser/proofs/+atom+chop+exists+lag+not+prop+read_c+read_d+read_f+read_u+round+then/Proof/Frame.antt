@@ -7,57 +7,57 @@ use Rattle.grammar.specs.Parse.{depth}
 use Rattle.grammar.specs.Parse.Goal.{goF, goD, goC, goU, goA, goB}
 use Rattle.parser.proofs.atom.Reads as atom
 use Rattle.parser.proofs.atom.Kinds.{ps as ps-atom}
-use Rattle.parser.proofs.+atom+chop+exists+not+parse_c+parse_d+parse_f+parse_u+prop+round+then.Lts-atom.{
+use Rattle.parser.proofs.+atom+chop+exists+lag+not+prop+read_c+read_d+read_f+read_u+round+then.Lts-atom.{
   Claims as Claims-atom,
 }
-use Rattle.parser.proofs.parse_c.Reads as parse-c
-use Rattle.parser.proofs.parse_c.Kinds.{ps as ps-c}
-use Rattle.parser.proofs.+atom+chop+exists+not+parse_c+parse_d+parse_f+parse_u+prop+round+then.Lts-parse_c.{
+use Rattle.parser.proofs.read_c.Reads as read-c
+use Rattle.parser.proofs.read_c.Kinds.{ps as ps-c}
+use Rattle.parser.proofs.+atom+chop+exists+lag+not+prop+read_c+read_d+read_f+read_u+round+then.Lts-read_c.{
   Claims as Claims-c,
 }
 use Rattle.parser.proofs.chop.Reads as chop
 use Rattle.parser.proofs.chop.Kinds.{ps as ps-chop}
-use Rattle.parser.proofs.+atom+chop+exists+not+parse_c+parse_d+parse_f+parse_u+prop+round+then.Lts-chop.{
+use Rattle.parser.proofs.+atom+chop+exists+lag+not+prop+read_c+read_d+read_f+read_u+round+then.Lts-chop.{
   Claims as Claims-chop,
 }
-use Rattle.parser.proofs.parse_d.Reads as parse-d
-use Rattle.parser.proofs.parse_d.Kinds.{ps as ps-d}
-use Rattle.parser.proofs.+atom+chop+exists+not+parse_c+parse_d+parse_f+parse_u+prop+round+then.Lts-parse_d.{
+use Rattle.parser.proofs.read_d.Reads as read-d
+use Rattle.parser.proofs.read_d.Kinds.{ps as ps-d}
+use Rattle.parser.proofs.+atom+chop+exists+lag+not+prop+read_c+read_d+read_f+read_u+round+then.Lts-read_d.{
   Claims as Claims-d,
 }
 use Rattle.parser.proofs.exists.Reads as exists
 use Rattle.parser.proofs.exists.Kinds.{ps as ps-exists}
-use Rattle.parser.proofs.+atom+chop+exists+not+parse_c+parse_d+parse_f+parse_u+prop+round+then.Lts-exists.{
+use Rattle.parser.proofs.+atom+chop+exists+lag+not+prop+read_c+read_d+read_f+read_u+round+then.Lts-exists.{
   Claims as Claims-exists,
 }
-use Rattle.parser.proofs.parse_f.Reads as parse-f
-use Rattle.parser.proofs.parse_f.Kinds.{ps as ps-f}
-use Rattle.parser.proofs.+atom+chop+exists+not+parse_c+parse_d+parse_f+parse_u+prop+round+then.Lts-parse_f.{
+use Rattle.parser.proofs.read_f.Reads as read-f
+use Rattle.parser.proofs.read_f.Kinds.{ps as ps-f}
+use Rattle.parser.proofs.+atom+chop+exists+lag+not+prop+read_c+read_d+read_f+read_u+round+then.Lts-read_f.{
   Claims as Claims-f,
 }
 use Rattle.parser.proofs.not.Reads as not
 use Rattle.parser.proofs.not.Kinds.{ps as ps-not}
-use Rattle.parser.proofs.+atom+chop+exists+not+parse_c+parse_d+parse_f+parse_u+prop+round+then.Lts-not.{
+use Rattle.parser.proofs.+atom+chop+exists+lag+not+prop+read_c+read_d+read_f+read_u+round+then.Lts-not.{
   Claims as Claims-not,
 }
 use Rattle.parser.proofs.round.Reads as round
 use Rattle.parser.proofs.round.Kinds.{ps as ps-round}
-use Rattle.parser.proofs.+atom+chop+exists+not+parse_c+parse_d+parse_f+parse_u+prop+round+then.Lts-round.{
+use Rattle.parser.proofs.+atom+chop+exists+lag+not+prop+read_c+read_d+read_f+read_u+round+then.Lts-round.{
   Claims as Claims-round,
 }
 use Rattle.parser.proofs.prop.Reads as prop
 use Rattle.parser.proofs.prop.Kinds.{ps as ps-prop}
-use Rattle.parser.proofs.+atom+chop+exists+not+parse_c+parse_d+parse_f+parse_u+prop+round+then.Lts-prop.{
+use Rattle.parser.proofs.+atom+chop+exists+lag+not+prop+read_c+read_d+read_f+read_u+round+then.Lts-prop.{
   Claims as Claims-prop,
 }
 use Rattle.parser.proofs.then.Reads as then
 use Rattle.parser.proofs.then.Kinds.{ps as ps-then}
-use Rattle.parser.proofs.+atom+chop+exists+not+parse_c+parse_d+parse_f+parse_u+prop+round+then.Lts-then.{
+use Rattle.parser.proofs.+atom+chop+exists+lag+not+prop+read_c+read_d+read_f+read_u+round+then.Lts-then.{
   Claims as Claims-then,
 }
-use Rattle.parser.proofs.parse_u.Reads as parse-u
-use Rattle.parser.proofs.parse_u.Kinds.{ps as ps-u}
-use Rattle.parser.proofs.+atom+chop+exists+not+parse_c+parse_d+parse_f+parse_u+prop+round+then.Lts-parse_u.{
+use Rattle.parser.proofs.read_u.Reads as read-u
+use Rattle.parser.proofs.read_u.Kinds.{ps as ps-u}
+use Rattle.parser.proofs.+atom+chop+exists+lag+not+prop+read_c+read_d+read_f+read_u+round+then.Lts-read_u.{
   Claims as Claims-u,
 }
 use Rattle.facts.proofs.atom_facts.Reads as atom-facts
@@ -80,20 +80,20 @@ use Rattle.facts.proofs.then_facts.Reads as then-facts
 abbrev pub μ-atom : Measures 2 ps-atom ℕ
 μ-atom κs a = depth (a .0 .now) goA (a .1 .0)
 
-abbrev pub μ-parse-c : Measures 2 ps-c ℕ
-μ-parse-c κs a = depth (a .0 .now) (goC (a .1 .0)) (a .1 .1 .0)
+abbrev pub μ-read-c : Measures 2 ps-c ℕ
+μ-read-c κs a = depth (a .0 .now) (goC (a .1 .0)) (a .1 .1 .0)
 
 abbrev pub μ-chop : Measures 2 ps-chop ℕ
 μ-chop κs a = depth (a .0 .now) goA (a .1 .0)
 
-abbrev pub μ-parse-d : Measures 2 ps-d ℕ
-μ-parse-d κs a = depth (a .0 .now) (goD (a .1 .0)) (a .1 .1 .0)
+abbrev pub μ-read-d : Measures 2 ps-d ℕ
+μ-read-d κs a = depth (a .0 .now) (goD (a .1 .0)) (a .1 .1 .0)
 
 abbrev pub μ-exists : Measures 2 ps-exists ℕ
 μ-exists κs a = depth (a .0 .now) goA (a .1 .0)
 
-abbrev pub μ-parse-f : Measures 2 ps-f ℕ
-μ-parse-f κs a = depth (a .0 .now) (goF (a .1 .0)) (a .1 .1 .0)
+abbrev pub μ-read-f : Measures 2 ps-f ℕ
+μ-read-f κs a = depth (a .0 .now) (goF (a .1 .0)) (a .1 .1 .0)
 
 abbrev pub μ-not : Measures 2 ps-not ℕ
 μ-not κs a = depth (a .0 .now) goA (a .1 .1 .0)
@@ -107,8 +107,8 @@ abbrev pub μ-prop : Measures 2 ps-prop ℕ
 abbrev pub μ-then : Measures 2 ps-then ℕ
 μ-then κs a = depth (a .0 .now) goA (a .1 .0)
 
-abbrev pub μ-parse-u : Measures 2 ps-u ℕ
-μ-parse-u κs a = depth (a .0 .now) (goU (a .1 .0)) (a .1 .1 .0)
+abbrev pub μ-read-u : Measures 2 ps-u ℕ
+μ-read-u κs a = depth (a .0 .now) (goU (a .1 .0)) (a .1 .1 .0)
 
 -- What a member is given where its measure is t, and what it asks where a lower one is called.
 abbrev pub atom-at : ℕ → In 2 ps-atom
@@ -117,11 +117,11 @@ atom-at t = and 2 ps-atom (is 2 ps-atom μ-atom t) atom.Pre
 abbrev atom-below : ℕ → In 2 ps-atom
 atom-below t = and 2 ps-atom (falls 2 ps-atom _<_ μ-atom t) atom.Pre
 
-abbrev pub parse-c-at : ℕ → In 2 ps-c
-parse-c-at t = and 2 ps-c (is 2 ps-c μ-parse-c t) parse-c.Pre
+abbrev pub read-c-at : ℕ → In 2 ps-c
+read-c-at t = and 2 ps-c (is 2 ps-c μ-read-c t) read-c.Pre
 
-abbrev parse-c-below : ℕ → In 2 ps-c
-parse-c-below t = and 2 ps-c (falls 2 ps-c _<_ μ-parse-c t) parse-c.Pre
+abbrev read-c-below : ℕ → In 2 ps-c
+read-c-below t = and 2 ps-c (falls 2 ps-c _<_ μ-read-c t) read-c.Pre
 
 abbrev pub chop-at : ℕ → In 2 ps-chop
 chop-at t = and 2 ps-chop (is 2 ps-chop μ-chop t) chop.Pre
@@ -129,11 +129,11 @@ chop-at t = and 2 ps-chop (is 2 ps-chop μ-chop t) chop.Pre
 abbrev chop-below : ℕ → In 2 ps-chop
 chop-below t = and 2 ps-chop (falls 2 ps-chop _<_ μ-chop t) chop.Pre
 
-abbrev pub parse-d-at : ℕ → In 2 ps-d
-parse-d-at t = and 2 ps-d (is 2 ps-d μ-parse-d t) parse-d.Pre
+abbrev pub read-d-at : ℕ → In 2 ps-d
+read-d-at t = and 2 ps-d (is 2 ps-d μ-read-d t) read-d.Pre
 
-abbrev parse-d-below : ℕ → In 2 ps-d
-parse-d-below t = and 2 ps-d (falls 2 ps-d _<_ μ-parse-d t) parse-d.Pre
+abbrev read-d-below : ℕ → In 2 ps-d
+read-d-below t = and 2 ps-d (falls 2 ps-d _<_ μ-read-d t) read-d.Pre
 
 abbrev pub exists-at : ℕ → In 2 ps-exists
 exists-at t = and 2 ps-exists (is 2 ps-exists μ-exists t) exists.Pre
@@ -141,11 +141,11 @@ exists-at t = and 2 ps-exists (is 2 ps-exists μ-exists t) exists.Pre
 abbrev exists-below : ℕ → In 2 ps-exists
 exists-below t = and 2 ps-exists (falls 2 ps-exists _<_ μ-exists t) exists.Pre
 
-abbrev pub parse-f-at : ℕ → In 2 ps-f
-parse-f-at t = and 2 ps-f (is 2 ps-f μ-parse-f t) parse-f.Pre
+abbrev pub read-f-at : ℕ → In 2 ps-f
+read-f-at t = and 2 ps-f (is 2 ps-f μ-read-f t) read-f.Pre
 
-abbrev parse-f-below : ℕ → In 2 ps-f
-parse-f-below t = and 2 ps-f (falls 2 ps-f _<_ μ-parse-f t) parse-f.Pre
+abbrev read-f-below : ℕ → In 2 ps-f
+read-f-below t = and 2 ps-f (falls 2 ps-f _<_ μ-read-f t) read-f.Pre
 
 abbrev pub not-at : ℕ → In 2 ps-not
 not-at t = and 2 ps-not (is 2 ps-not μ-not t) not.Pre
@@ -171,11 +171,11 @@ then-at t = and 2 ps-then (is 2 ps-then μ-then t) then.Pre
 abbrev then-below : ℕ → In 2 ps-then
 then-below t = and 2 ps-then (falls 2 ps-then _<_ μ-then t) then.Pre
 
-abbrev pub parse-u-at : ℕ → In 2 ps-u
-parse-u-at t = and 2 ps-u (is 2 ps-u μ-parse-u t) parse-u.Pre
+abbrev pub read-u-at : ℕ → In 2 ps-u
+read-u-at t = and 2 ps-u (is 2 ps-u μ-read-u t) read-u.Pre
 
-abbrev parse-u-below : ℕ → In 2 ps-u
-parse-u-below t = and 2 ps-u (falls 2 ps-u _<_ μ-parse-u t) parse-u.Pre
+abbrev read-u-below : ℕ → In 2 ps-u
+read-u-below t = and 2 ps-u (falls 2 ps-u _<_ μ-read-u t) read-u.Pre
 
 -- What each member asks of the functions that it calls, and learns from them.
 abbrev pub calls-atom : ℕ → Claims-atom
@@ -200,10 +200,10 @@ calls-atom t = (
   is-lead-count.Learnt,
 )
 
-abbrev pub calls-parse-c : ℕ → Claims-c
-calls-parse-c t = (
-  parse-u-below t,
-  parse-u.Post,
+abbrev pub calls-read-c : ℕ → Claims-c
+calls-read-c t = (
+  read-u-below t,
+  read-u.Post,
   number-at.Asked,
   number-at.Learnt,
   push.Asked,
@@ -214,18 +214,18 @@ calls-parse-c t = (
 
 abbrev pub calls-chop : ℕ → Claims-chop
 calls-chop t = (
-  parse-f-below t,
-  parse-f.Post,
+  read-f-below t,
+  read-f.Post,
   push.Asked,
   push.Learnt,
   chop-facts.Asked,
   chop-facts.Learnt,
 )
 
-abbrev pub calls-parse-d : ℕ → Claims-d
-calls-parse-d t = (
-  parse-c-below t,
-  parse-c.Post,
+abbrev pub calls-read-d : ℕ → Claims-d
+calls-read-d t = (
+  read-c-below t,
+  read-c.Post,
   number-at.Asked,
   number-at.Learnt,
   push.Asked,
@@ -240,18 +240,18 @@ calls-exists t = (
   number-at.Learnt,
   is-signal.Asked,
   is-signal.Learnt,
-  parse-u-below t,
-  parse-u.Post,
+  read-u-below t,
+  read-u.Post,
   push.Asked,
   push.Learnt,
   exists-facts.Asked,
   exists-facts.Learnt,
 )
 
-abbrev pub calls-parse-f : ℕ → Claims-f
-calls-parse-f t = (
-  parse-d-below t,
-  parse-d.Post,
+abbrev pub calls-read-f : ℕ → Claims-f
+calls-read-f t = (
+  read-d-below t,
+  read-d.Post,
   number-at.Asked,
   number-at.Learnt,
   then-below t,
@@ -262,8 +262,8 @@ calls-parse-f t = (
 
 abbrev pub calls-not : ℕ → Claims-not
 calls-not t = (
-  parse-u-below t,
-  parse-u.Post,
+  read-u-below t,
+  read-u.Post,
   push.Asked,
   push.Learnt,
   not-facts.Asked,
@@ -272,8 +272,8 @@ calls-not t = (
 
 abbrev pub calls-round : ℕ → Claims-round
 calls-round t = (
-  parse-f-below t,
-  parse-f.Post,
+  read-f-below t,
+  read-f.Post,
   number-at.Asked,
   number-at.Learnt,
 )
@@ -282,22 +282,22 @@ abbrev pub calls-prop : ℕ → Claims-prop
 calls-prop t = (
   number-at.Asked,
   number-at.Learnt,
-  parse-f-below t,
-  parse-f.Post,
+  read-f-below t,
+  read-f.Post,
 )
 
 abbrev pub calls-then : ℕ → Claims-then
 calls-then t = (
   push.Asked,
   push.Learnt,
-  parse-f-below t,
-  parse-f.Post,
+  read-f-below t,
+  read-f.Post,
   then-facts.Asked,
   then-facts.Learnt,
 )
 
-abbrev pub calls-parse-u : ℕ → Claims-u
-calls-parse-u t = (
+abbrev pub calls-read-u : ℕ → Claims-u
+calls-read-u t = (
   number-at.Asked,
   number-at.Learnt,
   not-below t,

@@ -17,8 +17,8 @@ use Rattle.parser.proofs.Stored.{Gave, Space, took, lost, fails}
 use Rattle.parser.proofs.Stored.{room, past-first, past-tree, fits-push, fits-tree}
 use Rattle.parser.proofs.atom.Kinds.{ps, r}
 use Rattle.parser.proofs.atom.Reads as reads
-use Rattle.parser.proofs.+atom+chop+exists+not+parse_c+parse_d+parse_f+parse_u+prop+round+then.Lts-atom as lts
-use Rattle.parser.proofs.+atom+chop+exists+not+parse_c+parse_d+parse_f+parse_u+prop+round+then.Proof.Frame.{
+use Rattle.parser.proofs.+atom+chop+exists+lag+not+prop+read_c+read_d+read_f+read_u+round+then.Lts-atom as lts
+use Rattle.parser.proofs.+atom+chop+exists+lag+not+prop+read_c+read_d+read_f+read_u+round+then.Proof.Frame.{
   calls-atom,
   atom-at,
 }

@@ -12,8 +12,8 @@ use Rattle.parser.proofs.Steps
 use Rattle.parser.proofs.Stored.{Gave, Space, took, lost, few-nodes, room, past-first, fits-tree}
 use Rattle.parser.proofs.not.Kinds.{ps, r}
 use Rattle.parser.proofs.not.Reads as reads
-use Rattle.parser.proofs.+atom+chop+exists+not+parse_c+parse_d+parse_f+parse_u+prop+round+then.Lts-not as lts
-use Rattle.parser.proofs.+atom+chop+exists+not+parse_c+parse_d+parse_f+parse_u+prop+round+then.Proof.Frame.{
+use Rattle.parser.proofs.+atom+chop+exists+lag+not+prop+read_c+read_d+read_f+read_u+round+then.Lts-not as lts
+use Rattle.parser.proofs.+atom+chop+exists+lag+not+prop+read_c+read_d+read_f+read_u+round+then.Proof.Frame.{
   calls-not,
   not-at,
 }
@@ -23,14 +23,14 @@ module _ (t : ℕ) where
   abbrev Here : (lts.Claims → In 2 ps → Out 2 ps r → Type 0) → Type 0
   Here place = place (calls-not t) (not-at t) reads.Post
 
-  -- The places: the start; the call of `parse_u`, and its tree.
+  -- The places: the start; the call of `read_u`, and its tree.
   abbrev start : Here lts.After-slice-known → Here lts.Start
   start c = c .before .before
 
-  abbrev at-call : Here lts.After-parse-u → Here lts.After-slice-known
+  abbrev at-call : Here lts.After-read-u → Here lts.After-slice-known
   at-call c = c .before .before
 
-  abbrev call : Here lts.After-known-told → Here lts.After-parse-u
+  abbrev call : Here lts.After-known-told → Here lts.After-read-u
   call c = c .before .before .before .before .before
 
   -- `!`, which leaves room,
@@ -44,28 +44,28 @@ module _ (t : ℕ) where
       Space 4 (args .ws .now) (args .at + 1) (args .arena .now) (args .top)
   not-space c = past-first (start c .pre .1 .room) (not-word c) (omega arith)
 
-  add-u : Here lts.Need-add-parse-u
+  add-u : Here lts.Need-add-read-u
   add-u c = let s = not-space c in omega arith
 
-  u-requires : Here lts.Need-parse-u-requires
+  u-requires : Here lts.Need-read-u-requires
   u-requires c κs =
       let s = not-space (c .before) in
       (omega (arith, start (c .before) .pre .0), room s)
 
   no-u-length : Here lts.Need-same-length
-  no-u-length c = c .before .before .before .before .parse-u .kept .1 .1 .1 .0
+  no-u-length c = c .before .before .before .before .read-u .kept .1 .1 .1 .0
 
   no-u : Here lts.Need-returns
   no-u c =
       let none = c .before .before .before .before in
-      Steps.not-no (not-word (at-call none)) (lost (none .parse-u .ensures) (c .enum-told .given .1))
+      Steps.not-no (not-word (at-call none)) (lost (none .read-u .ensures) (c .enum-told .given .1))
 
   -- and a U.
   tree : (c : Here lts.After-known-told) →
       let args = start (at-call (call c)) .args in
       Gave (goU (args .inside)) (args .ws .now) (args .at + 1) (args .arena .now) (args .top)
-      (c .before .j .given .0) (call c .parse-u .last .1 .1 .1 .0)
-  tree c = took (call c .parse-u .ensures) (λ a m h. span h) (c .before .j .given .1)
+      (c .before .j .given .0) (call c .read-u .last .1 .1 .1 .0)
+  tree c = took (call c .read-u .ensures) (λ a m h. span h) (c .before .j .given .1)
 
   fits : Here lts.Need-push-requires
   fits c κs =
@@ -80,7 +80,7 @@ module _ (t : ℕ) where
   u-length : Here lts.Need-same-length-2
   u-length c =
       let here = c .before .before .before .before .before in
-      c .before .before .before .push .kept .0 ∙ call here .parse-u .kept .1 .1 .1 .0
+      c .before .before .before .push .kept .0 ∙ call here .read-u .kept .1 .1 .1 .0
 
   u : Here lts.Need-returns-2
   u c =

@@ -14,8 +14,8 @@ use Rattle.parser.proofs.Stored.{Gave, Space, stored-on, pushed, took, 
 use Rattle.parser.proofs.Stored.{past-first, fits-tree}
 use Rattle.parser.proofs.chop.Kinds.{ps, r}
 use Rattle.parser.proofs.chop.Reads as reads
-use Rattle.parser.proofs.+atom+chop+exists+not+parse_c+parse_d+parse_f+parse_u+prop+round+then.Lts-chop as lts
-use Rattle.parser.proofs.+atom+chop+exists+not+parse_c+parse_d+parse_f+parse_u+prop+round+then.Proof.Frame.{
+use Rattle.parser.proofs.+atom+chop+exists+lag+not+prop+read_c+read_d+read_f+read_u+round+then.Lts-chop as lts
+use Rattle.parser.proofs.+atom+chop+exists+lag+not+prop+read_c+read_d+read_f+read_u+round+then.Proof.Frame.{
   calls-chop,
   chop-at,
 }
@@ -25,14 +25,14 @@ module _ (t : ℕ) where
   abbrev Here : (lts.Claims → In 2 ps → Out 2 ps r → Type 0) → Type 0
   Here place = place (calls-chop t) (chop-at t) reads.Post
 
-  -- The places: the start; the call of `parse_f`, and its tree.
+  -- The places: the start; the call of `read_f`, and its tree.
   abbrev start : Here lts.After-slice-known → Here lts.Start
   start c = c .before .before
 
-  abbrev at-call : Here lts.After-parse-f → Here lts.After-slice-known
+  abbrev at-call : Here lts.After-read-f → Here lts.After-slice-known
   at-call c = c .before .before
 
-  abbrev call : Here lts.After-known-told → Here lts.After-parse-f
+  abbrev call : Here lts.After-known-told → Here lts.After-read-f
   call c = c .before .before .before .before .before
 
   -- `chop`, which leaves room,
@@ -46,28 +46,28 @@ module _ (t : ℕ) where
       Space 4 (args .ws .now) (args .at + 1) (args .arena .now) (args .top)
   chop-space c = past-first (start c .pre .1 .0 .room) (chop-word c) (omega arith)
 
-  add-f : Here lts.Need-add-parse-f
+  add-f : Here lts.Need-add-read-f
   add-f c = let s = chop-space c in omega arith
 
-  f-requires : Here lts.Need-parse-f-requires
+  f-requires : Here lts.Need-read-f-requires
   f-requires c κs =
       let s = chop-space (c .before) in
       (omega (arith, start (c .before) .pre .0), room s)
 
   no-f-length : Here lts.Need-same-length
-  no-f-length c = c .before .before .before .before .parse-f .kept .1 .1 .1 .0
+  no-f-length c = c .before .before .before .before .read-f .kept .1 .1 .1 .0
 
   no-f : Here lts.Need-returns
   no-f c =
       let none = c .before .before .before .before in
-      Steps.joined-no (lost (none .parse-f .ensures) (c .enum-told .given .1))
+      Steps.joined-no (lost (none .read-f .ensures) (c .enum-told .given .1))
 
   -- and the F after it.
   tree : (c : Here lts.After-known-told) →
       let args = start (at-call (call c)) .args in
       Gave (goF false) (args .ws .now) (args .at + 1) (args .arena .now) (args .top)
-      (c .before .m .given .0) (call c .parse-f .last .1 .1 .1 .0)
-  tree c = took (call c .parse-f .ensures) (λ a m h. span h) (c .before .m .given .1)
+      (c .before .m .given .0) (call c .read-f .last .1 .1 .1 .0)
+  tree c = took (call c .read-f .ensures) (λ a m h. span h) (c .before .m .given .1)
 
   fits : Here lts.Need-push-requires
   fits c κs =
@@ -83,7 +83,7 @@ module _ (t : ℕ) where
   f-length : Here lts.Need-same-length-2
   f-length c =
       let here = c .before .before .before .before .before in
-      c .before .before .before .push .kept .0 ∙ call here .parse-f .kept .1 .1 .1 .0
+      c .before .before .before .push .kept .0 ∙ call here .read-f .kept .1 .1 .1 .0
 
   f : Here lts.Need-returns-2
   f c =

@@ -1,4 +1,4 @@
--- The answers of the member `parse_f`: a D, alone or with `then` or `chop` and an F. Assumes nothing.
+-- The answers of the member `read_f`: a D, alone or with `then` or `chop` and an F. Assumes nothing.
 use mathlib.Core.Bool.{Bool}
 use mathlib.Core.List.{List}
 use mathlib.Core.Path.{_≡_, sym, ap, _∙_}
@@ -15,24 +15,24 @@ use Rattle.grammar.proofs.Complete.{stop-join}
 use Rattle.parser.specs.Contract.{Room}
 use Rattle.parser.proofs.Steps
 use Rattle.parser.proofs.Stored.{Gave, Space, took, lost, few-nodes, space, room, past-tree, past-outside}
-use Rattle.parser.proofs.parse_f.Kinds.{ps, r}
-use Rattle.parser.proofs.parse_f.Reads as reads
-use Rattle.parser.proofs.+atom+chop+exists+not+parse_c+parse_d+parse_f+parse_u+prop+round+then.Lts-parse_f as lts
-use Rattle.parser.proofs.+atom+chop+exists+not+parse_c+parse_d+parse_f+parse_u+prop+round+then.Proof.Frame.{
-  calls-parse-f,
-  parse-f-at,
+use Rattle.parser.proofs.read_f.Kinds.{ps, r}
+use Rattle.parser.proofs.read_f.Reads as reads
+use Rattle.parser.proofs.+atom+chop+exists+lag+not+prop+read_c+read_d+read_f+read_u+round+then.Lts-read_f as lts
+use Rattle.parser.proofs.+atom+chop+exists+lag+not+prop+read_c+read_d+read_f+read_u+round+then.Proof.Frame.{
+  calls-read-f,
+  read-f-at,
 }
 
 module _ (t : ℕ) where
   -- A place or a need of the member, where its measure is t.
   abbrev Here : (lts.Claims → In 2 ps → Out 2 ps r → Type 0) → Type 0
-  Here place = place (calls-parse-f t) (parse-f-at t) reads.Post
+  Here place = place (calls-read-f t) (read-f-at t) reads.Post
 
-  -- The places: the start; the call of `parse_d`, and its tree;
-  abbrev start : Here lts.After-parse-d → Here lts.Start
+  -- The places: the start; the call of `read_d`, and its tree;
+  abbrev start : Here lts.After-read-d → Here lts.Start
   start c = c .before .before .before .before
 
-  abbrev d-call : Here lts.After-known-told → Here lts.After-parse-d
+  abbrev d-call : Here lts.After-known-told → Here lts.After-read-d
   d-call c = c .before .before .before .before .before
 
   -- `then`, and the call of `then`; `chop`, and the call of `chop`.
@@ -59,31 +59,31 @@ module _ (t : ℕ) where
   end c = c .before .j .given .0 .1 .0
 
   abbrev arena : Here lts.After-known-told → List ℕ
-  arena c = d-call c .parse-d .last .1 .1 .1 .0
+  arena c = d-call c .read-d .last .1 .1 .1 .0
 
   -- No D.
-  parse-d-requires : Here lts.Need-parse-d-requires
-  parse-d-requires c κs =
+  read-d-requires : Here lts.Need-read-d-requires
+  read-d-requires c κs =
       let pre = c .before .before .before .pre in
       (omega (arith, pre .0), pre .1)
 
   no-d-length : Here lts.Need-same-length
-  no-d-length c = c .before .before .before .before .parse-d .kept .1 .1 .1 .0
+  no-d-length c = c .before .before .before .before .read-d .kept .1 .1 .1 .0
 
   no-d : Here lts.Need-returns
-  no-d c = Steps.F-no (lost (c .before .before .before .before .parse-d .ensures) (c .enum-told .given .1))
+  no-d c = Steps.F-no (lost (c .before .before .before .before .read-d .ensures) (c .enum-told .given .1))
 
   -- A D, and the room after it.
   d-tree : (c : Here lts.After-known-told) →
       let args = start (d-call c) .args in
       Gave (goD (args .inside)) (text c) (args .at) (args .arena .now) (args .top) (c .before .j .given .0) (arena c)
-  d-tree c = took (d-call c .parse-d .ensures) (λ a m h. span h) (c .before .j .given .1)
+  d-tree c = took (d-call c .read-d .ensures) (λ a m h. span h) (c .before .j .given .1)
 
   d-space : (c : Here lts.After-known-told) → Space 0 (text c) (next c) (arena c) (end c)
   d-space c = past-tree (space (start (d-call c) .pre .1)) (d-tree c .part)
 
   d-inside-length : Here lts.Need-same-length-2
-  d-inside-length c = d-call (c .before) .parse-d .kept .1 .1 .1 .0
+  d-inside-length c = d-call (c .before) .read-d .kept .1 .1 .1 .0
 
   d-inside : Here lts.Need-returns-2
   d-inside c =
@@ -111,7 +111,7 @@ module _ (t : ℕ) where
   then-length : Here lts.Need-same-length-3
   then-length c =
       let call = c .before .before in
-      call .then .kept .1 .1 .0 ∙ d-call (then-d (at-then call)) .parse-d .kept .1 .1 .1 .0
+      call .then .kept .1 .1 .0 ∙ d-call (then-d (at-then call)) .read-d .kept .1 .1 .1 .0
 
   a-then : Here lts.Need-returns-3
   a-then c =
@@ -135,7 +135,7 @@ module _ (t : ℕ) where
   chop-length : Here lts.Need-same-length-4
   chop-length c =
       let call = c .before .before in
-      call .chop .kept .1 .1 .0 ∙ d-call (chop-d (at-chop call)) .parse-d .kept .1 .1 .1 .0
+      call .chop .kept .1 .1 .0 ∙ d-call (chop-d (at-chop call)) .read-d .kept .1 .1 .1 .0
 
   a-chop : Here lts.Need-returns-4
   a-chop c =
@@ -146,7 +146,7 @@ module _ (t : ℕ) where
 
   -- Neither: the D alone.
   d-alone-length : Here lts.Need-same-length-5
-  d-alone-length c = d-call (c .before .before .before .before) .parse-d .kept .1 .1 .1 .0
+  d-alone-length c = d-call (c .before .before .before .before) .read-d .kept .1 .1 .1 .0
 
   d-alone : Here lts.Need-returns-5
   d-alone c =
@@ -157,9 +157,9 @@ module _ (t : ℕ) where
       (λ e. c .if3 .left (looked .number-at .ensures ∙ e)))
 
   -- So the member meets its contract, if the calls with lower measures do.
-  pub met : {M : Type 1} → lts.Closed (calls-parse-f t) (parse-f-at t) reads.Post M
+  pub met : {M : Type 1} → lts.Closed (calls-read-f t) (read-f-at t) reads.Post M
   met =
-      lts.spec (calls-parse-f t) (parse-f-at t) reads.Post
-      parse-d-requires (λ c. search needs) (λ c. search needs) no-d-length no-d d-inside-length d-inside
+      lts.spec (calls-read-f t) (read-f-at t) reads.Post
+      read-d-requires (λ c. search needs) (λ c. search needs) no-d-length no-d d-inside-length d-inside
       (λ c κs. search needs) then-requires then-length a-then chop-requires chop-length a-chop
       d-alone-length d-alone

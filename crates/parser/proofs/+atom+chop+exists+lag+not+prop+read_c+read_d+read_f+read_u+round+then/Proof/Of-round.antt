@@ -13,8 +13,8 @@ use Rattle.parser.proofs.Steps.{round}
 use Rattle.parser.proofs.Stored.{Gave, Space, took, lost, room, past-first}
 use Rattle.parser.proofs.round.Kinds.{ps, r}
 use Rattle.parser.proofs.round.Reads as reads
-use Rattle.parser.proofs.+atom+chop+exists+not+parse_c+parse_d+parse_f+parse_u+prop+round+then.Lts-round as lts
-use Rattle.parser.proofs.+atom+chop+exists+not+parse_c+parse_d+parse_f+parse_u+prop+round+then.Proof.Frame.{
+use Rattle.parser.proofs.+atom+chop+exists+lag+not+prop+read_c+read_d+read_f+read_u+round+then.Lts-round as lts
+use Rattle.parser.proofs.+atom+chop+exists+lag+not+prop+read_c+read_d+read_f+read_u+round+then.Proof.Frame.{
   calls-round,
   round-at,
 }
@@ -24,14 +24,14 @@ module _ (t : ℕ) where
   abbrev Here : (lts.Claims → In 2 ps → Out 2 ps r → Type 0) → Type 0
   Here place = place (calls-round t) (round-at t) reads.Post
 
-  -- The places: the start; the call of `parse_f`, and its tree.
+  -- The places: the start; the call of `read_f`, and its tree.
   abbrev start : Here lts.After-slice-known → Here lts.Start
   start c = c .before .before
 
-  abbrev at-call : Here lts.After-parse-f → Here lts.After-slice-known
+  abbrev at-call : Here lts.After-read-f → Here lts.After-slice-known
   at-call c = c .before .before
 
-  abbrev call : Here lts.After-known-told → Here lts.After-parse-f
+  abbrev call : Here lts.After-known-told → Here lts.After-read-f
   call c = c .before .before .before .before .before
 
   -- A round bracket, which leaves room,
@@ -45,34 +45,34 @@ module _ (t : ℕ) where
       Space 4 (args .ws .now) (args .at + 1) (args .arena .now) (args .top)
   round-space c = past-first (start c .pre .1 .room) (round-word c) (omega arith)
 
-  add-f : Here lts.Need-add-parse-f
+  add-f : Here lts.Need-add-read-f
   add-f c = let s = round-space c in omega arith
 
-  f-requires : Here lts.Need-parse-f-requires
+  f-requires : Here lts.Need-read-f-requires
   f-requires c κs =
       let s = round-space (c .before) in
       (omega (arith, start (c .before) .pre .0), room s)
 
   no-f-length : Here lts.Need-same-length
-  no-f-length c = c .before .before .before .before .parse-f .kept .1 .1 .1 .0
+  no-f-length c = c .before .before .before .before .read-f .kept .1 .1 .1 .0
 
   no-f : Here lts.Need-returns
   no-f c =
       let none = c .before .before .before .before in
       let here = at-call none in
       Steps.bracket-no (round (start here .args .inside)) (round-word here)
-      (lost (none .parse-f .ensures) (c .enum-told .given .1))
+      (lost (none .read-f .ensures) (c .enum-told .given .1))
 
   -- an F,
   tree : (c : Here lts.After-known-told) →
       let args = start (at-call (call c)) .args in
       Gave (goF (args .inside)) (args .ws .now) (args .at + 1) (args .arena .now) (args .top)
-      (c .before .j .given .0) (call c .parse-f .last .1 .1 .1 .0)
-  tree c = took (call c .parse-f .ensures) (λ a m h. span h) (c .before .j .given .1)
+      (c .before .j .given .0) (call c .read-f .last .1 .1 .1 .0)
+  tree c = took (call c .read-f .ensures) (λ a m h. span h) (c .before .j .given .1)
 
   -- and the bracket stays open or closes.
   unclosed-length : Here lts.Need-same-length-2
-  unclosed-length c = call (c .before .before) .parse-f .kept .1 .1 .1 .0
+  unclosed-length c = call (c .before .before) .read-f .kept .1 .1 .1 .0
 
   unclosed : Here lts.Need-returns-2
   unclosed c =
@@ -88,7 +88,7 @@ module _ (t : ℕ) where
       omega (arith, start (at-call (call told)) .pre .1 .room .few)
 
   closed-length : Here lts.Need-same-length-3
-  closed-length c = call (c .before .before) .parse-f .kept .1 .1 .1 .0
+  closed-length c = call (c .before .before) .read-f .kept .1 .1 .1 .0
 
   closed : Here lts.Need-returns-3
   closed c =

@@ -14,8 +14,8 @@ use Rattle.parser.proofs.Steps.{square}
 use Rattle.parser.proofs.Stored.{Gave, Space, took, lost, past-first, room}
 use Rattle.parser.proofs.prop.Kinds.{ps, r}
 use Rattle.parser.proofs.prop.Reads as reads
-use Rattle.parser.proofs.+atom+chop+exists+not+parse_c+parse_d+parse_f+parse_u+prop+round+then.Lts-prop as lts
-use Rattle.parser.proofs.+atom+chop+exists+not+parse_c+parse_d+parse_f+parse_u+prop+round+then.Proof.Frame.{
+use Rattle.parser.proofs.+atom+chop+exists+lag+not+prop+read_c+read_d+read_f+read_u+round+then.Lts-prop as lts
+use Rattle.parser.proofs.+atom+chop+exists+lag+not+prop+read_c+read_d+read_f+read_u+round+then.Proof.Frame.{
   calls-prop,
   prop-at,
 }
@@ -25,14 +25,14 @@ module _ (t : ℕ) where
   abbrev Here : (lts.Claims → In 2 ps → Out 2 ps r → Type 0) → Type 0
   Here place = place (calls-prop t) (prop-at t) reads.Post
 
-  -- The places: the start; the bracket that opens; the call of `parse_f`, and its tree.
+  -- The places: the start; the bracket that opens; the call of `read_f`, and its tree.
   abbrev start : Here lts.Else1 → Here lts.Start
   start c = c .before .before .before .before
 
-  abbrev opening : Here lts.After-parse-f → Here lts.Else1
+  abbrev opening : Here lts.After-read-f → Here lts.Else1
   opening c = c .before .before
 
-  abbrev call : Here lts.After-known-told → Here lts.After-parse-f
+  abbrev call : Here lts.After-known-told → Here lts.After-read-f
   call c = c .before .before .before .before .before
 
   -- The word is a square bracket,
@@ -51,33 +51,33 @@ module _ (t : ℕ) where
   contents : (c : Here lts.After-known-told) →
       let args = start (opening (call c)) .args in
       Gave (goF true) (args .ws .now) (args .at + 1) (args .arena .now) (args .top)
-      (c .before .j .given .0) (call c .parse-f .last .1 .1 .1 .0)
-  contents c = took (call c .parse-f .ensures) (λ a m h. span h) (c .before .j .given .1)
+      (c .before .j .given .0) (call c .read-f .last .1 .1 .1 .0)
+  contents c = took (call c .read-f .ensures) (λ a m h. span h) (c .before .j .given .1)
 
   -- No bracket opens;
   unopened : Here lts.Need-returns
   unopened c = Steps.B-no (λ e. c .if1 .taken (c .before .number-at .ensures ∙ e))
 
-  add-parse-f : Here lts.Need-add-parse-f
-  add-parse-f c = let s = open-space c in omega arith
+  add-read-f : Here lts.Need-add-read-f
+  add-read-f c = let s = open-space c in omega arith
 
-  contents-requires : Here lts.Need-parse-f-requires
+  contents-requires : Here lts.Need-read-f-requires
   contents-requires c κs =
       let s = open-space (c .before) in
       (omega (arith, start (c .before) .pre .0), room s)
 
   -- no P stands in it;
   empty-length : Here lts.Need-same-length
-  empty-length c = c .before .before .before .before .parse-f .kept .1 .1 .1 .0
+  empty-length c = c .before .before .before .before .read-f .kept .1 .1 .1 .0
 
   empty : Here lts.Need-returns-2
   empty c =
       let at-call = c .before .before .before .before in
-      Steps.bracket-no square (open-word (opening at-call)) (lost (at-call .parse-f .ensures) (c .enum-told .given .1))
+      Steps.bracket-no square (open-word (opening at-call)) (lost (at-call .read-f .ensures) (c .enum-told .given .1))
 
   -- it stays open;
   unclosed-length : Here lts.Need-same-length-2
-  unclosed-length c = call (c .before .before) .parse-f .kept .1 .1 .1 .0
+  unclosed-length c = call (c .before .before) .read-f .kept .1 .1 .1 .0
 
   unclosed : Here lts.Need-returns-3
   unclosed c =
@@ -93,7 +93,7 @@ module _ (t : ℕ) where
       omega (arith, start (opening (call told)) .pre .1 .few)
 
   closed-length : Here lts.Need-same-length-3
-  closed-length c = call (c .before .before) .parse-f .kept .1 .1 .1 .0
+  closed-length c = call (c .before .before) .read-f .kept .1 .1 .1 .0
 
   closed : Here lts.Need-returns-4
   closed c =
@@ -105,5 +105,5 @@ module _ (t : ℕ) where
   pub met : {M : Type 1} → lts.Closed (calls-prop t) (prop-at t) reads.Post M
   met =
       lts.spec (calls-prop t) (prop-at t) reads.Post
-      (λ c κs. search needs) unopened add-parse-f contents-requires (λ c. search needs) (λ c. search needs)
+      (λ c κs. search needs) unopened add-read-f contents-requires (λ c. search needs) (λ c. search needs)
       empty-length empty (λ c κs. search needs) unclosed-length unclosed add-end closed-length closed

@@ -14,8 +14,8 @@ use Rattle.parser.proofs.Stored.{Gave, Space, stored-on, pushed, took, 
 use Rattle.parser.proofs.Stored.{past-first, past-push, spared, fits-push, fits-tree}
 use Rattle.parser.proofs.then.Kinds.{ps, r}
 use Rattle.parser.proofs.then.Reads as reads
-use Rattle.parser.proofs.+atom+chop+exists+not+parse_c+parse_d+parse_f+parse_u+prop+round+then.Lts-then as lts
-use Rattle.parser.proofs.+atom+chop+exists+not+parse_c+parse_d+parse_f+parse_u+prop+round+then.Proof.Frame.{
+use Rattle.parser.proofs.+atom+chop+exists+lag+not+prop+read_c+read_d+read_f+read_u+round+then.Lts-then as lts
+use Rattle.parser.proofs.+atom+chop+exists+lag+not+prop+read_c+read_d+read_f+read_u+round+then.Proof.Frame.{
   calls-then,
   then-at,
 }
@@ -25,17 +25,17 @@ module _ (t : ℕ) where
   abbrev Here : (lts.Claims → In 2 ps → Out 2 ps r → Type 0) → Type 0
   Here place = place (calls-then t) (then-at t) reads.Post
 
-  -- The places: the start; the mark, the call of `parse_f` after it, and its tree.
+  -- The places: the start; the mark, the call of `read_f` after it, and its tree.
   abbrev start : Here lts.After-slice-known → Here lts.Start
   start c = c .before .before
 
   abbrev at-mark : Here lts.After-push → Here lts.After-slice-known
   at-mark c = c .before .before
 
-  abbrev mark : Here lts.After-parse-f → Here lts.After-push
+  abbrev mark : Here lts.After-read-f → Here lts.After-push
   mark c = c .before .before .before .before
 
-  abbrev call : Here lts.After-known-told → Here lts.After-parse-f
+  abbrev call : Here lts.After-known-told → Here lts.After-read-f
   call c = c .before .before .before .before .before
 
   -- `then`, after which there is room for three records,
@@ -58,10 +58,10 @@ module _ (t : ℕ) where
       Space 8 (args .ws .now) (args .at + 1) (c .push .last .0) (c .push .result)
   mark-space c = past-push 8 (then-space (at-mark c)) (c .push .ensures)
 
-  add-f : Here lts.Need-add-parse-f
+  add-f : Here lts.Need-add-read-f
   add-f c = let s = then-space (at-mark (c .before .before)) in omega arith
 
-  f-requires : Here lts.Need-parse-f-requires
+  f-requires : Here lts.Need-read-f-requires
   f-requires c κs =
       let here = c .before .before .before in
       let s = mark-space here in
@@ -70,20 +70,20 @@ module _ (t : ℕ) where
   no-f-length : Here lts.Need-same-length
   no-f-length c =
       let none = c .before .before .before .before in
-      none .parse-f .kept .1 .1 .1 .0 ∙ mark none .push .kept .0
+      none .read-f .kept .1 .1 .1 .0 ∙ mark none .push .kept .0
 
   no-f : Here lts.Need-returns
   no-f c =
       let none = c .before .before .before .before in
-      Steps.joined-no (lost (none .parse-f .ensures) (c .enum-told .given .1))
+      Steps.joined-no (lost (none .read-f .ensures) (c .enum-told .given .1))
 
   -- and the F after it.
   tree : (c : Here lts.After-known-told) →
       let here = mark (call c) in
       let args = start (at-mark here) .args in
       Gave (goF false) (args .ws .now) (args .at + 1) (here .push .last .0) (here .push .result)
-      (c .before .m .given .0) (call c .parse-f .last .1 .1 .1 .0)
-  tree c = took (call c .parse-f .ensures) (λ a m h. span h) (c .before .m .given .1)
+      (c .before .m .given .0) (call c .read-f .last .1 .1 .1 .0)
+  tree c = took (call c .read-f .ensures) (λ a m h. span h) (c .before .m .given .1)
 
   fits : Here lts.Need-push-requires-2
   fits c κs =
@@ -99,7 +99,7 @@ module _ (t : ℕ) where
   f-length : Here lts.Need-same-length-2
   f-length c =
       let here = c .before .before .before .before .before in
-      c .before .before .before .push2 .kept .0 ∙ call here .parse-f .kept .1 .1 .1 .0 ∙ mark (call here) .push .kept .0
+      c .before .before .before .push2 .kept .0 ∙ call here .read-f .kept .1 .1 .1 .0 ∙ mark (call here) .push .kept .0
 
   f : Here lts.Need-returns-2
   f c =

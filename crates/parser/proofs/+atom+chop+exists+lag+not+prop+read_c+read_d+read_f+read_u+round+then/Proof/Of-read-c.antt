@@ -1,4 +1,4 @@
--- The answers of the member `parse_c`: U joined by `&`. What they share with `parse_d` is in Chains. Assumes nothing.
+-- The answers of the member `read_c`: U joined by `&`. What they share with `read_d` is in Chains. Assumes nothing.
 use mathlib.Core.List.{List}
 use mathlib.Core.Path.{_≡_, sym, _∙_}
 use Prim.Native.Nat.{ℕ, _+_, _-_}
@@ -13,12 +13,12 @@ use Rattle.grammar.proofs.Position.{span}
 use Rattle.parser.proofs.Stored.{Gave, PartsRead, Space, took, lost, few-nodes, same-size, room, fits-tree}
 use Rattle.parser.proofs.Chains
 use Rattle.parser.proofs.Chains.{chain-C}
-use Rattle.parser.proofs.parse_c.Kinds.{ps, r}
-use Rattle.parser.proofs.parse_c.Reads as reads
-use Rattle.parser.proofs.+atom+chop+exists+not+parse_c+parse_d+parse_f+parse_u+prop+round+then.Lts-parse_c as lts
-use Rattle.parser.proofs.+atom+chop+exists+not+parse_c+parse_d+parse_f+parse_u+prop+round+then.Proof.Frame.{
-  calls-parse-c,
-  parse-c-at,
+use Rattle.parser.proofs.read_c.Kinds.{ps, r}
+use Rattle.parser.proofs.read_c.Reads as reads
+use Rattle.parser.proofs.+atom+chop+exists+lag+not+prop+read_c+read_d+read_f+read_u+round+then.Lts-read_c as lts
+use Rattle.parser.proofs.+atom+chop+exists+lag+not+prop+read_c+read_d+read_f+read_u+round+then.Proof.Frame.{
+  calls-read-c,
+  read-c-at,
 }
 
 -- Whatever arena it was that the first part went into, the parts so far stand there.
@@ -34,13 +34,13 @@ abbrev μ-loop : lts.MeasureT-loop
 module _ (t : ℕ) where
   -- A place or a need of the member, where its measure is t.
   abbrev Here : (lts.Claims → In 2 ps → Out 2 ps r → lts.InvT-loop → lts.MeasureT-loop → Type 0) → Type 0
-  Here place = place (calls-parse-c t) (parse-c-at t) reads.Post Inv-loop μ-loop
+  Here place = place (calls-read-c t) (read-c-at t) reads.Post Inv-loop μ-loop
 
-  -- The places: the start; the first call of `parse_u`; the loop's head; the word that joins; the second call.
-  abbrev start : Here lts.After-parse-u → Here lts.Start
+  -- The places: the start; the first call of `read_u`; the loop's head; the word that joins; the second call.
+  abbrev start : Here lts.After-read-u → Here lts.Start
   start c = c .before .before .before .before
 
-  abbrev first-call : Here lts.After-known-told → Here lts.After-parse-u
+  abbrev first-call : Here lts.After-known-told → Here lts.After-read-u
   first-call c = c .before .before .before .before .before
 
   abbrev begun : Here lts.At-loop → Here lts.Start
@@ -56,27 +56,27 @@ module _ (t : ℕ) where
   more-call c = c .before .before .before .before .before
 
   -- The first part, if there is one,
-  first-requires : Here lts.Need-parse-u-requires
+  first-requires : Here lts.Need-read-u-requires
   first-requires c κs =
       let pre = c .before .before .before .pre in
       (omega (arith, pre .0), pre .1)
 
   none-length : Here lts.Need-same-length
-  none-length c = c .before .before .before .before .parse-u .kept .1 .1 .1 .0
+  none-length c = c .before .before .before .before .read-u .kept .1 .1 .1 .0
 
   none : Here lts.Need-returns
   none c =
       let at-call = c .before .before .before .before in
-      Chains.none (chain-C (start at-call .args .inside)) (lost (at-call .parse-u .ensures) (c .enum-told .given .1))
+      Chains.none (chain-C (start at-call .args .inside)) (lost (at-call .read-u .ensures) (c .enum-told .given .1))
 
   first : (c : Here lts.After-known-told) →
       let args = start (first-call c) .args in
       let part = c .before .first .given .0 in
       PartsRead (goC (args .inside)) (goCs (args .inside)) (args .ws .now) (args .at) (args .arena .now) (args .top)
-      (part .0) (part .1 .0) (part .1 .1 .0) (first-call c .parse-u .last .1 .1 .1 .0)
+      (part .0) (part .1 .0) (part .1 .1 .0) (first-call c .read-u .last .1 .1 .1 .0)
   first c =
       Chains.first (chain-C (start (first-call c) .args .inside))
-      (took (first-call c .parse-u .ensures) (λ a m h. span h) (c .before .first .given .1))
+      (took (first-call c .read-u .ensures) (λ a m h. span h) (c .before .first .given .1))
 
   loop-holds : Here lts.Need-loop-holds
   loop-holds c = λ o h. h
@@ -100,10 +100,10 @@ module _ (t : ℕ) where
   join-space c =
       Chains.joined (chain-C (begun (head c) .args .inside)) (begun (head c) .pre .1) (parts (head c)) (join-word c)
 
-  add-more : Here lts.Need-add-parse-u
+  add-more : Here lts.Need-add-read-u
   add-more c = let s = join-space c in omega arith
 
-  more-requires : Here lts.Need-parse-u-requires-2
+  more-requires : Here lts.Need-read-u-requires-2
   more-requires c κs =
       let s = join-space (c .before) in
       let p = parts (head (c .before)) .part .spans in
@@ -163,9 +163,9 @@ module _ (t : ℕ) where
       (λ e. c .if1 .left (c .before .number-at .ensures ∙ e))
 
   -- So the member meets its contract, if the calls with lower measures do.
-  pub met : {M : Type 1} → lts.Closed (calls-parse-c t) (parse-c-at t) reads.Post M
+  pub met : {M : Type 1} → lts.Closed (calls-read-c t) (read-c-at t) reads.Post M
   met =
-      lts.spec (calls-parse-c t) (parse-c-at t) reads.Post Inv-loop μ-loop
+      lts.spec (calls-read-c t) (read-c-at t) reads.Post Inv-loop μ-loop
       first-requires (λ c. search needs) (λ c. search needs) none-length none loop-holds
       (λ c κs. search needs) add-more more-requires (λ c. search needs) (λ c. search needs) missing-length
       missing more-fits join-facts-requires loop-less loop-again done-length done

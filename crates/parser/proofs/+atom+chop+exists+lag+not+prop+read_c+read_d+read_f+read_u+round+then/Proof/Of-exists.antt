@@ -15,8 +15,8 @@ use Rattle.parser.proofs.Steps
 use Rattle.parser.proofs.Stored.{Gave, Space, took, lost, room, past-first, skip, fits-tree}
 use Rattle.parser.proofs.exists.Kinds.{ps, r}
 use Rattle.parser.proofs.exists.Reads as reads
-use Rattle.parser.proofs.+atom+chop+exists+not+parse_c+parse_d+parse_f+parse_u+prop+round+then.Lts-exists as lts
-use Rattle.parser.proofs.+atom+chop+exists+not+parse_c+parse_d+parse_f+parse_u+prop+round+then.Proof.Frame.{
+use Rattle.parser.proofs.+atom+chop+exists+lag+not+prop+read_c+read_d+read_f+read_u+round+then.Lts-exists as lts
+use Rattle.parser.proofs.+atom+chop+exists+lag+not+prop+read_c+read_d+read_f+read_u+round+then.Proof.Frame.{
   calls-exists,
   exists-at,
 }
@@ -26,17 +26,17 @@ module _ (t : ℕ) where
   abbrev Here : (lts.Claims → In 2 ps → Out 2 ps r → Type 0) → Type 0
   Here place = place (calls-exists t) (exists-at t) reads.Post
 
-  -- The places: the start; the signal, the call of `parse_u`, and its tree.
+  -- The places: the start; the signal, the call of `read_u`, and its tree.
   abbrev start : Here lts.After-slice-known → Here lts.Start
   start c = c .before .before
 
   abbrev at-exists : Here lts.Else1 → Here lts.After-slice-known
   at-exists c = c .before .before .before
 
-  abbrev at-signal : Here lts.After-parse-u → Here lts.Else1
+  abbrev at-signal : Here lts.After-read-u → Here lts.Else1
   at-signal c = c .before .before
 
-  abbrev call : Here lts.After-known-told → Here lts.After-parse-u
+  abbrev call : Here lts.After-known-told → Here lts.After-read-u
   call c = c .before .before .before .before .before
 
   -- `exists`,
@@ -81,31 +81,31 @@ module _ (t : ℕ) where
       let l = inside (args .ws .now) (args .at + 1) (omega (arith, signal .ensures)) in
       skip (exists-space (at-exists c)) (omega arith) (omega arith)
 
-  add-signal : Here lts.Need-add-parse-u
+  add-signal : Here lts.Need-add-read-u
   add-signal c = let s = signal-space c in omega arith
 
-  u-requires : Here lts.Need-parse-u-requires
+  u-requires : Here lts.Need-read-u-requires
   u-requires c κs =
       let here = c .before in
       let s = signal-space here in
       (omega (arith, start (at-exists here) .pre .0), room s)
 
   no-u-length : Here lts.Need-same-length
-  no-u-length c = c .before .before .before .before .parse-u .kept .1 .1 .1 .0
+  no-u-length c = c .before .before .before .before .read-u .kept .1 .1 .1 .0
 
   no-u : Here lts.Need-returns-2
   no-u c =
       let none = c .before .before .before .before in
       let signal = at-signal none in
       Steps.exists-no refl (exists-word (at-exists signal)) (signal-word signal)
-      (lost (none .parse-u .ensures) (c .enum-told .given .1))
+      (lost (none .read-u .ensures) (c .enum-told .given .1))
 
   -- and a U.
   tree : (c : Here lts.After-known-told) →
       let args = start (at-exists (at-signal (call c))) .args in
       Gave (goU false) (args .ws .now) (args .at + 2) (args .arena .now) (args .top)
-      (c .before .j .given .0) (call c .parse-u .last .1 .1 .1 .0)
-  tree c = took (call c .parse-u .ensures) (λ a m h. span h) (c .before .j .given .1)
+      (c .before .j .given .0) (call c .read-u .last .1 .1 .1 .0)
+  tree c = took (call c .read-u .ensures) (λ a m h. span h) (c .before .j .given .1)
 
   sub-signal : Here lts.Need-sub-push
   sub-signal c =
@@ -120,7 +120,7 @@ module _ (t : ℕ) where
   u-length : Here lts.Need-same-length-2
   u-length c =
       let here = c .before .before .before .before .before in
-      c .before .before .before .push .kept .0 ∙ call here .parse-u .kept .1 .1 .1 .0
+      c .before .before .before .push .kept .0 ∙ call here .read-u .kept .1 .1 .1 .0
 
   u : Here lts.Need-returns-3
   u c =
