@@ -181,7 +181,7 @@ module _ (p : ℕ → Bool) where
       go true y = row-one b y
       go false y = row-none b b (omega arith) (no y)
 
-  in-a-row : (b e n : ℕ) → b + n ≡ e → InARow P b e (streak p e n)
+  pub in-a-row : (b e n : ℕ) → b + n ≡ e → InARow P b e (streak p e n)
   in-a-row b zero n h = let s : b ≡ 0 = omega arith in rw s (row-at 0)
   in-a-row b (suc e) zero h = let s : b ≡ suc e = omega arith in rw s (row-at (suc e))
   in-a-row b (suc e) (suc n) h = go (p (suc e)) refl (in-a-row b e n (omega arith))
@@ -230,7 +230,7 @@ module _ (p : ℕ → Bool) (n : ℕ) where
   due-iff : (i j : ℕ) → (due p n i j ≡ true) ↔ ((n ≤ j - i) × ((k : ℕ) → i ≤ k → k < j → p k ≡ true))
   due-iff i j = both (leb n (j - i)) (each p i (j - i)) (leb-true n (j - i), le-leb n (j - i)) (each-on p i j)
 
-  lag-iff : (q : ℕ → Bool) (b e : ℕ) →
+  pub lag-iff : (q : ℕ → Bool) (b e : ℕ) →
       (lagged p n q b e ≡ true)
       ↔ ((i j : ℕ) → b ≤ i → i < j → j ≤ e → n ≤ j - i → ((k : ℕ) → i ≤ k → k < j → p k ≡ true) → q j ≡ true)
   lag-iff q b e = (

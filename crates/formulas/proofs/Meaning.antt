@@ -1,11 +1,15 @@
--- Laws that pin the interval meaning: what it is on a single tick, that `lag` with n = 0 means what it means with n = 1
--- (SPEC 4.11), and that a lead which is false stays false as the interval grows (SPEC 3.9). Assumes nothing.
-use mathlib.Core.Path.{_≡_, refl, ap, ap₂, _∙_}
-use mathlib.Core.Bool.{Bool, true, false, not, _&&_, _||_, cond, false≢true, and-eq-true-iff, or-true}
+-- Laws that pin the interval meaning: what it is on a single tick, that a lead which is false stays false as the
+-- interval grows (SPEC 3.9), that `lag` with n = 0 means what it means with n = 1, and what `lag` asks of one tick more
+-- (SPEC 4.11). Assumes nothing.
+use mathlib.Core.Path.{_≡_, refl, sym, ap, _∙_}
+use mathlib.Core.Bool.{Bool, true, false, _&&_, _||_, cond, false≢true, and-eq-true-iff, or-true}
+use mathlib.Core.Logic.{_↔_, ⊎-elim}
 use Prim.Native.Nat.{ℕ, zero, suc, _+_, _-_, _≤_, _<_}
 use native.Mathlib.Omega.{arith}
-use native.Mathlib.Nat.{le-refl}
-use borrow.Author.Tests.{leb-true, ltb-true, le-leb, lt-ltb, le-ltb, eq-eqb}
+use native.Mathlib.Nat.{le-refl, eq-or-lt-of-le}
+use native.Mathlib.Decide.{decLe, decLt}
+use lib.Dec.{leb, ltb}
+use borrow.Author.Tests.{leb-true, ltb-true, le-leb, lt-leb, lt-ltb, le-ltb, eq-eqb}
 use Rattle.traces.specs.Trace.{Trace, truth}
 use Rattle.traces.specs.Compare.{Op, compares}
 use Rattle.traces.specs.Compare.Op.{le, lt, eq, gt, ge}
@@ -15,8 +19,10 @@ use Rattle.formulas.specs.Formula.Test.{begin, end, point, held, kept}
 use Rattle.formulas.specs.Formula.Count.{sum, age}
 use Rattle.formulas.specs.Formula.Formula.{test, len, count, lag, neg, and, or, then}
 use Rattle.formulas.specs.Tree.{lead, upper}
-use Rattle.formulas.specs.Meaning.{value, each, tally, streak, due, lagged, at, meaning}
+use Rattle.formulas.specs.Meaning.{value, each, tally, streak, lagged, at, meaning}
+use Rattle.formulas.specs.Laws.{InARow}
 use Rattle.formulas.proofs.Formulas.{raw}
+use Rattle.formulas.proofs.Laws.{in-a-row, lag-iff}
 
 -- ---- on a single tick
 
@@ -65,39 +71,11 @@ module _ (trace : Trace) (p : Prop) (b : ℕ) where
     pub age-single : meaning trace (count age p o n) b b ≡ compares o (truth (at trace p b)) (value n (trace b))
     age-single = rw (empty, single-streak (at trace p) b)
 
-  -- Nothing is due: `lag` is true.
+  -- In `lag` nothing is due: it is true.
   pub lag-single : (n : Num) (q : Prop) → meaning trace (lag p n q) b b ≡ true
   lag-single n q = rw empty
 
--- ---- `lag` with n = 0 and with n = 1
-
--- Equal of the m numbers from i on, equal of each of them together.
-each-same : (p q : ℕ → Bool) (i m : ℕ) → ((k : ℕ) → i ≤ k → k < i + m → p k ≡ q k) → each p i m ≡ each q i m
-each-same p q i zero h = refl
-each-same p q i (suc m) h =
-    ap₂ _&&_ (h i (omega arith) (omega arith)) (each-same p q (suc i) m (λ k l u. h k (omega arith) (omega arith)))
-
--- i < j are 0 and 1 apart, or more.
-due-one : (p : ℕ → Bool) (i j : ℕ) → i < j → due p 0 i j ≡ due p 1 i j
-due-one p i j h = rw (le-leb 0 (j - i) (omega arith), le-leb 1 (j - i) (omega arith))
-
--- SPEC 4.11: the two are different formulas
-pub lag-two : (p q : Prop) → ¬ (lag p (literal 0) q ≡ lag p (literal 1) q)
-lag-two p q e = let n : _≡_ {A = ℕ} 0 1 = cc in absurd (omega arith)
-
--- with one meaning.
-pub lag-nought : (trace : Trace) (p q : Prop) (b e : ℕ) →
-    meaning trace (lag p (literal 0) q) b e ≡ meaning trace (lag p (literal 1) q) b e
-lag-nought trace p q b e =
-    each-same _ _ b (e - b)
-    (λ i l u. each-same _ _ (suc i) (e - i)
-    (λ j l′ u′. ap (λ (x : Bool). not x || at trace q j) (due-one (at trace p) i j (omega arith))))
-
 -- ---- leads
-
--- One tick more is one number more.
-later : (b e : ℕ) → b ≤ e → suc e - b ≡ suc (e - b)
-later b e h = omega arith
 
 -- One number more: if each of them has p, then each without the last;
 each-less : (p : ℕ → Bool) (i n : ℕ) → each p i (suc n) ≡ true → each p i n ≡ true
@@ -105,15 +83,6 @@ each-less p i zero h = refl
 each-less p i (suc n) h =
     let x = and-eq-true-iff (p i) (each p (suc i) (suc n)) .0 h in
     and-eq-true-iff (p i) (each p (suc i) n) .1 (x .0, each-less p (suc i) n (x .1))
-
--- what each has that gives q, each has q;
-each-gives : (p q : ℕ → Bool) (i n : ℕ) → ((k : ℕ) → i ≤ k → k < i + n → p k ≡ true → q k ≡ true) → each p i n ≡ true
-    → each q i n ≡ true
-each-gives p q i zero g h = refl
-each-gives p q i (suc n) g h =
-    let x = and-eq-true-iff (p i) (each p (suc i) n) .0 h in
-    and-eq-true-iff (q i) (each q (suc i) n) .1
-    (g i (omega arith) (omega arith) (x .0), each-gives p q (suc i) n (λ k l u. g k (omega arith) (omega arith)) (x .1))
 
 -- and no fewer have p than without the last.
 tally-more : (p : ℕ → Bool) (i n : ℕ) → tally p i n ≤ tally p i (suc n)
@@ -123,17 +92,6 @@ tally-more p i (suc n) = go (p i) (tally p (suc i) n) (tally p (suc i) (suc n)) 
     go : (x : Bool) (a b : ℕ) → a ≤ b → cond x (suc a) a ≤ cond x (suc b) b
     go true a b h = omega arith
     go false a b h = h
-
--- What is due by e + 1 and followed, is so by e.
-lagged-less : (p : ℕ → Bool) (n : ℕ) (q : ℕ → Bool) (b e : ℕ) → b ≤ e → lagged p n q b (suc e) ≡ true
-    → lagged p n q b e ≡ true
-lagged-less p n q b e h m =
-    each-gives (λ i. each (of i) (suc i) (suc e - i)) (λ i. each (of i) (suc i) (e - i)) b (e - b)
-    (λ i l u x. each-less (of i) (suc i) (e - i) (rw (later i e (omega arith)) at x))
-    (each-less (λ i. each (of i) (suc i) (suc e - i)) b (e - b) (rw (later b e h) at m))
-  where
-    of : ℕ → ℕ → Bool
-    of i j = not (due p n i j) || q j
 
 -- What `<=` or `<` says of a count it says of a smaller one.
 compares-less : (o : Op) (x y n : ℕ) → upper o ≡ true → x ≤ y → compares o y n ≡ true → compares o x n ≡ true
@@ -150,9 +108,13 @@ either false b a′ b′ p q e = ap (λ (x : Bool). a′ || x) (q e) ∙ or-true
 
 module _ (trace : Trace) (same : (i j : ℕ) → (trace i) .parameters ≡ (trace j) .parameters) where
   -- n is the same at all ticks.
-  value-same : (n : Num) (i j : ℕ) → value n (trace i) ≡ value n (trace j)
+  pub value-same : (n : Num) (i j : ℕ) → value n (trace i) ≡ value n (trace j)
   value-same (literal n) i j = refl
   value-same (parameter k) i j = rw (same i j)
+
+  -- One tick more is one number more.
+  later : (b e : ℕ) → b ≤ e → suc e - b ≡ suc (e - b)
+  later b e h = omega arith
 
   -- SPEC 3.9: a lead that is true on b to e + 1 is true on b to e.
   pub lead-falls : (f : Formula) → lead (raw f) ≡ true → (b e : ℕ) → b ≤ e →
@@ -169,7 +131,9 @@ module _ (trace : Trace) (same : (i j : ℕ) → (trace i) .parameters ≡ (trac
       (tally-more (at trace p) b (e - b)) (rw (later b e h, value-same n (suc e) e) at m)
   lead-falls (count age p o n) l b e h m = absurd (false≢true l)
   lead-falls (lag p n q) l b e h m =
-      lagged-less (at trace p) (value n (trace e)) (at trace q) b e h (rw (value-same n (suc e) e) at m)
+      let longer = lag-iff (at trace p) (value n (trace (suc e))) (at trace q) b (suc e) .0 m in
+      lag-iff (at trace p) (value n (trace e)) (at trace q) b e .1
+      (λ i j l m u far. longer i j l m (omega arith) (omega (arith, value-same n (suc e) e)))
   lead-falls (neg f) l b e h m = absurd (false≢true l)
   lead-falls (and f g) l b e h m =
       let k = and-eq-true-iff (lead (raw f)) (lead (raw g)) .0 l in
@@ -181,3 +145,86 @@ module _ (trace : Trace) (same : (i j : ℕ) → (trace i) .parameters ≡ (trac
       either (meaning trace f b (suc e)) (meaning trace g b (suc e)) (meaning trace f b e) (meaning trace g b e)
       (lead-falls f (k .0) b e h) (lead-falls g (k .1) b e h) m
   lead-falls (then f g) l b e h m = absurd (false≢true l)
+
+-- ---- `lag`
+
+-- Two truth values that are true together are the same.
+pub same-truth : (x y : Bool) → (x ≡ true) ↔ (y ≡ true) → x ≡ y
+same-truth true y h = sym (h .0 refl)
+same-truth false true h = h .1 refl
+same-truth false false h = refl
+
+-- SPEC 4.11: with n = 0 and with n = 1 it is two formulas
+pub lag-two : (p q : Prop) → ¬ (lag p (literal 0) q ≡ lag p (literal 1) q)
+lag-two p q e = let n : _≡_ {A = ℕ} 0 1 = cc in absurd (omega arith)
+
+-- with one meaning: i < j are 1 apart or more.
+pub lag-nought : (trace : Trace) (p q : Prop) (b e : ℕ) →
+    meaning trace (lag p (literal 0) q) b e ≡ meaning trace (lag p (literal 1) q) b e
+lag-nought trace p q b e =
+    let with-none = lag-iff (at trace p) 0 (at trace q) b e in
+    let with-one = lag-iff (at trace p) 1 (at trace q) b e in
+    same-truth _ _ (
+      λ h. with-one .1 (λ i j l m u far. with-none .0 h i j l m u (omega arith)),
+      λ h. with-none .1 (λ i j l m u far. with-one .0 h i j l m u (omega arith)),
+    )
+
+-- Of a run of r ticks of P up to one tick ago: it is shorter than n, or there is none, or x.
+asked-iff : (r n : ℕ) (x : Bool) → ((ltb r n || leb r 0) || x ≡ true) ↔ (n ≤ r → 0 < r → x ≡ true)
+asked-iff r n x = elim (decLt r n) [
+  | yes short ↦ (λ e far some. absurd (omega arith), λ h. rw (lt-ltb r n short))
+  | no far ↦ elim (decLe r 0) [
+    | yes none ↦ (λ e far some. absurd (omega arith), λ h. rw (le-ltb r n (omega arith), le-leb r 0 none))
+    | no some ↦
+        let long = le-ltb r n (omega arith) in
+        let there = lt-leb r 0 (omega arith) in
+        (λ e far some. rw (long, there) at e, λ h. rw (long, there) (h (omega arith) (omega arith)))
+  ]
+]
+
+module _ (p : ℕ → Bool) (n : ℕ) (q : ℕ → Bool) (b e : ℕ) (h : b ≤ e) where
+  -- P's run up to e.
+  abbrev r : ℕ
+  r = streak p e (e - b)
+
+  run : InARow (λ i. p i ≡ true) b e r
+  run = in-a-row p b e (e - b) (omega arith)
+
+  -- P from i on up to e is no longer than the run.
+  within-run : (i : ℕ) → b ≤ i → i ≤ e → ((k : ℕ) → i ≤ k → k < suc e → p k ≡ true) → suc e - i ≤ r
+  within-run i l u on = elim (decLe (suc e - i) r) [
+    | yes short ↦ short
+    | no far ↦
+        absurd (run .no-more (e - r) (omega arith) (omega arith) (on (e - r) (omega arith) (omega arith)))
+  ]
+
+  -- One tick more: Q is asked for at it if the run up to e is n ticks or more, and a tick at least.
+  pub lagged-next : lagged p n q b (suc e) ≡ lagged p n q b e && ((ltb r n || leb r 0) || q (suc e))
+  lagged-next =
+      same-truth _ _ (
+        λ m.
+            let longer = lag-iff p n q b (suc e) .0 m in
+            both .1 (
+              lag-iff p n q b e .1 (λ i j l k u. longer i j l k (omega arith)),
+              asked-iff r n (q (suc e)) .1
+                  (λ far some. longer (suc e - r) (suc e) (omega (arith, run .none-before)) (omega arith) (omega arith)
+                  (omega (arith, run .none-before)) (λ k u v. run .have k (omega arith) (omega arith))),
+            ),
+        λ m. lag-iff p n q b (suc e) .1 (follows (both .0 m .0) (both .0 m .1)),
+      )
+    where
+      last : Bool
+      last = (ltb r n || leb r 0) || q (suc e)
+
+      both : (lagged p n q b e && last ≡ true) ↔ ((lagged p n q b e ≡ true) × (last ≡ true))
+      both = and-eq-true-iff (lagged p n q b e) last
+
+      follows : lagged p n q b e ≡ true → last ≡ true → (i j : ℕ) → b ≤ i → i < j → j ≤ suc e → n ≤ j - i →
+          ((k : ℕ) → i ≤ k → k < j → p k ≡ true) → q j ≡ true
+      follows before now i j l m u far on =
+          ⊎-elim
+          (λ (s : j ≡ suc e).
+          let whole = within-run i l (omega arith) (rw s at on) in
+          rw s (asked-iff r n (q (suc e)) .0 now (omega arith) (omega arith)))
+          (λ (s : j < suc e). lag-iff p n q b e .0 before i j l m (omega arith) far on)
+          (eq-or-lt-of-le u)
