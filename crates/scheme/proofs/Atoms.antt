@@ -18,7 +18,7 @@ use Rattle.tables.specs.Table.{kindOf}
 use Rattle.limits.specs.Limits.{parameterCount}
 use Rattle.scheme.specs.Scheme.{_⊕_, comparisonOf}
 use Rattle.tables.specs.Table.{equation}
-use Rattle.scheme.specs.Emit.{begin-es, point-es, kept-es, held-es, len-es, sum-es, age-es}
+use Rattle.scheme.specs.Emit.{begin-es, point-es, kept-es, held-es, len-es, sum-es, run-es}
 use Rattle.scheme.proofs.Offsets.{longer, each-last, tally-last, streak-single}
 use Rattle.scheme.proofs.Local.{on, Stand}
 use Rattle.scheme.proofs.Caps.{compares-held, increased-held, restarted-held, first-held}
@@ -87,20 +87,21 @@ module _ (cap : ℕ) (trace : Trace) (flow : ℕ → ℕ → ℕ) where
           rw (counted, negated (suc (b ⊕ d)), since .1, memory, next, says (b ⊕ d), ago)
           (increased-held cap (tally q b d) (q (b ⊕ d)) ∙ ap (min cap) (sym (tally-last q b d)))
 
-      pub age-is : (op : Op) (x : Num) → Stand cap trace flow o (age-es n op x o p)
-          → (b d : ℕ) → Since (on flow s) b d → flow (b ⊕ d) (o ⊕ 3) ≡ min cap (streak q (b ⊕ d) d)
+      -- The run up to now, of `age` and of `lag`.
+      pub run-is : Stand cap trace flow o (run-es n o p) → (b d : ℕ) → Since (on flow s) b d
+          → flow (b ⊕ d) (o ⊕ 3) ≡ min cap (streak q (b ⊕ d) d)
       unfolding kindOf
-      age-is op x h b zero since =
+      run-is h b zero since =
           let before = h .1 .0 b in
           let more = h .1 .1 .0 b in
           let counted = h .1 .1 .1 .0 b in
           rw (counted, more, before, negated b, since, says b, streak-single) (first-held cap (q b))
-      age-is op x h b (suc d) since =
+      run-is h b (suc d) since =
           let memory = h .0 .1 (b ⊕ d) in
           let before = h .1 .0 (suc (b ⊕ d)) in
           let more = h .1 .1 .0 (suc (b ⊕ d)) in
           let counted = h .1 .1 .1 .0 (suc (b ⊕ d)) in
-          let ago = age-is op x h b d (since .0) in
+          let ago = run-is h b d (since .0) in
           rw (counted, more, before, negated (suc (b ⊕ d)), since .1, memory, says (suc (b ⊕ d)), ago)
           (restarted-held cap (streak q (b ⊕ d) d) (q (suc (b ⊕ d))))
 

@@ -9,6 +9,7 @@ pub mod Places
 pub mod Local
 pub mod Caps
 pub mod Atoms
+pub mod Lag
 pub mod Then
 pub mod Nodes
 pub mod Starts

@@ -8,26 +8,27 @@ use native.Mathlib.Omega.{arith}
 use borrow.Author.Tests.{eq-eqb}
 use Rattle.traces.specs.Trace.{Trace, signalAt, parameterAt}
 use Rattle.traces.proofs.Laws.{nonzero-truth}
-use Rattle.formulas.specs.Formula.{Prop, Formula}
+use Rattle.formulas.specs.Formula.{Num, Prop, Formula}
 use Rattle.formulas.specs.Formula.Prop.{constant, signal, negP, andP, orP}
 use Rattle.formulas.specs.Formula.Test.{begin, end, point, held, kept}
 use Rattle.formulas.specs.Formula.Count.{sum, age}
-use Rattle.formulas.specs.Formula.Formula.{test, len, count, neg, and, or, then}
+use Rattle.formulas.specs.Formula.Formula.{test, len, count, lag, neg, and, or, then}
 use Rattle.formulas.specs.Meaning.{holds, at, tally, streak, meaning}
 use Rattle.formulas.specs.Tree.{lead, leads}
 use Rattle.formulas.specs.Bounds.{bounded, numBound}
 use Rattle.formulas.specs.Raw.{rawP, raw}
-use Rattle.formulas.proofs.Meaning.{lead-falls}
+use Rattle.formulas.proofs.Meaning.{value-same, lead-falls}
 use Rattle.tables.specs.Table.{Equation, kindOf}
 use Rattle.limits.specs.Limits.{parameterCount}
 use Rattle.scheme.specs.Scheme.{_⊕_}
 use Rattle.scheme.specs.Emit.{Block, placeAfter, emitP, emit, namedByP, namedBy, lead-end-es, then-es}
-use Rattle.scheme.specs.Emit.{begin-es, point-es, kept-es, held-es, sum-es, age-es}
+use Rattle.scheme.specs.Emit.{begin-es, point-es, kept-es, held-es, sum-es, age-es, run-es, fine-es, always-es}
 use Rattle.scheme.proofs.Offsets.{⊕-add, span, lt-longer, eq-longer}
 use Rattle.scheme.proofs.Places.{each-left, each-right}
 use Rattle.scheme.proofs.Local.{on, LocalAt, Stand}
-use Rattle.scheme.proofs.Atoms.{Since, begin-is, point-is, kept-is, held-is, len-is, sum-is, age-is}
+use Rattle.scheme.proofs.Atoms.{Since, begin-is, point-is, kept-is, held-is, len-is, sum-is, run-is}
 use Rattle.scheme.proofs.Atoms.{compare-is}
+use Rattle.scheme.proofs.Lag.{lag-is}
 use Rattle.scheme.proofs.Then.{then-is, second-negated}
 
 module _ (cap : ℕ) (trace : Trace) (flow : ℕ → ℕ → ℕ) where
@@ -123,6 +124,40 @@ module _ (cap : ℕ) (trace : Trace) (flow : ℕ → ℕ → ℕ) where
     with-prop {o = o} p rows given =
         let x : Block = emitP flowOf p o in
         (prop-is p o (given .signals) (left (x .es) _ o (given .stands)), right (x .es) _ o (given .stands))
+
+    -- A `lag`: its P and its Q, and the rows after each of them, the last ones in two parts.
+    record LagParts (p q : Prop) (x : Num) (s n o′ o″ p-flow q-flow : ℕ) : Type 0 where
+      bound : numBound cap x ≡ true
+      says-p : (k : ℕ) → on flow p-flow k ≡ at trace p k
+      says-q : (k : ℕ) → on flow q-flow k ≡ at trace q k
+      run : Stands o′ (run-es n o′ p-flow)
+      fine : Stands o″ (fine-es x o″ (o′ ⊕ 1) q-flow)
+      always : Stands (o″ ⊕ 4) (always-es s (o″ ⊕ 4) (o″ ⊕ 3))
+
+    lag-parts : (p : Prop) (x : Num) (q : Prop) {s n o : ℕ} → GivenOf (lag p x q) s n o →
+        let y : Block = emitP flowOf p o in
+        let o′ : ℕ = placeAfter o (y .es) in
+        let z : Block = emitP flowOf q (o′ ⊕ 4) in
+        LagParts p q x s n o′ (placeAfter (o′ ⊕ 4) (z .es)) (y .out) (z .out)
+    lag-parts p x q {s} {n} {o} given =
+        let y : Block = emitP flowOf p o in
+        let o′ : ℕ = placeAfter o (y .es) in
+        let z : Block = emitP flowOf q (o′ ⊕ 4) in
+        let o″ : ℕ = placeAfter (o′ ⊕ 4) (z .es) in
+        let run : List Equation = run-es n o′ (y .out) in
+        let fine : List Equation = fine-es x o″ (o′ ⊕ 1) (z .out) in
+        let always : List Equation = always-es s (o″ ⊕ 4) (o″ ⊕ 3) in
+        let parts = three (y .es) run (z .es ++ (fine ++ always)) o (given .stands) in
+        let last = three (z .es) fine always (o′ ⊕ 4) (parts .2) in
+        let bounds = and-eq-true-iff (bounded cap (rawP p)) _ .0 (given .bound) .1 in
+        record {
+          bound = and-eq-true-iff (numBound cap x) (bounded cap (rawP q)) .0 bounds .0;
+          says-p = prop-is p o (named-left (namedByP p) (namedByP q) (given .signals)) (parts .0);
+          says-q = prop-is q (o′ ⊕ 4) (named-right (namedByP p) (namedByP q) (given .signals)) (last .0);
+          run = parts .1;
+          fine = last .1;
+          always = last .2;
+        }
 
     -- The formula under a `!`.
     under-not : {leading bounds : Bool} {named : ℕ → Bool} {s n o : ℕ} (xs ys : List Equation)
@@ -262,11 +297,21 @@ module _ (cap : ℕ) (trace : Trace) (flow : ℕ → ℕ → ℕ) where
         let y : Block = emitP flowOf p o in
         let o′ : ℕ = placeAfter o (y .es) in
         let (says, rows) = with-prop flowOf p (age-es n op x) given in
-        let counted = age-is cap trace flow s n (given .negated) o′ (y .out) (at trace p) says op x rows b d since in
+        let run : Stands o′ (run-es n o′ (y .out)) = (rows .0, (rows .1 .0, (rows .1 .1 .0, (rows .1 .1 .1 .0, tt)))) in
+        let counted = run-is cap trace flow s n (given .negated) o′ (y .out) (at trace p) says run b d since in
         let bound = and-eq-true-iff (bounded cap (rawP p)) (numBound cap x) .0 (given .bound) .1 in
         rw (span b d)
         (compare-is cap trace flow small (o′ ⊕ 4) (o′ ⊕ 3) op x bound (rows .1 .1 .1 .1) (b ⊕ d)
         (streak (at trace p) (b ⊕ d) d) counted)
+    agrees (lag p x q) s n o given = λ b d since.
+        let y : Block = emitP flowOf p o in
+        let o′ : ℕ = placeAfter o (y .es) in
+        let z : Block = emitP flowOf q (o′ ⊕ 4) in
+        let o″ : ℕ = placeAfter (o′ ⊕ 4) (z .es) in
+        let parts = lag-parts flowOf p x q given in
+        lag-is cap trace flow s n (given .negated) small x (value-same trace same x) (parts .bound)
+        o′ (y .out) (at trace p) (parts .says-p) (parts .run) o″ (z .out) (at trace q) (parts .says-q) (parts .fine)
+        (parts .always) b d since
     agrees (neg f) s n o given = λ b d since.
         let x : Block = emit flowOf f s n o in
         let row = right (x .es) _ o (given .stands) in
