@@ -8,24 +8,25 @@ use lib.ListN.{length}
 use lib.Seq.{sets}
 use borrow.Author.Tests.{ne-eqb}
 use Rattle.traces.specs.Compare.{Op, opNumber}
+use Rattle.traces.specs.Compare.Op.{lt}
 use Rattle.formulas.specs.Formula.{Num}
 use Rattle.formulas.specs.Tree.{Tree, upper, leadTest, leadCount}
-use Rattle.formulas.specs.Tree.Tree.{neg, then, chop, exists, test, len, count}
+use Rattle.formulas.specs.Tree.Tree.{neg, then, chop, exists, test, len, count, lag}
 use Rattle.formulas.specs.Arena
 use Rattle.formulas.specs.Arena.{row, flat, numKind, numValue}
 use Rattle.words.specs.Word
-use Rattle.words.specs.Word.{isSignal, isTest, isCount}
+use Rattle.words.specs.Word.{isSignal, isNum, isTest, isCount}
 use Rattle.grammar.specs.Grammar.{signalWord, opWord, numWord, testWord, countWord}
 use Rattle.grammar.specs.Parse.{Result, Goal, word, read, bind, joinOf, unitOf}
-use Rattle.grammar.specs.Parse.{stepB, stepExists, comparisonAt, withComparison, closed}
+use Rattle.grammar.specs.Parse.{stepB, stepExists, stepLag, comparisonAt, withComparison, closed, goSquare}
 use Rattle.grammar.specs.Parse.Result.{no-rule, ok}
 use Rattle.grammar.specs.Parse.Goal.{goF, goD, goU, goA, goB}
 use Rattle.grammar.specs.Parse.Join.{join-then, join-chop, join-none}
 use Rattle.grammar.specs.Parse.Unit.{unit-not, unit-round, unit-leaf, unit-exists, unit-atom}
-use Rattle.grammar.specs.Parse.Atom.{atom-test, atom-len, atom-count, atom-none}
+use Rattle.grammar.specs.Parse.Atom.{atom-test, atom-len, atom-count, atom-lag, atom-none}
 use Rattle.grammar.proofs.Sound.{read-eq}
 use Rattle.grammar.proofs.Complete.{then-on, U-at, A-at, B-at, F-at, closed-at}
-use Rattle.grammar.proofs.Complete.{test-atom, len-atom, count-atom}
+use Rattle.grammar.proofs.Complete.{test-atom, len-atom, count-atom, lag-atom}
 use Rattle.grammar.proofs.Words.{test-number, count-number}
 use Rattle.facts.specs.Facts.{factsOf, atomFacts, negFacts, thenFacts, chopFacts, existsFacts}
 use Rattle.facts.specs.declared.Facts.{Facts}
@@ -61,12 +62,17 @@ module _ (ws : List ℕ) where
 
   -- an atom with square brackets,
   pub test-is : (i : ℕ) → isTest (word ws i) ≡ true →
-      read ws goA i ≡ bind (read ws goB (i + 1)) (λ p j. ok (test (testWord (word ws i)) p) j)
+      read ws goA i ≡ bind (read ws goSquare (i + 1)) (λ p j. ok (test (testWord (word ws i)) p) j)
   test-is i k = A-at ws i atom-test (test-atom (word ws i) k)
 
   pub count-is : (i : ℕ) → isCount (word ws i) ≡ true →
-      read ws goA i ≡ bind (read ws goB (i + 1)) (λ p j. withComparison ws (count (countWord (word ws i)) p) j)
+      read ws goA i ≡ bind (read ws goSquare (i + 1)) (λ p j. withComparison ws (count (countWord (word ws i)) p) j)
   count-is i k = A-at ws i atom-count (count-atom (word ws i) k)
+
+  pub lag-is : (i : ℕ) → word ws i ≡ Word.LAG →
+      read ws goA i ≡ bind (read ws (goB Word.SQUARE Word.COMMA) (i + 1))
+      (λ p j. stepLag ws (read ws) p (isNum (word ws j)) j)
+  lag-is i w = A-at ws i atom-lag (lag-atom (word ws i) w)
 
   -- and a bracket that is not closed.
   not-closed : (w : ℕ) (t : Tree) (j : ℕ) → (word ws j ≡ w → ⊥) → closed ws w t j ≡ no-rule
@@ -147,8 +153,8 @@ pub record Bracket (g sub : Goal) (left right : ℕ) : Type 0 where
 pub round : (l : Bool) → Bracket (goU l) (goF l) Word.ROUND Word.ROUND-END
 round l = record { opens = λ ws i w. U-at ws l i unit-round (ap (unitOf l) w) }
 
-pub square : Bracket goB (goF true) Word.SQUARE Word.SQUARE-END
-square = record { opens = λ ws i w. B-at ws i w }
+pub between : (left right : ℕ) → Bracket (goB left right) (goF true) left right
+between left right = record { opens = λ ws i w. B-at ws left right i w }
 
 module _ {g sub : Goal} {left right : ℕ} (z : Bracket g sub left right) where
   module _ {ws : List ℕ} {i : ℕ} {before : List ℕ} {top : ℕ} {after : List ℕ} (w : word ws i ≡ left) where
@@ -165,10 +171,11 @@ module _ {g sub : Goal} {left right : ℕ} (z : Bracket g sub left right) where
           says (a .tree) (z .opens ws i w ∙ then-on _ (h .is) ∙ closed-at ws right (a .tree) n v)
           (a .stored) (a .known)
 
--- No square bracket.
-pub B-no : {ws : List ℕ} {i : ℕ} {before : List ℕ} {top : ℕ} {after : List ℕ} →
-    (word ws i ≡ Word.SQUARE → ⊥) → Parses goB ws i before top No after
-B-no {ws} {i} w = says-no (read-eq ws goB i ∙ ap (λ (x : Bool). stepB ws (read ws) x i) (ne-eqb _ _ w))
+-- The first of the two words is not there.
+pub B-no : {left right : ℕ} {ws : List ℕ} {i : ℕ} {before : List ℕ} {top : ℕ} {after : List ℕ} →
+    (word ws i ≡ left → ⊥) → Parses (goB left right) ws i before top No after
+B-no {left} {right} {ws} {i} w =
+    says-no (read-eq ws (goB left right) i ∙ ap (λ (x : Bool). stepB ws (read ws) x right i) (ne-eqb _ _ w))
 
 -- ---- U (SPEC 3.4), and a leaf
 
@@ -218,7 +225,7 @@ module _ {l : Bool} {ws : List ℕ} {i : ℕ} {before : List ℕ} {top : ℕ} {a
 
 module _ {ws : List ℕ} {i : ℕ} {before : List ℕ} {top : ℕ} {after : List ℕ} where
   module _ (k : isTest (word ws i) ≡ true) where
-    pub A-test : {n e p x : ℕ} {f f′ : Facts} {mid : List ℕ} → Took goB ws (i + 1) before top n e f mid →
+    pub A-test : {n e p x : ℕ} {f f′ : Facts} {mid : List ℕ} → Took goSquare ws (i + 1) before top n e f mid →
         x ≡ word ws i → Pushed mid e (Arena.TEST + (x - Word.BEGIN)) 0 0 0 p after →
         f′ ≡ atomFacts (leadTest (testWord x)) → Parses goA ws i before top (At n p f′) after
     A-test h v u facts =
@@ -256,7 +263,7 @@ module _ {ws : List ℕ} {i : ℕ} {before : List ℕ} {top : ℕ} {after : List
 
   module _ (k : isCount (word ws i) ≡ true) where
     pub A-count : {n e x : ℕ} {f : Facts} {r : Parsed} {mid : List ℕ} {lead : Bool} →
-        Took goB ws (i + 1) before top n e f mid → x ≡ word ws i → lead ≡ leadCount (countWord x) →
+        Took goSquare ws (i + 1) before top n e f mid → x ≡ word ws i → lead ≡ leadCount (countWord x) →
         ParsesComparison ws n mid e (Arena.COUNT + (x - Word.SUM)) lead r after → Parses goA ws i before top r after
     A-count h v led c =
         let p = h .part .tree in
@@ -266,7 +273,36 @@ module _ {ws : List ℕ} {i : ℕ} {before : List ℕ} {top : ℕ} {after : List
         (λ o n. ap (λ (y : ℕ). flat p ++ row (Arena.COUNT + y) (opNumber o) (numKind n) (numValue n)) (sym kind))
         (λ o n. ap (λ (y : Bool). atomFacts (y && upper o)) (sym led′))
 
+  -- A `lag`: its P, then n, then its Q.
+  module _ (w : word ws i ≡ Word.LAG) {n e : ℕ} {f : Facts} {first : List ℕ}
+      (h : Took (goB Word.SQUARE Word.COMMA) ws (i + 1) before top n e f first) where
+    -- What is read after P.
+    after-p : {b : Bool} → isNum (word ws n) ≡ b → read ws goA i ≡ stepLag ws (read ws) (h .part .tree) b n
+    after-p k =
+        lag-is ws i w ∙ then-on _ (h .is) ∙ ap (λ (x : Bool). stepLag ws (read ws) (h .part .tree) x n) k
+
+    pub lag-no-n : isNum (word ws n) ≡ false → Parses goA ws i before top No after
+    lag-no-n k = says-no (after-p k)
+
+    module _ (k : isNum (word ws n) ≡ true) where
+      pub lag-no-q : read ws (goB Word.COMMA Word.SQUARE-END) (n + 1) ≡ no-rule → Parses goA ws i before top No after
+      lag-no-q l = fails _ (after-p k) l
+
+      pub A-lag : {r m u v p x a b : ℕ} {g f′ : Facts} {second third fourth : List ℕ} →
+          Pushed first e Arena.RUN 0 0 0 r second →
+          Took (goB Word.COMMA Word.SQUARE-END) ws (n + 1) second r m u g third → x ≡ word ws n →
+          a ≡ numKind (numWord x) → b ≡ numValue (numWord x) →
+          Pushed third u Arena.FINE (Word.LT - Word.LE) a b v fourth → Pushed fourth v Arena.ALWAYS 0 0 0 p after →
+          f′ ≡ atomFacts true → Parses goA ws i before top (At m p f′) after
+      A-lag {a = a} {b = b} run q is kind value fine always facts =
+          let y : Num = numWord (word ws n) in
+          let fine-row = ap₂ (λ (s t : ℕ). row Arena.FINE (opNumber lt) s t)
+          (kind ∙ ap (λ (z : ℕ). numKind (numWord z)) is) (value ∙ ap (λ (z : ℕ). numValue (numWord z)) is) in
+          let last = stored-on (stored-as fine-row (pushed fine)) (pushed always) in
+          says (lag (h .part .tree) y (q .part .tree)) (after-p k ∙ then-on _ (q .is))
+          (stored-on (h .part .stored) (stored-on (pushed run) (stored-on (q .part .stored) last))) facts
+
   -- Any other word.
   pub A-none : isTest (word ws i) ≡ false → (word ws i ≡ Word.LEN → ⊥) → isCount (word ws i) ≡ false →
-      Parses goA ws i before top No after
-  A-none a b c = says-no (A-at ws i atom-none (simp (a, ne-eqb _ _ b, c)))
+      (word ws i ≡ Word.LAG → ⊥) → Parses goA ws i before top No after
+  A-none a b c d = says-no (A-at ws i atom-none (simp (a, ne-eqb _ _ b, c, ne-eqb _ _ d)))

@@ -12,9 +12,10 @@ use Rattle.limits.specs.Limits.{wordLimit}
 use Rattle.lists.proofs.Buffers.{sets-append}
 use Rattle.formulas.specs.Tree.{Tree}
 use Rattle.formulas.specs.Arena.{row, flat}
+use Rattle.grammar.specs.Grammar.{Symbol}
 use Rattle.grammar.specs.Grammar.Symbol.{D}
 use Rattle.grammar.specs.Parse.{Result, Goal, word, read, bind}
-use Rattle.grammar.specs.Parse.Goal.{goD}
+use Rattle.grammar.specs.Parse.Goal.{goD, goB}
 use Rattle.grammar.specs.Parse.Result.{no-rule, ok}
 use Rattle.grammar.proofs.Position.{DerivesAt, Span, sized, inside}
 use Rattle.grammar.proofs.Sound.{Holds, read-holds}
@@ -214,19 +215,28 @@ module _ {ws : List ℕ} {i : ℕ} {arena : List ℕ} {top : ℕ} where
       let l = stored-length (p .stored) in
       record { few = h .few; within = s .within; fits = omega (arith, h .fits, p .stored .end) }
 
-  -- a D outside square brackets leaves two records more,
+  -- what is read outside square brackets leaves two records more:
+  past-sized : {spare n e : ℕ} {f : Facts} {after : List ℕ} {c : Symbol} →
+      Space spare ws i arena top → (p : Part ws i arena top n e f after) → DerivesAt ws false c i (p .tree) n →
+      Space (spare + 8) ws n after e
+  past-sized h p outside =
+      let s = p .spans in
+      let size = stored-length (p .stored) in
+      record { few = h .few; within = s .within; fits = omega (arith, h .fits, p .stored .end, sized outside) }
+
+  -- a D,
   pub past-outside : {l : Bool} {n e : ℕ} {f : Facts} {after : List ℕ} →
       Room ws i arena top → Took (goD l) ws i arena top n e f after → l ≡ false → Space 8 ws n after e
   past-outside {l} {n} h p q =
       let t = p .part .tree in
-      let outside = subst (λ (x : Bool). DerivesAt ws x D i t n) q (read-holds ws (goD l) i t n (p .is)) in
-      let s = p .part .spans in
-      let size = stored-length (p .part .stored) in
-      record {
-        few = h .few;
-        within = s .within;
-        fits = omega (arith, h .fits, p .part .stored .end, sized outside);
-      }
+      past-sized (space h) (p .part) (subst (λ (x : Bool). DerivesAt ws x D i t n) q (read-holds ws (goD l) i t n (p .is)))
+
+  -- and a P between two words,
+  pub past-between : {spare left right n e : ℕ} {f : Facts} {after : List ℕ} →
+      Space spare ws i arena top → Took (goB left right) ws i arena top n e f after → 0 < left → 0 < right →
+      Space (spare + 8) ws n after e
+  past-between {left = left} {right = right} {n = n} h p l r =
+      past-sized h (p .part) (read-holds ws (goB left right) i (p .part .tree) n (p .is) l r)
 
   -- and a record that is pushed takes four numbers,
   pub past-push : (spare : ℕ) {k a b c e : ℕ} {after : List ℕ} →

@@ -1,8 +1,9 @@
 -- What each member of the cycle is measured by, is given, and asks of the others. The measure is the depth that
 -- reading needs (grammar, specs/Parse.antt). Assumes nothing.
-use Prim.Native.Nat.{ℕ, _<_}
+use Prim.Native.Nat.{ℕ, _-_, _*_, _<_}
 use borrow.Fn.Kinds.{In}
 use borrow.Fn.PlainCycle.{Measures, is, falls, and}
+use lib.ListN.{length}
 use Rattle.grammar.specs.Parse.{depth}
 use Rattle.grammar.specs.Parse.Goal.{goF, goD, goC, goU, goA, goB}
 use Rattle.parser.proofs.atom.Reads as atom
@@ -34,6 +35,11 @@ use Rattle.parser.proofs.read_f.Reads as read-f
 use Rattle.parser.proofs.read_f.Kinds.{ps as ps-f}
 use Rattle.parser.proofs.+atom+chop+exists+lag+not+prop+read_c+read_d+read_f+read_u+round+then.Lts-read_f.{
   Claims as Claims-f,
+}
+use Rattle.parser.proofs.lag.Reads as lag
+use Rattle.parser.proofs.lag.Kinds.{ps as ps-lag}
+use Rattle.parser.proofs.+atom+chop+exists+lag+not+prop+read_c+read_d+read_f+read_u+round+then.Lts-lag.{
+  Claims as Claims-lag,
 }
 use Rattle.parser.proofs.not.Reads as not
 use Rattle.parser.proofs.not.Kinds.{ps as ps-not}
@@ -67,16 +73,20 @@ use Rattle.facts.proofs.exists_facts.Reads as exists-facts
 use Rattle.words.proofs.is_count.Reads as is-count
 use Rattle.facts.proofs.is_lead_count.Reads as is-lead-count
 use Rattle.facts.proofs.is_lead_test.Reads as is-lead-test
+use Rattle.words.proofs.is_num.Reads as is-num
 use Rattle.words.proofs.is_signal.Reads as is-signal
 use Rattle.words.proofs.is_test.Reads as is-test
 use Rattle.facts.proofs.join_facts.Reads as join-facts
 use Rattle.parser.proofs.leaf.Reads as leaf
 use Rattle.facts.proofs.not_facts.Reads as not-facts
+use Rattle.facts.proofs.num_kind.Reads as num-kind
+use Rattle.facts.proofs.num_value.Reads as num-value
 use Rattle.lists.proofs.number_at.Reads as number-at
 use Rattle.parser.proofs.push.Reads as push
 use Rattle.facts.proofs.then_facts.Reads as then-facts
 
--- The measures. What begins with `!`, `exists`, a round bracket, `then` or `chop` is measured as an atom.
+-- The measures. What begins with `!`, `exists`, a round bracket, `then` or `chop` is measured as an atom, and `lag`,
+-- which an atom calls at its own position, by the words left alone.
 abbrev pub μ-atom : Measures 2 ps-atom ℕ
 μ-atom κs a = depth (a .0 .now) goA (a .1 .0)
 
@@ -102,7 +112,10 @@ abbrev pub μ-round : Measures 2 ps-round ℕ
 μ-round κs a = depth (a .0 .now) goA (a .1 .1 .0)
 
 abbrev pub μ-prop : Measures 2 ps-prop ℕ
-μ-prop κs a = depth (a .0 .now) goB (a .1 .0)
+μ-prop κs a = depth (a .0 .now) (goB (a .1 .0) (a .1 .1 .0)) (a .1 .1 .1 .0)
+
+abbrev pub μ-lag : Measures 2 ps-lag ℕ
+μ-lag κs a = 6 * (length (a .0 .now) - a .1 .0)
 
 abbrev pub μ-then : Measures 2 ps-then ℕ
 μ-then κs a = depth (a .0 .now) goA (a .1 .0)
@@ -165,6 +178,12 @@ prop-at t = and 2 ps-prop (is 2 ps-prop μ-prop t) prop.Pre
 abbrev prop-below : ℕ → In 2 ps-prop
 prop-below t = and 2 ps-prop (falls 2 ps-prop _<_ μ-prop t) prop.Pre
 
+abbrev pub lag-at : ℕ → In 2 ps-lag
+lag-at t = and 2 ps-lag (is 2 ps-lag μ-lag t) lag.Pre
+
+abbrev lag-below : ℕ → In 2 ps-lag
+lag-below t = and 2 ps-lag (falls 2 ps-lag _<_ μ-lag t) lag.Pre
+
 abbrev pub then-at : ℕ → In 2 ps-then
 then-at t = and 2 ps-then (is 2 ps-then μ-then t) then.Pre
 
@@ -198,6 +217,26 @@ calls-atom t = (
   is-count.Learnt,
   is-lead-count.Asked,
   is-lead-count.Learnt,
+  lag-below t,
+  lag.Post,
+)
+
+abbrev pub calls-lag : ℕ → Claims-lag
+calls-lag t = (
+  prop-below t,
+  prop.Post,
+  number-at.Asked,
+  number-at.Learnt,
+  is-num.Asked,
+  is-num.Learnt,
+  push.Asked,
+  push.Learnt,
+  num-kind.Asked,
+  num-kind.Learnt,
+  num-value.Asked,
+  num-value.Learnt,
+  atom-facts.Asked,
+  atom-facts.Learnt,
 )
 
 abbrev pub calls-read-c : ℕ → Claims-c

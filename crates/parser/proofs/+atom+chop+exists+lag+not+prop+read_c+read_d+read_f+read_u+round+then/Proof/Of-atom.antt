@@ -1,4 +1,4 @@
--- The answers of the member `atom`: a test, `len`, or a count. Assumes nothing.
+-- The answers of the member `atom`: a test, `len`, a count, or a `lag`. Assumes nothing.
 use mathlib.Core.Bool.{true}
 use mathlib.Core.Path.{_≡_, sym, ap, _∙_}
 use Prim.Native.Nat.{ℕ, _+_, _≤_}
@@ -7,8 +7,7 @@ use borrow.Fn.Kinds.{In, Out}
 use native.Mathlib.Omega.{arith}
 use Rattle.words.specs.Word
 use Rattle.words.specs.Word.{isTest, isCount}
-use Rattle.grammar.specs.Parse.{word}
-use Rattle.grammar.specs.Parse.Goal.{goB}
+use Rattle.grammar.specs.Parse.{word, goSquare}
 use Rattle.grammar.proofs.Position.{span, test-pos, count-pos}
 use Rattle.grammar.proofs.Words.{test-high, count-high}
 use Rattle.facts.specs.Facts.{atomFacts}
@@ -87,7 +86,7 @@ module _ (t : ℕ) where
   test-requires c κs =
       let here = c .before in
       let s = test-space here in
-      (omega (arith, start (test-looked here) .pre .0), room s)
+      (omega (arith, start (test-looked here) .pre .0), between s)
 
   test-no-p-length : Here lts.Need-same-length
   test-no-p-length c = c .before .before .before .before .prop .kept .1 .1 .0
@@ -101,9 +100,9 @@ module _ (t : ℕ) where
   -- and its P in square brackets.
   test-tree : (c : Here lts.After-known-told) →
       let args = start (test-looked (at-test (test-call c))) .args in
-      Gave goB (args .ws .now) (args .at + 1) (args .arena .now) (args .top)
+      Gave goSquare (args .ws .now) (args .at + 1) (args .arena .now) (args .top)
       (c .before .j .given .0) (test-call c .prop .last .1 .1 .0)
-  test-tree c = took (test-call c .prop .ensures) (λ a m h. span h) (c .before .j .given .1)
+  test-tree c = took (test-call c .prop .ensures) (λ a m h. span (h (omega arith) (omega arith))) (c .before .j .given .1)
 
   sub-test : Here lts.Need-sub-push
   sub-test c = test-pos _ (is-test (at-test (test-call (c .before))))
@@ -170,7 +169,7 @@ module _ (t : ℕ) where
   count-requires c κs =
       let here = c .before in
       let s = count-space here in
-      (omega (arith, start (count-looked here) .pre .0), room s)
+      (omega (arith, start (count-looked here) .pre .0), between s)
 
   count-no-p-length : Here lts.Need-same-length-4
   count-no-p-length c = c .before .before .before .before .prop2 .kept .1 .1 .0
@@ -184,9 +183,9 @@ module _ (t : ℕ) where
   -- its P in square brackets, and op n.
   count-tree : (c : Here lts.After-known-told2) →
       let args = start (count-looked (at-count (count-call c))) .args in
-      Gave goB (args .ws .now) (args .at + 1) (args .arena .now) (args .top)
+      Gave goSquare (args .ws .now) (args .at + 1) (args .arena .now) (args .top)
       (c .before .j2 .given .0) (count-call c .prop2 .last .1 .1 .0)
-  count-tree c = took (count-call c .prop2 .ensures) (λ a m h. span h) (c .before .j2 .given .1)
+  count-tree c = took (count-call c .prop2 .ensures) (λ a m h. span (h (omega arith) (omega arith))) (c .before .j2 .given .1)
 
   sub-count : Here lts.Need-sub-comparison
   sub-count c = count-pos _ (is-count (at-count (count-call (c .before))))

@@ -1,16 +1,15 @@
--- The answers of the member `prop`: a P in square brackets. Assumes nothing.
+-- The answers of the member `prop`: a P between two words, which are called brackets here. Assumes nothing.
 use mathlib.Core.Bool.{true}
 use mathlib.Core.Path.{_≡_, sym, _∙_}
 use Prim.Native.Nat.{ℕ, _+_}
 use borrow.Author.Needs.{needs}
 use borrow.Fn.Kinds.{In, Out}
 use native.Mathlib.Omega.{arith}
-use Rattle.words.specs.Word
 use Rattle.grammar.specs.Parse.{word}
 use Rattle.grammar.specs.Parse.Goal.{goF}
 use Rattle.grammar.proofs.Position.{span}
 use Rattle.parser.proofs.Steps
-use Rattle.parser.proofs.Steps.{square}
+use Rattle.parser.proofs.Steps.{between}
 use Rattle.parser.proofs.Stored.{Gave, Space, took, lost, past-first, room}
 use Rattle.parser.proofs.prop.Kinds.{ps, r}
 use Rattle.parser.proofs.prop.Reads as reads
@@ -35,17 +34,17 @@ module _ (t : ℕ) where
   abbrev call : Here lts.After-known-told → Here lts.After-read-f
   call c = c .before .before .before .before .before
 
-  -- The word is a square bracket,
+  -- The word is the bracket that opens,
   open-word : (c : Here lts.Else1) →
       let args = start c .args in
-      word (args .ws .now) (args .at) ≡ Word.SQUARE
+      word (args .ws .now) (args .at) ≡ args .before
   open-word c = sym (c .before .number-at .ensures) ∙ c .if1 .left
 
   -- which leaves room.
   open-space : (c : Here lts.Else1) →
       let args = start c .args in
       Space 4 (args .ws .now) (args .at + 1) (args .arena .now) (args .top)
-  open-space c = past-first (start c .pre .1) (open-word c) (omega arith)
+  open-space c = past-first (start c .pre .1 .room) (open-word c) (start c .pre .1 .opens)
 
   -- What stands in the brackets.
   contents : (c : Here lts.After-known-told) →
@@ -73,7 +72,7 @@ module _ (t : ℕ) where
   empty : Here lts.Need-returns-2
   empty c =
       let at-call = c .before .before .before .before in
-      Steps.bracket-no square (open-word (opening at-call)) (lost (at-call .read-f .ensures) (c .enum-told .given .1))
+      Steps.bracket-no (between _ _) (open-word (opening at-call)) (lost (at-call .read-f .ensures) (c .enum-told .given .1))
 
   -- it stays open;
   unclosed-length : Here lts.Need-same-length-2
@@ -82,7 +81,7 @@ module _ (t : ℕ) where
   unclosed : Here lts.Need-returns-3
   unclosed c =
       let told = c .before .before in
-      Steps.bracket-open square (open-word (opening (call told))) (contents told)
+      Steps.bracket-open (between _ _) (open-word (opening (call told))) (contents told)
       (λ e. c .if2 .taken (c .before .number-at2 .ensures ∙ e))
 
   -- it closes.
@@ -90,7 +89,7 @@ module _ (t : ℕ) where
   add-end c =
       let told = c .before .before in
       let s = contents told .part .spans in
-      omega (arith, start (opening (call told)) .pre .1 .few)
+      omega (arith, start (opening (call told)) .pre .1 .room .few)
 
   closed-length : Here lts.Need-same-length-3
   closed-length c = call (c .before .before) .read-f .kept .1 .1 .1 .0
@@ -98,7 +97,7 @@ module _ (t : ℕ) where
   closed : Here lts.Need-returns-4
   closed c =
       let told = c .before .before in
-      Steps.bracket-closed square (open-word (opening (call told))) (contents told)
+      Steps.bracket-closed (between _ _) (open-word (opening (call told))) (contents told)
       (sym (c .before .number-at2 .ensures) ∙ c .if2 .left)
 
   -- So the member meets its contract, if the calls with lower measures do.
