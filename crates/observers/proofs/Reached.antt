@@ -12,8 +12,7 @@ use Rattle.traces.specs.Compare.Op.{lt}
 use Rattle.formulas.specs.Formula.{Formula}
 use Rattle.formulas.specs.Formula.Num.{literal}
 use Rattle.formulas.specs.Formula.Prop.{constant}
-use Rattle.formulas.specs.Formula.Test.{begin}
-use Rattle.formulas.specs.Formula.Formula.{test, len, and, then}
+use Rattle.formulas.specs.Formula.Formula.{len, lag, and, then}
 use Rattle.formulas.specs.Raw.{raw}
 use Rattle.words.specs.Split.{classOf, run, keywordAmong, keywordOf, numberOf, runOf, wordOf, words, splitOf}
 use Rattle.words.specs.Word.{isOp, isSignal, isNum, isBit, isTest, isCount}
@@ -32,24 +31,23 @@ abbrev times : ℕ → List ℕ → List ℕ
 times zero l = []
 times (suc n) l = l ++ times n l
 
--- 59 atoms `len<1` and one `begin[1]`, joined by 27 `&` and 32 `then`: 240 words.
+-- 21 atoms `lag[1,1,1]` and 13 atoms `len<1`, joined by 32 `then` and one `&`: 240 words.
 abbrev pub widestText : List ℕ
-widestText = times 27 (bytes "len<1&") ++ (times 32 (bytes "len<1 then ") ++ bytes "begin[1]")
+widestText = times 21 (bytes "lag[1,1,1] then ") ++ (times 11 (bytes "len<1 then ") ++ bytes "len<1&len<1")
 
 -- Its formula.
 abbrev short : Formula
 short = len lt (literal 1)
 
-abbrev ands : ℕ → Formula → Formula
-ands zero f = f
-ands (suc n) f = ands n (and f short)
+abbrev long : Formula
+long = lag (constant true) (literal 1) (constant true)
 
-abbrev thens : ℕ → Formula → Formula
-thens zero f = f
-thens (suc n) f = then short (thens n f)
+abbrev thens : ℕ → Formula → Formula → Formula
+thens zero l f = f
+thens (suc n) l f = then l (thens n l f)
 
 abbrev formula : Formula
-formula = then (ands 27 short) (thens 31 (test begin (constant true)))
+formula = thens 21 long (thens 11 short (and short short))
 
 is-read : ruleOf widestText ≡ rule (raw formula)
 unfolding ruleOf splitOf words wordOf runOf run classOf keywordOf keywordAmong numberOf isDigit digitsAfter numeral
