@@ -63,11 +63,12 @@ trials =
     (five 0 1 1 0 1)
     ∷ []
 
--- Further rows on the same signals, their verdicts worked out by hand from SPEC 4.1 to SPEC 4.10: `!`, `&`, `|` and `0`
+-- Further rows on the same signals, their verdicts worked out by hand from SPEC 4.1 to SPEC 4.11: `!`, `&`, `|` and `0`
 -- in P; `!`, `&` and `|` of formulas; `&` that binds closer than `|`; a second start, and none at tick 0; an age that
--- breaks off, and one that a start cuts; a lead that falls late; a `then` in a `then`. `lag` by itself, with n = 0, as a
--- lead, with a start that ends what was false and one that cuts a run of P, with a parameter, under `!`, as a second
--- part; and last the rule that is taken for `lag[s0,2,!s1]` and differs from it, since `age` counts the present tick.
+-- breaks off, and one that a start cuts; a lead that falls late; a `then` in a `then`. SPEC 14.5: `lag` by itself, with
+-- n = 0, as a lead, with a start that ends what was false and one that cuts a run of P, with a parameter, under `!`, as
+-- a second part; and last the rule that is taken for `lag[s0,2,!s1]` and differs from it, since `age` counts the present
+-- tick.
 abbrev pub furtherTrials : List Trial
 furtherTrials =
     trial "end[!s0]" (test end (negP s0)) 1 first (five 0 0 1 0 0)
