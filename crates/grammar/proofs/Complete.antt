@@ -1,17 +1,18 @@
 -- What the grammar over positions has, the parser reads; so there is one reading at most. Assumes nothing.
-use mathlib.Core.Path.{_≡_, refl, ap, _∙_}
-use mathlib.Core.Bool.{Bool, true, false, _&&_, cond}
+use mathlib.Core.Path.{_≡_, refl, sym, ap, _∙_}
+use mathlib.Core.Bool.{Bool, true, false, _&&_, _||_, cond, true≢false}
 use mathlib.Core.List.{List}
 use Prim.Native.Nat.{ℕ, _+_, _≤_}
 use native.Mathlib.Omega.{arith}
 use native.Mathlib.Nat.{le-refl}
+use lib.Dec.{eqb}
 use lib.ListN.{length, List·getD-eq-default}
 use borrow.Author.Tests.{eq-eqb, ne-eqb}
 use Rattle.traces.specs.Compare.{Op}
 use Rattle.formulas.specs.Formula.{Num}
 use Rattle.formulas.specs.Tree.{Tree}
 use Rattle.formulas.specs.Tree.Tree.{constant, signal, and, or, len, count}
-use Rattle.words.specs.Word.{ROUND, ROUND-END, SQUARE, SQUARE-END, NOT, AND, OR, LEN, BEGIN, KEPT, SUM, AGE}
+use Rattle.words.specs.Word.{ROUND, ROUND-END, NOT, AND, OR, BEGIN, KEPT, LEN, SUM, AGE, LAG}
 use Rattle.words.specs.Word.{THEN, CHOP, EXISTS, SIGNAL}
 use Rattle.words.specs.Word.{isOp, isSignal, isNum, isBit, isTest, isCount}
 use Rattle.words.proofs.Classes.{within-above}
@@ -19,17 +20,17 @@ use Rattle.grammar.specs.Grammar.{Symbol, bitWord, signalWord, opWord, n
 use Rattle.grammar.specs.Grammar.Symbol.{F, D, C, U, B}
 use Rattle.grammar.specs.Parse.{Result, Join, Unit as First, Atom, word, bind, joinOf, unitOf, atomOf}
 use Rattle.grammar.specs.Parse.{leafAt, withComparison, closed}
-use Rattle.grammar.specs.Parse.{stepF, stepD, stepC, stepExists, stepU, stepA, stepB}
+use Rattle.grammar.specs.Parse.{stepF, stepD, stepC, stepExists, stepU, stepLag, stepA, stepB}
 use Rattle.grammar.specs.Parse.{read}
 use Rattle.grammar.specs.Parse.Result.{no-rule, ok}
 use Rattle.grammar.specs.Parse.Goal.{goF, goD, goDs, goC, goCs, goU, goA, goB}
 use Rattle.grammar.specs.Parse.Join.{join-then, join-chop, join-none}
 use Rattle.grammar.specs.Parse.Unit.{unit-not, unit-round, unit-leaf, unit-exists, unit-atom}
-use Rattle.grammar.specs.Parse.Atom.{atom-test, atom-len, atom-count}
+use Rattle.grammar.specs.Parse.Atom.{atom-test, atom-len, atom-count, atom-lag}
 use Rattle.grammar.proofs.Position.{DerivesAt, within-high, signal-pos, bit-pos, test-pos, count-pos}
 use Rattle.grammar.proofs.Position.DerivesAt.{f-one, f-then, f-chop, d-one, d-or, c-one, c-and}
 use Rattle.grammar.proofs.Position.DerivesAt.{u-not, u-exists, u-round, u-constant, u-signal}
-use Rattle.grammar.proofs.Position.DerivesAt.{u-test, u-len, u-count, b-square}
+use Rattle.grammar.proofs.Position.DerivesAt.{u-test, u-len, u-count, u-lag, b-between}
 use Rattle.grammar.proofs.Sound.{read-eq, read-holds}
 
 -- ---- classes of words
@@ -63,7 +64,7 @@ pub len-atom : (w : ℕ) → w ≡ LEN → atomOf w ≡ atom-len
 unfolding isTest
 len-atom w e = ap atomOf e
 
--- a count.
+-- a count,
 count-unit : (w : ℕ) → isCount w ≡ true → unitOf false w ≡ unit-atom
 unfolding isCount
 count-unit w h = unit-of-atom w (omega (arith, count-pos w h)) (within-high SUM AGE w h)
@@ -73,6 +74,11 @@ unfolding isTest
 count-atom w h =
     let p = count-pos w h in
     simp (within-above BEGIN KEPT w (omega arith), ne-eqb w LEN (λ e. omega arith), h)
+
+-- `lag`.
+pub lag-atom : (w : ℕ) → w ≡ LAG → atomOf w ≡ atom-lag
+unfolding isTest isCount
+lag-atom w e = ap atomOf e
 
 -- A bit is no signal.
 bit-signal : (w : ℕ) → isBit w ≡ true → isSignal w ≡ false
@@ -95,15 +101,17 @@ record Ends (w : ℕ) : Type 0 where
   no-then : w ≡ THEN → ⊥
   no-chop : w ≡ CHOP → ⊥
 
--- So do a closing bracket and the end of the words.
-ends-at : (w n : ℕ) → w ≡ n → n ≤ SQUARE-END → Ends w
-ends-at w n e l =
-    record {
-      no-and = λ x. omega arith;
-      no-or = λ x. omega arith;
-      no-then = λ x. omega arith;
-      no-chop = λ x. omega arith;
-    }
+-- A word with which an F goes on.
+abbrev goesOn : ℕ → Bool
+goesOn w = eqb w AND || (eqb w OR || (eqb w THEN || eqb w CHOP))
+
+-- Any other ends it: a closing bracket, `,`, the end of the words.
+ends-at : (w n : ℕ) → w ≡ n → goesOn n ≡ false → Ends w
+ends-at w n e h =
+    record { no-and = other AND refl; no-or = other OR refl; no-then = other THEN refl; no-chop = other CHOP refl }
+  where
+    other : (k : ℕ) → goesOn k ≡ true → w ≡ k → ⊥
+    other k g x = true≢false (sym g ∙ ap goesOn (sym x ∙ e) ∙ h)
 
 module _ (ws : List ℕ) where
   -- ---- reading by the word at hand
@@ -123,15 +131,17 @@ module _ (ws : List ℕ) where
       read ws (goCs l a) m ≡ bind (read ws (goU l) (m + 1)) (λ b j. read ws (goCs l (and a b)) j)
   turnC l a m h = read-eq ws (goCs l a) m ∙ ap (λ (b : Bool). stepC ws (read ws) l b a m) (eq-eqb _ _ h)
 
-  -- A U by its first word, an atom by its own, a P in square brackets by its bracket,
+  -- A U by its first word, an atom by its own, a P between two words by the first of them,
   pub U-at : (l : Bool) (i : ℕ) (k : First) → unitOf l (word ws i) ≡ k → read ws (goU l) i ≡ stepU ws (read ws) l k i
   U-at l i k e = read-eq ws (goU l) i ∙ ap (λ (x : First). stepU ws (read ws) l x i) e
 
   pub A-at : (i : ℕ) (k : Atom) → atomOf (word ws i) ≡ k → read ws goA i ≡ stepA ws (read ws) k i
   A-at i k e = read-eq ws goA i ∙ ap (λ (x : Atom). stepA ws (read ws) x i) e
 
-  pub B-at : (i : ℕ) → word ws i ≡ SQUARE → read ws goB i ≡ bind (read ws (goF true) (i + 1)) (closed ws SQUARE-END)
-  B-at i e = read-eq ws goB i ∙ ap (λ (x : Bool). stepB ws (read ws) x i) (eq-eqb _ _ e)
+  pub B-at : (before after i : ℕ) → word ws i ≡ before →
+      read ws (goB before after) i ≡ bind (read ws (goF true) (i + 1)) (closed ws after)
+  B-at before after i e =
+      read-eq ws (goB before after) i ∙ ap (λ (x : Bool). stepB ws (read ws) x after i) (eq-eqb _ _ e)
 
   -- and an F by the word after its D.
   pub F-at : (l : Bool) (i : ℕ) {a : Tree} {m : ℕ} (k : Join) →
@@ -157,13 +167,13 @@ module _ (ws : List ℕ) where
   -- ---- completeness
 
   -- What reading gives where the grammar has an X from i up to j with tree t. An F is read to its end where the next
-  -- word ends it; a D or a C is read as a part of the longest one.
+  -- word ends it, and so is a P between two words; a D or a C is read as a part of the longest one.
   abbrev Full : Bool → Symbol → ℕ → Tree → ℕ → Type 0
   Full l F i t j = Ends (word ws j) → read ws (goF l) i ≡ ok t j
   Full l D i t j = (word ws j ≡ AND → ⊥) → read ws (goD l) i ≡ read ws (goDs l t) j
   Full l C i t j = read ws (goC l) i ≡ read ws (goCs l t) j
   Full l U i t j = read ws (goU l) i ≡ ok t j
-  Full l B i t j = read ws goB i ≡ ok t j
+  Full l (B before after) i t j = goesOn after ≡ false → read ws (goB before after) i ≡ ok t j
 
   complete : {l : Bool} {c : Symbol} {i j : ℕ} {t : Tree} → DerivesAt ws l c i t j → Full l c i t j
   complete (f-one {l} {i} {j} {t} r) = λ n.
@@ -186,14 +196,14 @@ module _ (ws : List ℕ) where
       ∙ then-on _ (complete r)
   complete (u-round {l} {i} {j} {t} e r f) =
       U-at l i unit-round (ap (unitOf l) e)
-      ∙ then-on _ (complete r (ends-at _ ROUND-END f (omega arith)))
+      ∙ then-on _ (complete r (ends-at _ ROUND-END f refl))
       ∙ closed-at ROUND-END t j f
   complete (u-constant {i} h) = U-at true i unit-leaf (bit-leaf (word ws i) h) ∙ bit-at i h
   complete (u-signal {i} h) = U-at true i unit-leaf (signal-leaf (word ws i) h) ∙ signal-at i h
   complete (u-test {i} {j} {p} h r) =
       U-at false i unit-atom (test-unit (word ws i) h)
       ∙ A-at i atom-test (test-atom (word ws i) h)
-      ∙ then-on _ (complete r)
+      ∙ then-on _ (complete r refl)
   complete (u-len {i} e h n) =
       U-at false i unit-atom (ap (unitOf false) e)
       ∙ A-at i atom-len (len-atom (word ws i) e)
@@ -201,16 +211,20 @@ module _ (ws : List ℕ) where
   complete (u-count {i} {j} {p} h r f n) =
       U-at false i unit-atom (count-unit (word ws i) h)
       ∙ A-at i atom-count (count-atom (word ws i) h)
-      ∙ then-on _ (complete r)
+      ∙ then-on _ (complete r refl)
       ∙ comparison-read (count (countWord (word ws i)) p) j f n
-  complete (b-square {i} {j} {p} e r f) =
-      B-at i e
-      ∙ then-on _ (complete r (ends-at _ SQUARE-END f (omega arith)))
-      ∙ closed-at SQUARE-END p j f
+  complete (u-lag {i} {j} {m} {p} {q} e r n s) =
+      U-at false i unit-atom (ap (unitOf false) e)
+      ∙ A-at i atom-lag (lag-atom (word ws i) e)
+      ∙ then-on _ (complete r refl)
+      ∙ ap (λ (x : Bool). stepLag ws (read ws) p x j) n
+      ∙ then-on _ (complete s refl)
+  complete (b-between {before} {after} {i} {j} {p} k n e r f) = λ h.
+      B-at before after i e ∙ then-on _ (complete r (ends-at _ after f h)) ∙ closed-at after p j f
 
   -- The parser finds the tree that the grammar has for all words,
   pub finds : (t : Tree) → DerivesAt ws false F 0 t (length ws) → read ws (goF false) 0 ≡ ok t (length ws)
-  finds t r = complete r (ends-at _ 0 (List·getD-eq-default ws 0 (le-refl _)) (omega arith))
+  finds t r = complete r (ends-at _ 0 (List·getD-eq-default ws 0 (le-refl _)) refl)
 
   -- what it finds is one,
   pub found : (t : Tree) → read ws (goF false) 0 ≡ ok t (length ws) → DerivesAt ws false F 0 t (length ws)

@@ -9,8 +9,8 @@ use lib.Dec.{eqb}
 use borrow.Author.Tests.{ne-eqb}
 use Rattle.formulas.specs.Formula.{Prop, Formula}
 use Rattle.formulas.specs.Tree.{Tree, map, map₂, propOf, formulaOf}
-use Rattle.formulas.specs.Tree.Tree.{constant, signal, neg, and, or, then, chop, exists, test, len, count}
-use Rattle.words.specs.Word.{ROUND-END, SQUARE-END, AND, OR, LE, GE, BEGIN, KEPT, SUM, AGE}
+use Rattle.formulas.specs.Tree.Tree.{constant, signal, neg, and, or, then, chop, exists, test, len, count, lag}
+use Rattle.words.specs.Word.{ROUND-END, AND, OR, LE, GE, BEGIN, KEPT, SUM, AGE}
 use Rattle.words.specs.Word.{THEN, CHOP, EXISTS}
 use Rattle.words.specs.Word.{isOp, isSignal, isNum, isBit, isTest, isCount}
 use Rattle.grammar.specs.Grammar.{Symbol, Derives, Rule}
@@ -18,9 +18,9 @@ use Rattle.grammar.specs.Grammar.{bitWord, signalWord, opWord, numWord, 
 use Rattle.grammar.specs.Grammar.Symbol.{F, D, C, U, B}
 use Rattle.grammar.specs.Grammar.Derives.{F-one, F-then, F-chop, D-one, D-or, C-one, C-and}
 use Rattle.grammar.specs.Grammar.Derives.{U-not, U-exists, U-round, U-constant, U-signal}
-use Rattle.grammar.specs.Grammar.Derives.{U-test, U-len, U-count, B-square}
+use Rattle.grammar.specs.Grammar.Derives.{U-test, U-len, U-count, U-lag, B-between}
 use Rattle.grammar.specs.Fragment.{hasWord, beyond}
-use Rattle.grammar.proofs.Position.{within-high, num-pos, bit-pos, signal-pos}
+use Rattle.grammar.proofs.Position.{Given, within-high, num-pos, bit-pos, signal-pos}
 
 -- ---- words
 
@@ -94,9 +94,11 @@ outside (exists j t) = true
 outside (test k p) = outside p
 outside (len o n) = false
 outside (count k p o n) = outside p
+outside (lag p n q) = outside p || outside q
 
--- It is the tree of words that have them.
-hits-outside : {l : Bool} {c : Symbol} {s : List ℕ} {t : Tree} → Derives l c s t → hits s ≡ outside t
+-- It is the tree of words that have them; of a B, where its own two words are none of them.
+hits-outside : {l : Bool} {c : Symbol} {s : List ℕ} {t : Tree} → Derives l c s t →
+    Given (λ w. hit w ≡ false) c (hits s ≡ outside t)
 hits-outside (F-one g) = hits-outside g
 hits-outside (F-then {s} {u} g h) = hits-append s (THEN ∷ u) ∙ ap₂ _||_ (hits-outside g) (hits-outside h)
 hits-outside (F-chop {s} {u} g h) = hits-append s (CHOP ∷ u) ∙ or-true (hits s)
@@ -109,12 +111,15 @@ hits-outside (U-exists h g) = refl
 hits-outside (U-round {s = s} g) = hits-append s (ROUND-END ∷ []) ∙ or-false (hits s) ∙ hits-outside g
 hits-outside (U-constant {w} h) = or-false (hit w) ∙ bit-hit w h
 hits-outside (U-signal {w} h) = or-false (hit w) ∙ signal-hit w h
-hits-outside (U-test {k} {s} h g) = ap₂ _||_ (test-hit k h) (hits-outside g)
+hits-outside (U-test {k} {s} h g) = ap₂ _||_ (test-hit k h) (hits-outside g refl refl)
 hits-outside (U-len {o} {n} h m) = ap₂ _||_ (op-hit o h) (or-false (hit n) ∙ num-hit n m)
 hits-outside (U-count {k} {s} o n h g p q) =
     let e : hits (o ∷ n ∷ []) ≡ false = ap₂ _||_ (op-hit o p) (or-false (hit n) ∙ num-hit n q) in
-    ap₂ _||_ (count-hit k h) (hits-append s (o ∷ n ∷ []) ∙ ap₂ _||_ (hits-outside g) e ∙ or-false _)
-hits-outside (B-square {s} g) = hits-append s (SQUARE-END ∷ []) ∙ or-false (hits s) ∙ hits-outside g
+    ap₂ _||_ (count-hit k h) (hits-append s (o ∷ n ∷ []) ∙ ap₂ _||_ (hits-outside g refl refl) e ∙ or-false _)
+hits-outside (U-lag {s} {u} n g p h) =
+    hits-append s (n ∷ u) ∙ ap₂ _||_ (hits-outside g refl refl) (ap₂ _||_ (num-hit n p) (hits-outside h refl refl))
+hits-outside (B-between {s} before after g) = λ b a.
+    ap₂ _||_ b (hits-append s (after ∷ []) ∙ ap₂ _||_ (hits-outside g) (or-false (hit after) ∙ a) ∙ or-false _)
 
 -- What a tree without them is: inside square brackets a proposition, outside a formula.
 abbrev Sense : Bool → Tree → Type 0
@@ -126,7 +131,7 @@ Means l F t = Sense l t
 Means l D t = Sense l t
 Means l C t = Sense l t
 Means l U t = Sense l t
-Means l B t = Sense true t
+Means l (B before after) t = Sense true t
 
 -- What `!`, `&` and `|` make.
 sense-neg : (l : Bool) (t : Tree) → Sense l t → Sense l (neg t)
@@ -177,7 +182,12 @@ means (U-count {k} o n h g p q) e =
     let x = means g e in
     let f : Prop → Formula = λ r. Formula.count (countWord k) r (opWord o) (numWord n) in
     (f (x .0), ap (map f) (x .1))
-means (B-square g) e = means g e
+means (U-lag {p = p} {q = q} n g h k) e =
+    let x = means g (fore (outside p) (outside q) e) in
+    let y = means k (rear (outside p) (outside q) e) in
+    let f : Prop → Prop → Formula = λ a b. Formula.lag a (numWord n) b in
+    (f (x .0) (y .0), ap₂ (map₂ f) (x .1) (y .1))
+means (B-between before after g) e = means g e
 
 -- A part that is none makes the whole none.
 one-none : {A B : Type 0} (f : A → B) (x : Option A) → x ≡ none → map f x ≡ none
@@ -205,6 +215,7 @@ no-prop (exists j t) e = refl
 no-prop (test k p) e = refl
 no-prop (len o n) e = refl
 no-prop (count k p o n) e = refl
+no-prop (lag p n q) e = refl
 
 -- and no formula.
 no-formula : (t : Tree) → outside t ≡ true → formulaOf t ≡ none
@@ -222,6 +233,8 @@ no-formula (exists j t) e = refl
 no-formula (test k p) e = one-none (Formula.test k) (propOf p) (no-prop p e)
 no-formula (len o n) e = absurd (false≢true e)
 no-formula (count k p o n) e = one-none (λ q. Formula.count k q o n) (propOf p) (no-prop p e)
+no-formula (lag p n q) e =
+    both-none (λ a b. Formula.lag a n b) (propOf p) (propOf q) (outside p) (outside q) (no-prop p) (no-prop q) e
 
 -- ---- the whole
 

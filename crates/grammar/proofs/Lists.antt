@@ -8,18 +8,18 @@ use native.Mathlib.Numerals.{add-one}
 use lib.ListN.{length, take, drop, length-append, take-append-drop}
 use lib.Seq.{slice, slice-cons, slice-empty, take-take, drop-append-le, length-take-le, getD-at, take-length}
 use Rattle.formulas.specs.Tree.{Tree}
-use Rattle.words.specs.Word.{ROUND-END, SQUARE-END, AND, OR, THEN, CHOP}
+use Rattle.words.specs.Word.{ROUND-END, AND, OR, THEN, CHOP}
 use Rattle.words.specs.Word.{isOp, isSignal, isNum, isBit, isTest, isCount}
 use Rattle.grammar.specs.Grammar.{Symbol, Derives}
 use Rattle.grammar.specs.Grammar.Symbol.{F}
 use Rattle.grammar.specs.Grammar.Derives.{F-one, F-then, F-chop, D-one, D-or, C-one, C-and}
 use Rattle.grammar.specs.Grammar.Derives.{U-not, U-exists, U-round, U-constant, U-signal}
-use Rattle.grammar.specs.Grammar.Derives.{U-test, U-len, U-count, B-square}
+use Rattle.grammar.specs.Grammar.Derives.{U-test, U-len, U-count, U-lag, B-between}
 use Rattle.grammar.specs.Parse.{word}
-use Rattle.grammar.proofs.Position.{DerivesAt, span, inside, num-pos, signal-pos, bit-pos}
+use Rattle.grammar.proofs.Position.{DerivesAt, Given, span, inside, num-pos, signal-pos, bit-pos}
 use Rattle.grammar.proofs.Position.DerivesAt.{f-one, f-then, f-chop, d-one, d-or, c-one, c-and}
 use Rattle.grammar.proofs.Position.DerivesAt.{u-not, u-exists, u-round, u-constant, u-signal}
-use Rattle.grammar.proofs.Position.DerivesAt.{u-test, u-len, u-count, b-square}
+use Rattle.grammar.proofs.Position.DerivesAt.{u-test, u-len, u-count, u-lag, b-between}
 
 -- ---- from positions to lists: the words from i up to j are `slice i j ws`
 
@@ -108,8 +108,13 @@ to-list {ws} (u-len {i} e h n) =
 to-list {ws} (u-count {i} {j} h r f n) =
     rw (measured ws i j (span r .moves) (inside ws (j + 1) (omega (arith, num-pos (word ws (j + 1)) n))))
     (U-count (word ws j) (word ws (j + 1)) h (to-list r) f n)
-to-list {ws} (b-square {i} {j} e r f) =
-    rw (bracketed ws i j (span r .moves) (inside ws j (omega arith)), e, f) (B-square (to-list r))
+to-list {ws} (u-lag {i} {j} {m} e r n s) =
+    let x = span r in
+    let y = span s in
+    rw (first ws i m (omega arith) (y .within), e, between ws (i + 1) j m (x .moves) (y .moves) (y .within))
+    (U-lag (word ws j) (to-list r) n (to-list s))
+to-list {ws} (b-between {before} {after} {i} {j} k n e r f) =
+    rw (bracketed ws i j (span r .moves) (inside ws j (omega arith)), e, f) (B-between before after (to-list r))
 
 -- ---- from lists to positions
 
@@ -165,9 +170,9 @@ tail {ws} {s} {w} x =
 next : {ws : List ℕ} {w i j : ℕ} → Stands ws (w ∷ []) i j → j ≡ i + 1
 next x = omega arith
 
--- A reading of words is one over the positions where they stand.
+-- A reading of words is one over the positions where they stand; of a B, where its words are not 0.
 to-position : {l : Bool} {c : Symbol} {s : List ℕ} {t : Tree} {ws : List ℕ} {i j : ℕ} →
-    Derives l c s t → Stands ws s i j → DerivesAt ws l c i t j
+    Derives l c s t → Stands ws s i j → Given (λ w. 0 < w) c (DerivesAt ws l c i t j)
 to-position (F-one g) x = f-one (to-position g x)
 to-position (F-then {s} {u} g h) x =
     let y = right s (THEN ∷ u) x in
@@ -195,7 +200,9 @@ to-position (U-round {s = s} g) x =
     rw (next z) (u-round (head x) (to-position g (left s (ROUND-END ∷ []) y)) (head z))
 to-position (U-constant h) x = let e = head x in rw (next x, ← e) (u-constant (ap isBit e ∙ h))
 to-position (U-signal h) x = let e = head x in rw (next x, ← e) (u-signal (ap isSignal e ∙ h))
-to-position (U-test h g) x = let e = head x in rw (← e) (u-test (ap isTest e ∙ h) (to-position g (tail x)))
+to-position (U-test h g) x =
+    let e = head x in
+    rw (← e) (u-test (ap isTest e ∙ h) (to-position g (tail x) (omega arith) (omega arith)))
 to-position {i = i} {j = j} (U-len h n) x =
     let y = tail x in
     let z = tail y in
@@ -211,11 +218,19 @@ to-position {i = i} {j = j} (U-count {s = s} o n h g p q) x =
     let k = head (tail z) in
     let end : j ≡ i + 1 + length s + 2 = omega arith in
     rw (end, ← e, ← f, ← k)
-    (u-count (ap isCount e ∙ h) (to-position g (left s (o ∷ n ∷ []) y)) (ap isOp f ∙ p) (ap isNum k ∙ q))
-to-position (B-square {s} g) x =
+    (u-count (ap isCount e ∙ h) (to-position g (left s (o ∷ n ∷ []) y) (omega arith) (omega arith)) (ap isOp f ∙ p)
+    (ap isNum k ∙ q))
+to-position (U-lag {s} {u} n g p h) x =
     let y = tail x in
-    let z = right s (SQUARE-END ∷ []) y in
-    rw (next z) (b-square (head x) (to-position g (left s (SQUARE-END ∷ []) y)) (head z))
+    let z = right s (n ∷ u) y in
+    let f = head z in
+    rw (← f)
+    (u-lag (head x) (to-position g (left s (n ∷ u) y) (omega arith) (omega arith)) (ap isNum f ∙ p)
+    (to-position h (tail z) (omega arith) (omega arith)))
+to-position (B-between {s} before after g) x = λ b a.
+    let y = tail x in
+    let z = right s (after ∷ []) y in
+    rw (next z) (b-between b a (head x) (to-position g (left s (after ∷ []) y)) (head z))
 
 -- ---- the whole
 

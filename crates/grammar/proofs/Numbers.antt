@@ -16,7 +16,7 @@ use Rattle.grammar.specs.Parse.{word}
 use Rattle.grammar.proofs.Position.{DerivesAt, within-high, isParameter}
 use Rattle.grammar.proofs.Position.DerivesAt.{f-one, f-then, f-chop, d-one, d-or, c-one, c-and}
 use Rattle.grammar.proofs.Position.DerivesAt.{u-not, u-exists, u-round, u-constant, u-signal}
-use Rattle.grammar.proofs.Position.DerivesAt.{u-test, u-len, u-count, b-square}
+use Rattle.grammar.proofs.Position.DerivesAt.{u-test, u-len, u-count, u-lag, b-between}
 
 -- A signal's word,
 signal-bound : (w : ℕ) → isSignal w ≡ true → signalBound (signalWord w) ≡ true
@@ -53,4 +53,6 @@ numbers k (u-test h r) = numbers k r
 numbers {ws} k (u-len {i} e h n) = num-bound (word ws (i + 1 + 1)) n (k (i + 1 + 1))
 numbers {ws} k (u-count {j = j} h r f n) =
     ap₂ _&&_ (numbers k r) (num-bound (word ws (j + 1)) n (k (j + 1)))
-numbers k (b-square e r f) = numbers k r
+numbers {ws} k (u-lag {j = j} e r n s) =
+    ap₂ _&&_ (numbers k r) (ap₂ _&&_ (num-bound (word ws j) n (k j)) (numbers k s))
+numbers k (b-between h n e r f) = numbers k r

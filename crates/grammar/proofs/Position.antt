@@ -12,16 +12,17 @@ use lib.ListN.{length, length-append, List·getD-eq-default}
 use borrow.Author.Tests.{leb-true}
 use Rattle.limits.specs.Limits.{parameterCount}
 use Rattle.formulas.specs.Tree.{Tree, nodes}
-use Rattle.formulas.specs.Tree.Tree.{constant, signal, neg, and, or, then, chop, exists, test, len, count}
+use Rattle.formulas.specs.Tree.Tree.{constant, signal, neg, and, or, then, chop, exists, test, len, count, lag}
 use Rattle.formulas.specs.Arena.{flat}
-use Rattle.words.specs.Word.{ROUND, ROUND-END, SQUARE, SQUARE-END, NOT, AND, OR, LE, GE, BEGIN, KEPT, LEN, SUM, AGE}
-use Rattle.words.specs.Word.{THEN, CHOP, EXISTS, PARAMETER, SIGNAL, LITERAL}
+use Rattle.words.specs.Word.{ROUND, ROUND-END, SQUARE, SQUARE-END, NOT, AND, OR, LE, GE, COMMA, BEGIN, KEPT, LEN}
+use Rattle.words.specs.Word.{SUM, AGE, LAG, THEN, CHOP, EXISTS, PARAMETER, SIGNAL, LITERAL}
 use Rattle.words.specs.Word.{within, isOp, isSignal, isNum, isBit, isTest, isCount}
-use Rattle.grammar.specs.Grammar.{Symbol, bitWord, signalWord, opWord, numWord, testWord, countWord}
+use Rattle.grammar.specs.Grammar.{Symbol, Square, bitWord, signalWord, opWord, numWord, testWord, countWord}
 use Rattle.grammar.specs.Grammar.Symbol.{F, D, C, U, B}
 use Rattle.grammar.specs.Parse.{word}
 
--- As `Derives` of specs/Grammar.antt, constructor by constructor; true: inside square brackets.
+-- As `Derives` of specs/Grammar.antt, constructor by constructor; true: inside square brackets. Neither word of a B is
+-- 0, which is the word past the end: a B ends before it.
 pub data DerivesAt (ws : List ℕ) : Bool → Symbol → ℕ → Tree → ℕ → Type 0 where
   f-one : {l : Bool} {i j : ℕ} {t : Tree} → DerivesAt ws l D i t j → DerivesAt ws l F i t j
   f-then : {i m j : ℕ} {a b : Tree} →
@@ -46,17 +47,29 @@ pub data DerivesAt (ws : List ℕ) : Bool → Symbol → ℕ → Tree → ℕ �
   u-constant : {i : ℕ} → isBit (word ws i) ≡ true → DerivesAt ws true U i (constant (bitWord (word ws i))) (i + 1)
   u-signal : {i : ℕ} → isSignal (word ws i) ≡ true → DerivesAt ws true U i (signal (signalWord (word ws i))) (i + 1)
   u-test : {i j : ℕ} {p : Tree} →
-      isTest (word ws i) ≡ true → DerivesAt ws false B (i + 1) p j →
+      isTest (word ws i) ≡ true → DerivesAt ws false Square (i + 1) p j →
       DerivesAt ws false U i (test (testWord (word ws i)) p) j
   u-len : {i : ℕ} →
       word ws i ≡ LEN → isOp (word ws (i + 1)) ≡ true → isNum (word ws (i + 1 + 1)) ≡ true →
       DerivesAt ws false U i (len (opWord (word ws (i + 1))) (numWord (word ws (i + 1 + 1)))) (i + 1 + 2)
   u-count : {i j : ℕ} {p : Tree} →
-      isCount (word ws i) ≡ true → DerivesAt ws false B (i + 1) p j →
+      isCount (word ws i) ≡ true → DerivesAt ws false Square (i + 1) p j →
       isOp (word ws j) ≡ true → isNum (word ws (j + 1)) ≡ true →
       DerivesAt ws false U i (count (countWord (word ws i)) p (opWord (word ws j)) (numWord (word ws (j + 1)))) (j + 2)
-  b-square : {i j : ℕ} {p : Tree} →
-      word ws i ≡ SQUARE → DerivesAt ws true F (i + 1) p j → word ws j ≡ SQUARE-END → DerivesAt ws false B i p (j + 1)
+  u-lag : {i j m : ℕ} {p q : Tree} →
+      word ws i ≡ LAG → DerivesAt ws false (B SQUARE COMMA) (i + 1) p j → isNum (word ws j) ≡ true →
+      DerivesAt ws false (B COMMA SQUARE-END) (j + 1) q m → DerivesAt ws false U i (lag p (numWord (word ws j)) q) m
+  b-between : {before after i j : ℕ} {p : Tree} →
+      0 < before → 0 < after → word ws i ≡ before → DerivesAt ws true F (i + 1) p j → word ws j ≡ after →
+      DerivesAt ws false (B before after) i p (j + 1)
+
+-- X, said of a symbol; of a B it is said where both its words have P.
+abbrev pub Given : (ℕ → Type 0) → Symbol → Type 0 → Type 0
+Given P F X = X
+Given P D X = X
+Given P C X = X
+Given P U X = X
+Given P (B before after) X = P before → P after → X
 
 -- A word that is not 0 stands before the end,
 pub inside : (ws : List ℕ) (i : ℕ) → 0 < word ws i → i < length ws
@@ -107,8 +120,9 @@ count-pos w e = within-low SUM AGE w e
 
 -- ---- records
 
--- Outside square brackets two records fewer than words: `len` is one record of three words, square brackets are two
--- words, and the second record of a `then` takes what one of its parts leaves.
+-- Outside square brackets two records fewer than words: `len` is one record of three words, a P stands between two
+-- words, `lag` has three records and six words beside those of P and Q, and the second record of a `then` takes what
+-- one of its parts leaves.
 abbrev leftOver : Bool → ℕ
 leftOver true = 0
 leftOver false = 8
@@ -131,7 +145,8 @@ sized (u-signal h) = omega arith
 sized (u-test h r) = simp length-append (omega (arith, sized r))
 sized (u-len e h n) = omega arith
 sized (u-count k r h n) = simp length-append (omega (arith, sized r))
-sized (b-square e r f) = omega (arith, sized r)
+sized (u-lag e r n s) = simp length-append (omega (arith, sized r, sized s))
+sized (b-between k n e r f) = omega (arith, sized r)
 
 -- ---- words and nodes
 
@@ -182,7 +197,11 @@ steps {ws} (u-count {i} {j} k r h n) =
     let x = steps r in
     let m = inside ws (j + 1) (omega (arith, num-pos (word ws (j + 1)) n)) in
     record { moves = omega arith; within = omega arith; few = omega arith }
-steps {ws} (b-square {j = j} e r f) =
+steps (u-lag e r n s) =
+    let x = steps r in
+    let y = steps s in
+    record { moves = omega arith; within = y .within; few = omega arith }
+steps {ws} (b-between {j = j} k n e r f) =
     let x = steps r in
     let h = inside ws j (omega arith) in
     record { moves = omega arith; within = omega arith; few = omega arith }

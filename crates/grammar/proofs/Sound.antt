@@ -6,6 +6,7 @@ use mathlib.Core.List.{List}
 use Prim.Native.Nat.{ℕ, zero, suc, _+_, _≤_, _<_}
 use native.Mathlib.Omega.{arith}
 use native.Mathlib.Nat.{le-refl}
+use native.Mathlib.Decide.{decLt}
 use lib.Dec.{eqb}
 use lib.ListN.{length}
 use borrow.Author.Tests.{eqb-true}
@@ -13,23 +14,23 @@ use Rattle.traces.specs.Compare.{Op}
 use Rattle.formulas.specs.Formula.{Num}
 use Rattle.formulas.specs.Tree.{Tree}
 use Rattle.formulas.specs.Tree.Tree.{constant, signal, and, or, len, count}
-use Rattle.words.specs.Word.{ROUND, ROUND-END, SQUARE, SQUARE-END, NOT, AND, OR, LEN, THEN, CHOP, EXISTS}
+use Rattle.words.specs.Word.{ROUND, ROUND-END, SQUARE, SQUARE-END, NOT, AND, OR, COMMA, LEN, LAG, THEN, CHOP, EXISTS}
 use Rattle.words.specs.Word.{isOp, isSignal, isNum, isBit, isTest, isCount}
 use Rattle.grammar.specs.Grammar.{Symbol, bitWord, signalWord, opWord, numWord, countWord}
 use Rattle.grammar.specs.Grammar.Symbol.{F, D, C, U, B}
 use Rattle.grammar.specs.Parse.{Result, Goal, Join, Unit as First, Atom, word, bind, joinOf, unitOf, atomOf}
-use Rattle.grammar.specs.Parse.{leafAt, withComparison, closed}
-use Rattle.grammar.specs.Parse.{stepF, stepD, stepC, stepExists, stepU, stepA, stepB}
+use Rattle.grammar.specs.Parse.{goSquare, leafAt, withComparison, closed}
+use Rattle.grammar.specs.Parse.{stepF, stepD, stepC, stepExists, stepU, stepLag, stepA, stepB}
 use Rattle.grammar.specs.Parse.{step, parse, rank, depth, read}
 use Rattle.grammar.specs.Parse.Result.{no-rule, ok}
 use Rattle.grammar.specs.Parse.Goal.{goF, goD, goDs, goC, goCs, goU, goA, goB}
 use Rattle.grammar.specs.Parse.Join.{join-then, join-chop, join-none}
 use Rattle.grammar.specs.Parse.Unit.{unit-not, unit-round, unit-leaf, unit-exists, unit-atom}
-use Rattle.grammar.specs.Parse.Atom.{atom-test, atom-len, atom-count, atom-none}
-use Rattle.grammar.proofs.Position.{DerivesAt, span, inside, signal-pos, test-pos, count-pos}
+use Rattle.grammar.specs.Parse.Atom.{atom-test, atom-len, atom-count, atom-lag, atom-none}
+use Rattle.grammar.proofs.Position.{DerivesAt, span, inside, signal-pos, num-pos, test-pos, count-pos}
 use Rattle.grammar.proofs.Position.DerivesAt.{f-one, f-then, f-chop, d-one, d-or, c-one, c-and}
 use Rattle.grammar.proofs.Position.DerivesAt.{u-not, u-exists, u-round, u-constant, u-signal}
-use Rattle.grammar.proofs.Position.DerivesAt.{u-test, u-len, u-count, b-square}
+use Rattle.grammar.proofs.Position.DerivesAt.{u-test, u-len, u-count, u-lag, b-between}
 
 -- ---- results
 
@@ -103,22 +104,25 @@ abbrev Names : ℕ → Atom → Type 0
 Names w atom-test = isTest w ≡ true
 Names w atom-len = w ≡ LEN
 Names w atom-count = isCount w ≡ true
+Names w atom-lag = w ≡ LAG
 Names w atom-none = Unit {0}
 
 named : (w : ℕ) → Names w (atomOf w)
-named w = go (isTest w) (eqb w LEN) (isCount w) refl refl refl
+named w = go (isTest w) (eqb w LEN) (isCount w) (eqb w LAG) refl refl refl refl
   where
-    go : (a b c : Bool) → isTest w ≡ a → eqb w LEN ≡ b → isCount w ≡ c →
-        Names w (cond a atom-test (cond b atom-len (cond c atom-count atom-none)))
-    go true b c p q r = p
-    go false true c p q r = eqb-true w LEN q
-    go false false true p q r = r
-    go false false false p q r = tt
+    go : (a b c d : Bool) → isTest w ≡ a → eqb w LEN ≡ b → isCount w ≡ c → eqb w LAG ≡ d →
+        Names w (cond a atom-test (cond b atom-len (cond c atom-count (cond d atom-lag atom-none))))
+    go true b c d p q r s = p
+    go false true c d p q r s = eqb-true w LEN q
+    go false false true d p q r s = r
+    go false false false true p q r s = eqb-true w LAG s
+    go false false false false p q r s = tt
 
 -- ---- soundness
 
 module _ (ws : List ℕ) where
-  -- What an answer to a goal says in the grammar's terms. What follows a D or a C makes a longer one of it.
+  -- What an answer to a goal says in the grammar's terms. What follows a D or a C makes a longer one of it. A P between
+  -- two words is one of the grammar's where they are not 0, the word past the end.
   abbrev pub Holds : Goal → ℕ → Tree → ℕ → Type 0
   Holds (goF l) i t j = DerivesAt ws l F i t j
   Holds (goD l) i t j = DerivesAt ws l D i t j
@@ -127,7 +131,7 @@ module _ (ws : List ℕ) where
   Holds (goCs l a) i t j = (i ≤ j) × ((s : ℕ) → DerivesAt ws l C s a i → DerivesAt ws l C s t j)
   Holds (goU l) i t j = DerivesAt ws l U i t j
   Holds goA i t j = DerivesAt ws false U i t j
-  Holds goB i t j = DerivesAt ws false B i t j
+  Holds (goB before after) i t j = 0 < before → 0 < after → DerivesAt ws false (B before after) i t j
 
   -- Readings whose every answer is so.
   abbrev Sound : (Goal → ℕ → Result) → Type 0
@@ -214,19 +218,31 @@ module _ (ws : List ℕ) where
     sound-U l unit-exists i e = all-weaken (sound-exists _ i (e .1) refl) (λ t j r. there false (e .0) r)
     sound-U l unit-atom i e = all-weaken (snd goA i) (λ t j r. there false e r)
 
+    sound-lag : (b : Bool) (i : ℕ) (p : Tree) (j : ℕ) → word ws i ≡ LAG →
+        DerivesAt ws false (B SQUARE COMMA) (i + 1) p j → isNum (word ws j) ≡ b →
+        All (Holds goA i) (stepLag ws rec p b j)
+    sound-lag true i p j e r f =
+        all-bind (snd (goB COMMA SQUARE-END) (j + 1)) (λ q m s. gives (u-lag e r f (s (omega arith) (omega arith))))
+    sound-lag false i p j e r f = fails
+
     sound-A : (k : Atom) (i : ℕ) → Names (word ws i) k → All (Holds goA i) (stepA ws rec k i)
-    sound-A atom-test i e = all-bind (snd goB (i + 1)) (λ p j s. gives (u-test e s))
+    sound-A atom-test i e =
+        all-bind (snd goSquare (i + 1)) (λ p j s. gives (u-test e (s (omega arith) (omega arith))))
     sound-A atom-len i e = sound-comparison len (i + 1) (λ f g. u-len e f g)
     sound-A atom-count i e =
-        all-bind (snd goB (i + 1)) (λ p j s.
-        sound-comparison (count (countWord (word ws i)) p) j (λ f g. u-count e s f g))
+        all-bind (snd goSquare (i + 1)) (λ p j s.
+        sound-comparison (count (countWord (word ws i)) p) j (λ f g. u-count e (s (omega arith) (omega arith)) f g))
+    sound-A atom-lag i e =
+        all-bind (snd (goB SQUARE COMMA) (i + 1)) (λ p j s.
+        sound-lag _ i p j e (s (omega arith) (omega arith)) refl)
     sound-A atom-none i e = fails
 
-    sound-B : (b : Bool) (i : ℕ) → eqb (word ws i) SQUARE ≡ b → All (Holds goB i) (stepB ws rec b i)
-    sound-B true i e =
+    sound-B : (b : Bool) (before after i : ℕ) → eqb (word ws i) before ≡ b →
+        All (Holds (goB before after) i) (stepB ws rec b after i)
+    sound-B true before after i e =
         all-bind (snd (goF true) (i + 1)) (λ p j s.
-        sound-closed SQUARE-END p j (λ f. b-square (eqb-true _ _ e) s f))
-    sound-B false i e = fails
+        sound-closed after p j (λ f k n. b-between k n (eqb-true _ _ e) s f))
+    sound-B false before after i e = fails
 
     step-sound : Sound (step ws rec)
     step-sound (goF l) i =
@@ -239,7 +255,7 @@ module _ (ws : List ℕ) where
     step-sound (goCs l a) i = sound-C l _ a i refl
     step-sound (goU l) i = sound-U l (unitOf l (word ws i)) i (begun l (word ws i))
     step-sound goA i = sound-A (atomOf (word ws i)) i (named (word ws i))
-    step-sound goB i = sound-B _ i refl
+    step-sound (goB before after) i = sound-B _ before after i refl
 
   -- So parsing to any depth is sound.
   parse-sound : (k : ℕ) → Sound (parse ws k)
@@ -269,12 +285,25 @@ module _ (ws : List ℕ) where
   count-inside : (i : ℕ) → isCount (word ws i) ≡ true → i < length ws
   count-inside i e = inside ws i (omega (arith, count-pos (word ws i) e))
 
+  num-inside : (i : ℕ) → isNum (word ws i) ≡ true → i < length ws
+  num-inside i e = inside ws i (omega (arith, num-pos (word ws i) e))
+
+  -- Past the end a sound reading gives no F.
+  none-past : (rec : Goal → ℕ → Result) → Sound ws rec → (l : Bool) (i : ℕ) → length ws ≤ i → rec (goF l) i ≡ no-rule
+  none-past rec snd l i h = go (rec (goF l) i) (snd (goF l) i)
+    where
+      go : (r : Result) → All (Holds ws (goF l) i) r → r ≡ no-rule
+      go no-rule fails = refl
+      go (ok t j) (gives r) = let x = span r in absurd (omega arith)
+
   -- Two readings agree on goals that need less depth than n.
   abbrev Agree : (Goal → ℕ → Result) → (Goal → ℕ → Result) → ℕ → Type 0
   Agree rec rec′ n = (g : Goal) (i : ℕ) → depth ws g i < n → rec g i ≡ rec′ g i
 
   -- Then one step over them agrees on goals that need no more than n.
-  module _ (rec rec′ : Goal → ℕ → Result) (snd : Sound ws rec) (n : ℕ) (same : Agree rec rec′ n) where
+  module _
+      (rec rec′ : Goal → ℕ → Result) (snd : Sound ws rec) (snd′ : Sound ws rec′)
+      (n : ℕ) (same : Agree rec rec′ n) where
     same-bind : (g : Goal) (i : ℕ) (f f′ : Tree → ℕ → Result) → depth ws g i < n →
         ((a : Tree) (m : ℕ) → Holds ws g i a m → f a m ≡ f′ a m) → bind (rec g i) f ≡ bind (rec′ g i) f′
     same-bind g i f f′ d h = bind-cong (rec g i) (rec′ g i) f f′ (same g i d) (snd g i) h
@@ -326,23 +355,37 @@ module _ (ws : List ℕ) where
     same-U l unit-exists i d e = same-exists _ i d refl
     same-U l unit-atom i d e = same goA i (omega arith)
 
+    same-lag : (p : Tree) (b : Bool) (i j : ℕ) → depth ws goA i ≤ n → i + 1 < j → isNum (word ws j) ≡ b →
+        stepLag ws rec p b j ≡ stepLag ws rec′ p b j
+    same-lag p true i j d m e =
+        let h = num-inside j e in
+        same-bind (goB COMMA SQUARE-END) (j + 1) _ _ (omega arith) (λ q k s. refl)
+    same-lag p false i j d m e = refl
+
     same-A : (k : Atom) (i : ℕ) → depth ws goA i ≤ n → Names (word ws i) k → stepA ws rec k i ≡ stepA ws rec′ k i
     same-A atom-test i d e =
         let h = test-inside i e in
-        same-bind goB (i + 1) _ _ (omega arith) (λ p j s. refl)
+        same-bind goSquare (i + 1) _ _ (omega arith) (λ p j s. refl)
     same-A atom-len i d e = refl
     same-A atom-count i d e =
         let h = count-inside i e in
-        same-bind goB (i + 1) _ _ (omega arith) (λ p j s. refl)
+        same-bind goSquare (i + 1) _ _ (omega arith) (λ p j s. refl)
+    same-A atom-lag i d e =
+        let h = inside ws i (omega arith) in
+        same-bind (goB SQUARE COMMA) (i + 1) _ _ (omega arith) (λ p j s.
+        same-lag p _ i j d (span (s (omega arith) (omega arith)) .moves) refl)
     same-A atom-none i d e = refl
 
-    same-B : (b : Bool) (i : ℕ) → depth ws goB i ≤ n → eqb (word ws i) SQUARE ≡ b →
-        stepB ws rec b i ≡ stepB ws rec′ b i
-    same-B true i d e =
-        let w = eqb-true (word ws i) SQUARE e in
-        let h = inside ws i (omega arith) in
-        same-bind (goF true) (i + 1) _ _ (omega arith) (λ p j s. refl)
-    same-B false i d e = refl
+    -- The first word of a B may be 0; past the end neither reading gives an F.
+    same-B : (b : Bool) (before after i : ℕ) → depth ws (goB before after) i ≤ n →
+        stepB ws rec b after i ≡ stepB ws rec′ b after i
+    same-B true before after i d =
+        elim (decLt i (length ws)) [
+          | yes l ↦ same-bind (goF true) (i + 1) _ _ (omega arith) (λ p j s. refl)
+          | no l ↦ (let past : length ws ≤ i + 1 = omega arith in
+              rw (none-past rec snd true (i + 1) past, none-past rec′ snd′ true (i + 1) past))
+        ]
+    same-B false before after i d = refl
 
     same-step : (g : Goal) (i : ℕ) → depth ws g i ≤ n → step ws rec g i ≡ step ws rec′ g i
     same-step (goF l) i d =
@@ -356,7 +399,7 @@ module _ (ws : List ℕ) where
     same-step (goCs l a) i d = same-C l _ a i d refl
     same-step (goU l) i d = same-U l (unitOf l (word ws i)) i d (begun l (word ws i))
     same-step goA i d = same-A (atomOf (word ws i)) i d (named (word ws i))
-    same-step goB i d = same-B _ i d refl
+    same-step (goB before after) i d = same-B (eqb (word ws i) before) before after i d
 
   -- Every goal needs some depth,
   ranked : (g : Goal) → 0 < rank g
@@ -367,7 +410,7 @@ module _ (ws : List ℕ) where
   ranked (goCs l a) = omega arith
   ranked (goU l) = omega arith
   ranked goA = omega arith
-  ranked goB = omega arith
+  ranked (goB before after) = omega arith
 
   -- and any two depths that are enough give the same.
   enough : (k k′ : ℕ) (g : Goal) (i : ℕ) → depth ws g i ≤ k → depth ws g i ≤ k′ → parse ws k g i ≡ parse ws k′ g i
@@ -375,7 +418,7 @@ module _ (ws : List ℕ) where
   enough zero k′ g i h h′ = absurd (omega (arith, ranked g))
   enough (suc k) zero g i h h′ = absurd (omega (arith, ranked g))
   enough (suc k) (suc k′) g i h h′ =
-      same-step (parse ws k) (parse ws k′) (parse-sound ws k) (depth ws g i)
+      same-step (parse ws k) (parse ws k′) (parse-sound ws k) (parse-sound ws k′) (depth ws g i)
       (λ g′ i′ d. enough k k′ g′ i′ (omega arith) (omega arith)) g i (le-refl _)
 
   -- The equation by which everybody knows `read`.
@@ -383,5 +426,5 @@ module _ (ws : List ℕ) where
   unfolding read parse
   read-eq g i =
       enough (depth ws g i) (suc (depth ws g i)) g i (le-refl _) (omega arith)
-      ∙ same-step (parse ws (depth ws g i)) (read ws) (parse-sound ws (depth ws g i)) (depth ws g i)
+      ∙ same-step (parse ws (depth ws g i)) (read ws) (parse-sound ws (depth ws g i)) (read-sound ws) (depth ws g i)
       (λ g′ i′ d. enough (depth ws g i) (depth ws g′ i′) g′ i′ (omega arith) (le-refl _)) g i (le-refl _)
