@@ -27,10 +27,11 @@ use Rattle.scheme.proofs.Places.{Each, each-at, each-from, nothing}
 
 -- ---- the test
 
--- What a name in a row stands for: 0; a boolean flow before the rows; a number below some bound; one of the rows' own
--- flows; or nothing that an operand may be.
+-- What a name in a row stands for: 0; a flow of that sort before the rows; a number below some bound; one of the rows'
+-- own flows; or nothing that an operand may be.
 pub data Role : Type 0 where
-  nought given free : Role
+  nought free : Role
+  given : Sort → Role
   below own : ℕ → Role
 
 -- The roles of the names, with those of the start flows and the operands, and where A and C are below these bounds.
@@ -51,14 +52,14 @@ rolesOf n s p q a c Fifth = own 4
 
 abbrev pub isNought : Role → Bool
 isNought nought = true
-isNought given = false
+isNought (given s) = false
 isNought free = false
 isNought (below b) = false
 isNought (own j) = false
 
 abbrev pub isBelow : ℕ → Role → Bool
 isBelow k nought = ltb 0 k
-isBelow k given = false
+isBelow k (given s) = false
 isBelow k free = false
 isBelow k (below b) = leb b k
 isBelow k (own j) = false
@@ -69,10 +70,10 @@ kindIn v r = kindOf (kindFor v (r .kind))
 
 -- Rows with these values and these roles.
 module _ (v : Values) (roles : Name → Role) (rows : List Row) where
-  -- A boolean flow before the rows, or one of the first k of their own, of that sort.
+  -- A flow before the rows, or one of the first k of their own, of that sort.
   abbrev pub isFlowOf : ℕ → Sort → Role → Bool
   isFlowOf k s nought = false
-  isFlowOf k s given = sameSort Boolean s
+  isFlowOf k s (given g) = sameSort g s
   isFlowOf k s free = false
   isFlowOf k s (below b) = false
   isFlowOf k s (own j) = ltb j k && sameSort (sortOf (kindIn v (rowAt rows j))) s
@@ -132,30 +133,32 @@ module _ (t : List ℕ) (N o : ℕ) where
   -- The number v is what its role says.
   abbrev pub Plays : Role → ℕ → Type 0
   Plays nought v = v ≡ 0
-  Plays given v = Before t o Boolean v
+  Plays (given s) v = Before t o s v
   Plays free v = Unit {0}
   Plays (below b) v = v < b
   Plays (own j) v = v ≡ o ⊕ j
 
   nought-fits : (r : Role) (v : ℕ) → Plays r v → isNought r ≡ true → v ≡ 0
   nought-fits nought v h e = h
-  nought-fits given v h e = absurd (false≢true e)
+  nought-fits (given s) v h e = absurd (false≢true e)
   nought-fits free v h e = absurd (false≢true e)
   nought-fits (below b) v h e = absurd (false≢true e)
   nought-fits (own j) v h e = absurd (false≢true e)
 
   below-fits : (k : ℕ) (r : Role) (v : ℕ) → Plays r v → isBelow k r ≡ true → v < k
   below-fits k nought v h e = omega (arith, ltb-true 0 k e)
-  below-fits k given v h e = absurd (false≢true e)
+  below-fits k (given s) v h e = absurd (false≢true e)
   below-fits k free v h e = absurd (false≢true e)
   below-fits k (below b) v h e = omega (arith, leb-true b k e)
   below-fits k (own j) v h e = absurd (false≢true e)
 
-  -- A boolean flow can be an operand of a sort that is boolean.
-  given-fits : (s : Sort) (i v : ℕ) → Before t o Boolean v → o ≤ i → sameSort Boolean s ≡ true → Before t i s v
+  -- A flow can be an operand of its own sort.
+  given-fits : (g s : Sort) (i v : ℕ) → Before t o g v → o ≤ i → sameSort g s ≡ true → Before t i s v
   unfolding sameSort
-  given-fits Boolean i v h l e = later h l
-  given-fits Count i v h l e = absurd (false≢true e)
+  given-fits Boolean Boolean i v h l e = later h l
+  given-fits Boolean Count i v h l e = absurd (false≢true e)
+  given-fits Count Boolean i v h l e = absurd (false≢true e)
+  given-fits Count Count i v h l e = later h l
 
   module _ (v : Values) (roles : Name → Role) (rows : List Row) (play : (x : Name) → Plays (roles x) (valueNamed v x))
       (room : o ⊕ length rows ≤ N) (kinds : Each (KindAt t) o (filled v rows)) where
@@ -169,7 +172,7 @@ module _ (t : List ℕ) (N o : ℕ) where
     flow-fits : (k p : ℕ) → k ≤ length rows → o ⊕ k ≤ p → (s : Sort) (r : Role) (x : ℕ) → Plays r x
         → isFlowOf v roles rows k s r ≡ true → isFlow t p s x ≡ true
     flow-fits k p small far s nought x h e = absurd (false≢true e)
-    flow-fits k p small far s given x h e = is-flow (given-fits s p x h (omega (arith, ⊕-add o k)) e)
+    flow-fits k p small far s (given g) x h e = is-flow (given-fits g s p x h (omega (arith, ⊕-add o k)) e)
     flow-fits k p small far s free x h e = absurd (false≢true e)
     flow-fits k p small far s (below b) x h e = absurd (false≢true e)
     flow-fits k p small far s (own j) x h e =

@@ -1,4 +1,5 @@
--- The rows of each node fit, by the computed test of Roles, and their result is a boolean. Assumes nothing.
+-- The rows of each node fit, by the computed test of Roles, and their result is a boolean; only a run's, in a `lag`, is
+-- a count. Assumes nothing.
 use mathlib.Core.Bool.{Bool, true, false}
 use mathlib.Core.List.{List}
 use mathlib.Core.Path.{_≡_, refl, ap}
@@ -16,11 +17,12 @@ use Rattle.formulas.specs.Bounds.{numBound}
 use Rattle.tables.specs.Table.{all, Equation, kindOf, kindAt, shapeOf, sortOf, sameSort}
 use Rattle.limits.specs.Limits.{truthCount, comparisonCount}
 use Rattle.limits.specs.Limits.{literalCount, parameterCount}
-use Rattle.tables.specs.declared.Sort.the-variants.{Boolean}
-use Rattle.tables.specs.Kind.{CONSTANT, NOT, AND, OR}
+use Rattle.tables.specs.declared.Sort.{Sort}
+use Rattle.tables.specs.declared.Sort.the-variants.{Boolean, Count}
+use Rattle.tables.specs.Kind.{CONSTANT, NOT, AND, OR, IF}
 use Rattle.scheme.specs.Scheme.{_⊕_, constantRows, notRows, andRows, orRows, beginRows, pointRows, keptRows}
-use Rattle.scheme.specs.Scheme.{heldRows, lenRows, sumRows, ageRows, leadEndRows, thenRows, wholeRows}
-use Rattle.scheme.specs.Scheme.{valueNamed, comparisonOf, filled}
+use Rattle.scheme.specs.Scheme.{heldRows, lenRows, sumRows, runRows, ageRows, fineRows, leadEndRows, thenRows}
+use Rattle.scheme.specs.Scheme.{wholeRows, valueNamed, comparisonOf, filled}
 use Rattle.scheme.specs.Scheme.{Name}
 use Rattle.scheme.specs.Scheme.Name.{Nought, Idle, Start, Last, Previous, Signal, A, C}
 use Rattle.scheme.specs.Scheme.Name.{First, Second, Third, Fourth, Fifth}
@@ -28,7 +30,7 @@ use Rattle.scheme.specs.Scheme.{Row}
 use Rattle.scheme.specs.Scheme.{Values}
 use Rattle.scheme.specs.Emit.{flowsAt, comparing, constantAt}
 use Rattle.scheme.specs.Emit.{constant-es, not-es, and-es, or-es, begin-es, point-es, kept-es, held-es}
-use Rattle.scheme.specs.Emit.{len-es, sum-es, age-es, lead-end-es, then-es, whole-es}
+use Rattle.scheme.specs.Emit.{len-es, sum-es, age-es, run-es, fine-es, always-es, lead-end-es, then-es, whole-es}
 use Rattle.scheme.proofs.Places.{Each}
 use Rattle.scheme.proofs.Roles.{Role, rolesOf, rowsOk, Before, later, Fits, KindAt, Plays, rows-fit}
 use Rattle.scheme.proofs.Roles.Role.{given, free}
@@ -49,21 +51,25 @@ module _ (t : List ℕ) (N o : ℕ) where
   abbrev pub Kinded : List Equation → Type 0
   Kinded = Each (KindAt t) o
 
-  -- The equations fit, and the flow v is a boolean before place o′.
-  abbrev pub Fine : List Equation → ℕ → ℕ → Type 0
-  Fine es o′ v = Each (Fits t N) o es × Before t o′ Boolean v
+  -- The equations fit, and the flow v is one of that sort before place o′;
+  abbrev pub FineOf : Sort → List Equation → ℕ → ℕ → Type 0
+  FineOf s es o′ v = Each (Fits t N) o es × Before t o′ s v
 
-  -- An equation of a boolean kind.
-  pub here : (x k : ℕ) → kindAt t x ≡ kindOf k → sameSort (sortOf (kindOf k)) Boolean ≡ true
-      → Before t (suc x) Boolean x
+  -- it is a boolean.
+  abbrev pub Fine : List Equation → ℕ → ℕ → Type 0
+  Fine = FineOf Boolean
+
+  -- An equation of a kind of that sort.
+  pub here : {s : Sort} (x k : ℕ) → kindAt t x ≡ kindOf k → sameSort (sortOf (kindOf k)) s ≡ true
+      → Before t (suc x) s x
   here x k e h = record { earlier = omega arith; sorted = rw e h }
 
   -- ---- rows with these values
 
-  -- One of the start flows and operands in a node's rows: it is not used, or it is a boolean flow before them.
+  -- One of the start flows and operands in a node's rows: it is not used, or it is a flow of that sort before them.
   data Given : Role → ℕ → Type 0 where
     unused : Given free 0
-    used : {x : ℕ} → Before t o Boolean x → Given given x
+    used : {s : Sort} {x : ℕ} → Before t o s x → Given (given s) x
 
   plays : {r : Role} {x : ℕ} → Given r x → Plays t N o r x
   plays unused = tt
@@ -101,19 +107,19 @@ module _ (t : List ℕ) (N o : ℕ) where
       plain-fit rows = numbers-fit (flowsAt o n s p q) refl gn gs gp gq 1 1 rows (omega arith) (omega arith)
 
   -- Rows with a comparison, with a literal below the cap, which is at most a million, or with a parameter.
-  module _ {rp : Role} {n p : ℕ} (bn : Before t o Boolean n) (gp : Given rp p) where
+  module _ {rn rp rq : Role} {n p q : ℕ} (gn : Given rn n) (gp : Given rp p) (gq : Given rq q) where
     compare-fit : (cap : ℕ) → cap ≤ literalCount → (op : Op) (x : Num) → numBound cap x ≡ true → (rows : List Row)
-        → o ⊕ length rows ≤ N → Kinded (filled (comparing o n p op x) rows)
-        → ((c : ℕ) → rowsOk (comparing o n p op (literal c))
-        (rolesOf given free rp free comparisonCount literalCount) rows ≡ true)
-        → ((c : ℕ) → rowsOk (comparing o n p op (parameter c))
-        (rolesOf given free rp free comparisonCount parameterCount) rows ≡ true)
-        → Each (Fits t N) o (filled (comparing o n p op x) rows)
+        → o ⊕ length rows ≤ N → Kinded (filled (comparing o n p q op x) rows)
+        → ((c : ℕ) → rowsOk (comparing o n p q op (literal c))
+        (rolesOf rn free rp rq comparisonCount literalCount) rows ≡ true)
+        → ((c : ℕ) → rowsOk (comparing o n p q op (parameter c))
+        (rolesOf rn free rp rq comparisonCount parameterCount) rows ≡ true)
+        → Each (Fits t N) o (filled (comparing o n p q op x) rows)
     compare-fit cap low op (literal c) bound rows room kinds ok ok′ =
-        numbers-fit (comparing o n p op (literal c)) refl (used bn) unused gp unused comparisonCount literalCount
+        numbers-fit (comparing o n p q op (literal c)) refl gn unused gp gq comparisonCount literalCount
         rows (op-below op) (omega (arith, ltb-true c cap bound)) room kinds (ok c)
     compare-fit cap low op (parameter c) bound rows room kinds ok ok′ =
-        numbers-fit (comparing o n p op (parameter c)) refl (used bn) unused gp unused comparisonCount parameterCount
+        numbers-fit (comparing o n p q op (parameter c)) refl gn unused gp gq comparisonCount parameterCount
         rows (op-below op) (ltb-true c parameterCount bound) room kinds (ok′ c)
 
   -- A comparison is boolean.
@@ -164,6 +170,11 @@ module _ (t : List ℕ) (N o : ℕ) where
       later (here (o ⊕ 1) OR (k .1 .0) refl) (omega arith),
     )
 
+    -- The rows of `kept`, with their conjunction as the result.
+    pub always-fine : o ⊕ 3 ≤ N → Kinded (always-es s o p) → Fine (always-es s o p) (o ⊕ 3) (o ⊕ 2)
+    unfolding all kindOf shapeOf sameSort
+    always-fine room k = (kept-fine room k .0, here (o ⊕ 2) AND (k .1 .1 .0) refl)
+
     pub held-fine : o ⊕ 4 ≤ N → Kinded (held-es s n o p) → Fine (held-es s n o p) (o ⊕ 4) (o ⊕ 3)
     unfolding all kindOf shapeOf sameSort
     held-fine room k =
@@ -173,23 +184,41 @@ module _ (t : List ℕ) (N o : ℕ) where
       pub len-fine : o ⊕ 4 ≤ N → Kinded (len-es n o op x) → Fine (len-es n o op x) (o ⊕ 4) (o ⊕ 3)
       unfolding all kindOf shapeOf sameSort
       len-fine room k = (
-        compare-fit bn unused cap low op x bound lenRows room k (λ c. refl) (λ c. refl),
+        compare-fit (used bn) unused unused cap low op x bound lenRows room k (λ c. refl) (λ c. refl),
         here (o ⊕ 3) (comparisonOf (numKind x)) (k .1 .1 .1 .0) (compare-boolean x),
       )
 
       pub sum-fine : o ⊕ 4 ≤ N → Kinded (sum-es n op x o p) → Fine (sum-es n op x o p) (o ⊕ 4) (o ⊕ 3)
       unfolding all kindOf shapeOf sameSort
       sum-fine room k = (
-        compare-fit bn (used bp) cap low op x bound sumRows room k (λ c. refl) (λ c. refl),
+        compare-fit (used bn) (used bp) unused cap low op x bound sumRows room k (λ c. refl) (λ c. refl),
         here (o ⊕ 3) (comparisonOf (numKind x)) (k .1 .1 .1 .0) (compare-boolean x),
       )
 
       pub age-fine : o ⊕ 5 ≤ N → Kinded (age-es n op x o p) → Fine (age-es n op x o p) (o ⊕ 5) (o ⊕ 4)
       unfolding all kindOf shapeOf sameSort
       age-fine room k = (
-        compare-fit bn (used bp) cap low op x bound ageRows room k (λ c. refl) (λ c. refl),
+        compare-fit (used bn) (used bp) unused cap low op x bound ageRows room k (λ c. refl) (λ c. refl),
         here (o ⊕ 4) (comparisonOf (numKind x)) (k .1 .1 .1 .1 .0) (compare-boolean x),
       )
+
+  -- The run of the proposition p in a `lag`, a count,
+  pub run-fine : {n p : ℕ} → Before t o Boolean n → Before t o Boolean p → o ⊕ 4 ≤ N → Kinded (run-es n o p)
+      → FineOf Count (run-es n o p) (o ⊕ 4) (o ⊕ 1)
+  unfolding all kindOf shapeOf sameSort
+  run-fine bn bp room k = (
+    plain-fit (used bn) unused (used bp) unused runRows room k refl,
+    later (here (o ⊕ 1) IF (k .1 .0) refl) (omega arith),
+  )
+
+  -- and that its q holds if it is due after the run r.
+  pub due-fine : {r q : ℕ} → Before t o Count r → Before t o Boolean q → (cap : ℕ) → cap ≤ literalCount → (x : Num)
+      → numBound cap x ≡ true → o ⊕ 4 ≤ N → Kinded (fine-es x o r q) → Fine (fine-es x o r q) (o ⊕ 4) (o ⊕ 3)
+  unfolding all kindOf shapeOf sameSort
+  due-fine br bq cap low x bound room k = (
+    compare-fit unused (used bq) (used br) cap low lt x bound fineRows room k (λ c. refl) (λ c. refl),
+    here (o ⊕ 3) OR (k .1 .1 .1 .0) refl,
+  )
 
   -- The end of the lead p: flows 3 and 4 are the second part's start and its negation.
   pub lead-end-fine : {n p : ℕ} → Before t o Boolean n → Before t o Boolean p → o ⊕ 5 ≤ N → Kinded (lead-end-es n o p)
