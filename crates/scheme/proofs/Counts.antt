@@ -13,18 +13,18 @@ use Rattle.formulas.specs.Formula.{Prop, Formula, Test, Count}
 use Rattle.formulas.specs.Formula.Prop.{constant, signal, negP, andP, orP}
 use Rattle.formulas.specs.Formula.Test.{begin, end, point, held, kept}
 use Rattle.formulas.specs.Formula.Count.{sum, age}
-use Rattle.formulas.specs.Formula.Formula.{test, len, count, neg, and, or, then}
+use Rattle.formulas.specs.Formula.Formula.{test, len, count, lag, neg, and, or, then}
 use Rattle.formulas.specs.Tree.{Tree}
 use Rattle.formulas.specs.Raw.{rawP, raw}
 use Rattle.tables.specs.Kind.{SIGNAL}
 use Rattle.tables.specs.Table.{Equation, equation}
 use Rattle.limits.specs.Limits.{signalCount}
 use Rattle.scheme.specs.Scheme.{Node, constantNode, signalNode, notNode, andNode, orNode, beginNode}
-use Rattle.scheme.specs.Scheme.{endNode, pointNode, heldNode, keptNode, lenNode, sumNode, ageNode, leadEndNode}
-use Rattle.scheme.specs.Scheme.{thenNode, wholeNode}
+use Rattle.scheme.specs.Scheme.{endNode, pointNode, heldNode, keptNode, lenNode, sumNode, ageNode, runNode}
+use Rattle.scheme.specs.Scheme.{fineNode, alwaysNode, leadEndNode, thenNode, wholeNode}
 use Rattle.scheme.specs.Emit.{placeAfter, emitP, emit, namedByP, namedBy, flowIn, signals-es, header, body}
 use Rattle.scheme.specs.Emit.{observer, startFlow, idleFlow, headerCount, start-es, whole-es}
-use Rattle.scheme.specs.Emit.{secondStart, secondIdle, secondPlace}
+use Rattle.scheme.specs.Emit.{afterRun, secondStart, secondIdle, secondPlace}
 
 -- ---- the count
 
@@ -56,6 +56,8 @@ equationCount (Tree.exists j t) = 0
 equationCount (Tree.test k p) = equationCount p + rowCount (testNode k)
 equationCount (Tree.len o n) = rowCount lenNode
 equationCount (Tree.count k p o n) = equationCount p + rowCount (countNode k)
+equationCount (Tree.lag p n q) =
+    equationCount p + equationCount q + (rowCount runNode + rowCount fineNode + rowCount alwaysNode)
 
 -- ---- the named signals among the m from j on
 
@@ -133,6 +135,14 @@ module _ (flowOf : ℕ → ℕ) (m j : ℕ) where
   formula-count (len op x) s n o = omega (arith, none-named m j)
   formula-count (count sum p op x) s n o = simp length-append (omega (arith, prop-count p o))
   formula-count (count age p op x) s n o = simp length-append (omega (arith, prop-count p o))
+  formula-count (lag p x q) s n o =
+      let o′ : ℕ = placeAfter o (emitP flowOf p o .es) in
+      simp length-append (omega (
+        arith,
+        both-named (namedByP p) (namedByP q) m j,
+        prop-count p o,
+        prop-count q (afterRun o′),
+      ))
   formula-count (neg f) s n o = simp length-append (omega (arith, formula-count f s n o))
   formula-count (and f g) s n o =
       simp length-append (omega (

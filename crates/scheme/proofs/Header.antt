@@ -1,6 +1,6 @@
 -- The header of an observer: the named signals stand by rising number, each where the formula's equations look for it.
 -- Assumes nothing.
-use mathlib.Core.Bool.{Bool, true, false, _||_, cond, and-eq-true-iff, false≢true}
+use mathlib.Core.Bool.{Bool, true, false, _&&_, _||_, cond, and-eq-true-iff, false≢true}
 use mathlib.Core.List.{List, _∷_}
 use mathlib.Core.Path.{_≡_, refl, sym, subst}
 use Prim.Native.Nat.{ℕ, zero, suc, _+_, _≤_, _<_}
@@ -10,7 +10,7 @@ use borrow.Author.Tests.{eqb-true, ltb-true, lt-ltb}
 use Rattle.lists.specs.Number.{numberAt}
 use Rattle.formulas.specs.Formula.{Prop, Formula}
 use Rattle.formulas.specs.Formula.Prop.{constant, signal, negP, andP, orP}
-use Rattle.formulas.specs.Formula.Formula.{test, len, count, neg, and, or, then}
+use Rattle.formulas.specs.Formula.Formula.{test, len, count, lag, neg, and, or, then}
 use Rattle.formulas.specs.Bounds.{bounded, numBound}
 use Rattle.formulas.specs.Raw.{rawP, raw}
 use Rattle.tables.specs.Kind.{SIGNAL}
@@ -106,6 +106,10 @@ module _ (cap j : ℕ) where
   names-below (test k p) b e = prop-names p b e
   names-below (len o n) b e = absurd (false≢true e)
   names-below (count k p o n) b e = prop-names p (and-eq-true-iff (bounded cap (rawP p)) (numBound cap n) .0 b .0) e
+  names-below (lag p n q) b e =
+      let h = and-eq-true-iff (bounded cap (rawP p)) (numBound cap n && bounded cap (rawP q)) .0 b in
+      let g = and-eq-true-iff (numBound cap n) (bounded cap (rawP q)) .0 (h .1) in
+      either (namedByP p j) (namedByP q j) (prop-names p (h .0)) (prop-names q (g .1)) e
   names-below (neg f) b e = names-below f b e
   names-below (and f g) b e =
       let h = and-eq-true-iff (bounded cap (raw f)) (bounded cap (raw g)) .0 b in

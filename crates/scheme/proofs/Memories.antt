@@ -11,7 +11,7 @@ use Rattle.formulas.specs.Formula.Num.{literal, parameter}
 use Rattle.formulas.specs.Formula.Prop.{constant, signal, negP, andP, orP}
 use Rattle.formulas.specs.Formula.Test.{begin, end, point, held, kept}
 use Rattle.formulas.specs.Formula.Count.{sum, age}
-use Rattle.formulas.specs.Formula.Formula.{test, len, count, neg, and, or, then}
+use Rattle.formulas.specs.Formula.Formula.{test, len, count, lag, neg, and, or, then}
 use Rattle.formulas.specs.Arena.{numKind}
 use Rattle.formulas.specs.Tree.{nodes}
 use Rattle.formulas.specs.Raw.{raw}
@@ -21,12 +21,12 @@ use Rattle.tables.specs.Table.{Equation, kindOf, kindAt, isMemory}
 use Rattle.scheme.specs.Scheme.{_⊕_, comparisonOf}
 use Rattle.tables.specs.Table.{equation}
 use Rattle.scheme.specs.Emit.{placeAfter, emitP, emit, namedBy, flowIn, signals-es, header, whole-es, body}
-use Rattle.scheme.specs.Emit.{observer, startFlow, idleFlow, start-es, numbersOf}
+use Rattle.scheme.specs.Emit.{observer, startFlow, idleFlow, start-es, numbersOf, afterRun}
 use Rattle.tables.specs.Table.{memories}
 use Rattle.scheme.proofs.Places.{four-more}
 
 -- The memories of a formula's own equations: one for each `begin`, `kept`, `held`, `len`, `sum` and `age`, two for
--- each `then`.
+-- each `lag` and each `then`.
 abbrev pub testMemories : Test → ℕ
 testMemories begin = 1
 testMemories end = 0
@@ -38,6 +38,7 @@ abbrev pub memoriesOf : Formula → ℕ
 memoriesOf (test k p) = testMemories k
 memoriesOf (len o n) = 1
 memoriesOf (count k p o n) = 1
+memoriesOf (lag p n q) = 2
 memoriesOf (neg f) = memoriesOf f
 memoriesOf (and f g) = memoriesOf f + memoriesOf g
 memoriesOf (or f g) = memoriesOf f + memoriesOf g
@@ -94,6 +95,9 @@ module _ (flowOf : ℕ → ℕ) where
   counted-formula (len op x) s n o = simp (compare-none x)
   counted-formula (count sum p op x) s n o = simp (counted-append, counted-prop p o, compare-none x)
   counted-formula (count age p op x) s n o = simp (counted-append, counted-prop p o, compare-none x)
+  counted-formula (lag p x q) s n o =
+      let o′ : ℕ = placeAfter o (emitP flowOf p o .es) in
+      simp (counted-append, counted-prop p o, counted-prop q (afterRun o′), compare-none x)
   counted-formula (neg f) s n o = simp (counted-append, counted-formula f s n o) (omega arith)
   counted-formula (and f g) s n o =
       let o′ : ℕ = placeAfter o (emit flowOf f s n o .es) in
@@ -164,6 +168,7 @@ two-a-node (test held p) = omega arith
 two-a-node (test kept p) = omega arith
 two-a-node (len o n) = omega arith
 two-a-node (count k p o n) = omega arith
+two-a-node (lag p n q) = omega arith
 two-a-node (neg f) = omega (arith, two-a-node f)
 two-a-node (and f g) = omega (arith, two-a-node f, two-a-node g)
 two-a-node (or f g) = omega (arith, two-a-node f, two-a-node g)

@@ -11,14 +11,14 @@ use Rattle.formulas.specs.Formula.{Prop, Formula}
 use Rattle.formulas.specs.Formula.Prop.{constant, signal, negP, andP, orP}
 use Rattle.formulas.specs.Formula.Test.{begin, end, point, held, kept}
 use Rattle.formulas.specs.Formula.Count.{sum, age}
-use Rattle.formulas.specs.Formula.Formula.{test, len, count, neg, and, or, then}
+use Rattle.formulas.specs.Formula.Formula.{test, len, count, lag, neg, and, or, then}
 use Rattle.formulas.specs.Arena.{flat}
 use Rattle.formulas.specs.Raw.{rawP, raw}
 use Rattle.tables.specs.Table.{Equation}
 use Rattle.limits.specs.Limits.{recordLimit, arenaLimit, equationLimit, signalCount}
 use Rattle.scheme.specs.Scheme.{_⊕_, widest}
 use Rattle.scheme.specs.Emit.{placeAfter, emitP, emit, namedBy, flowIn, signals-es, header, whole-es, body}
-use Rattle.scheme.specs.Emit.{observer, startFlow, idleFlow, headerCount, start-es}
+use Rattle.scheme.specs.Emit.{observer, startFlow, idleFlow, headerCount, start-es, afterRun}
 use Rattle.scheme.proofs.Header.{signals-length}
 
 module _ (flowOf : ℕ → ℕ) where
@@ -41,6 +41,9 @@ module _ (flowOf : ℕ → ℕ) where
   size (len op x) s n o = omega arith
   size (count sum p op x) s n o = simp length-append (omega (arith, prop-size p o))
   size (count age p op x) s n o = simp length-append (omega (arith, prop-size p o))
+  size (lag p x q) s n o =
+      let o′ : ℕ = placeAfter o (emitP flowOf p o .es) in
+      simp length-append (omega (arith, prop-size p o, prop-size q (afterRun o′)))
   size (neg f) s n o = simp length-append (omega (arith, size f s n o))
   size (and f g) s n o =
       simp length-append (omega (arith, size f s n o, size g s n (placeAfter o (emit flowOf f s n o .es))))
