@@ -5,11 +5,11 @@ use mathlib.Core.Path.{_≡_, refl}
 use Prim.Native.Nat.{ℕ, _≤_}
 use native.Mathlib.Omega.{arith}
 use borrow.Author.Tests.{eq-eqb}
-use Rattle.formulas.specs.Formula.{Prop, Formula}
+use Rattle.formulas.specs.Formula.{Num, Prop, Formula}
 use Rattle.formulas.specs.Formula.Prop.{constant, signal, negP, andP, orP}
 use Rattle.formulas.specs.Formula.Test.{begin, end, point, held, kept}
 use Rattle.formulas.specs.Formula.Count.{sum, age}
-use Rattle.formulas.specs.Formula.Formula.{test, len, count, neg, and, or, then}
+use Rattle.formulas.specs.Formula.Formula.{test, len, count, lag, neg, and, or, then}
 use Rattle.formulas.specs.Bounds.{bounded, numBound}
 use Rattle.formulas.specs.Raw.{rawP, raw}
 use Rattle.tables.specs.Table.{Equation}
@@ -18,12 +18,13 @@ use Rattle.tables.specs.declared.Sort.the-variants.{Boolean}
 use Rattle.scheme.specs.Scheme.{_⊕_, Node, andNode, orNode}
 use Rattle.scheme.specs.Emit.{Block, placeAfter, ownFlow, emitP, emit, namedByP, namedBy, join-block}
 use Rattle.scheme.specs.Emit.{not-es, and-es, or-es}
-use Rattle.scheme.specs.Emit.{begin-es, point-es, kept-es, held-es, sum-es, age-es, lead-end-es, then-es}
+use Rattle.scheme.specs.Emit.{begin-es, point-es, kept-es, held-es, sum-es, age-es, run-es, fine-es, always-es}
+use Rattle.scheme.specs.Emit.{lead-end-es, then-es, afterRun, afterFine}
 use Rattle.scheme.proofs.Places.{after-append, after-later, Each, each-left, each-right, each-join}
 use Rattle.scheme.proofs.Roles.{Before, later, Fits, KindAt}
 use Rattle.scheme.proofs.Rows.{Fine, constant-fine, not-fine, and-fine, or-fine}
 use Rattle.scheme.proofs.Rows.{begin-fine, point-fine, kept-fine, held-fine, len-fine, sum-fine, age-fine}
-use Rattle.scheme.proofs.Rows.{lead-end-fine, rest-fine}
+use Rattle.scheme.proofs.Rows.{always-fine, run-fine, due-fine, lead-end-fine, rest-fine}
 
 -- In a table t of N equations:
 module _ (t : List ℕ) (N : ℕ) where
@@ -53,6 +54,15 @@ module _ (t : List ℕ) (N : ℕ) where
 
   room-right : (xs ys : List Equation) (o : ℕ) → placeAfter o (xs ++ ys) ≤ N → placeAfter (placeAfter o xs) ys ≤ N
   room-right xs ys o h = rw (after-append xs ys o) at h
+
+  -- Equations that fit and give A, and others after them that fit once A is given.
+  in-turn : {A : Type 0} (xs ys : List Equation) (o v : ℕ) → placeAfter o (xs ++ ys) ≤ N → Kinded o (xs ++ ys)
+      → (placeAfter o xs ≤ N → Kinded o xs → Each (Fits t N) o xs × A)
+      → (A → placeAfter (placeAfter o xs) ys ≤ N → Kinded (placeAfter o xs) ys → AllFine (placeAfter o xs) ys v)
+      → AllFine o (xs ++ ys) v
+  in-turn xs ys o v room kinds first rest =
+      let h = first (room-left xs ys o room) (left xs ys o kinds) in
+      follow xs ys o v (h .0) (rest (h .1) (room-right xs ys o room) (right xs ys o kinds))
 
   -- A block that fits, negated,
   negated-fine : (o : ℕ) (x : Block) → let row : List Equation = not-es (placeAfter o (x .es)) (x .out) in
@@ -268,6 +278,35 @@ module _ (t : List ℕ) (N : ℕ) where
           (follow ending (y .es ++ rest) o′ (o″ ⊕ 3) (end .0 .0)
           (follow (y .es) rest (o′ ⊕ 5) (o″ ⊕ 3) (second .0) last))
 
+      -- A `lag`: its P, the run of it, its Q, that Q holds if it is due, and that this was always so.
+      lag-fine : cap ≤ literalCount → (p : Prop) (c : Num) (q : Prop) {s n o : ℕ} → GivenOf cap (lag p c q) s n o
+          → AllFine o (emit flowOf (lag p c q) s n o .es) (emit flowOf (lag p c q) s n o .out)
+      lag-fine low p c q {s} {n} {o} given =
+          let x : Block = emitP flowOf p o in
+          let o′ : ℕ = placeAfter o (x .es) in
+          let y : Block = emitP flowOf q (afterRun o′) in
+          let o″ : ℕ = placeAfter (afterRun o′) (y .es) in
+          let run : List Equation = run-es n o′ (x .out) in
+          let due : List Equation = fine-es c o″ (o′ ⊕ 1) (y .out) in
+          let always : List Equation = always-es s (afterFine o″) (o″ ⊕ 3) in
+          let v : ℕ = o″ ⊕ 6 in
+          let far : o ≤ o′ = after-later (x .es) o in
+          let farther : afterRun o′ ≤ o″ = after-later (y .es) (afterRun o′) in
+          let at-q : o ≤ afterRun o′ = omega arith in
+          let at-end : o ≤ afterFine o″ = omega arith in
+          let others = and-eq-true-iff (bounded cap (rawP p)) (numBound cap c && bounded cap (rawP q)) .0 (given .bound) .1 in
+          let bound = and-eq-true-iff (numBound cap c) (bounded cap (rawP q)) .0 others .0 in
+          let named-p = named-left (namedByP p) (namedByP q) (given .named) in
+          let named-q = named-right (namedByP p) (namedByP q) (given .named) at-q in
+          in-turn (x .es) (run ++ (y .es ++ (due ++ always))) o v (given .room) (given .kinds) (prop-fine p o named-p)
+          (λ bp room kinds. in-turn run (y .es ++ (due ++ always)) o′ v room kinds
+          (run-fine t N o′ (later (given .negation) far) bp)
+          (λ br room kinds. in-turn (y .es) (due ++ always) (afterRun o′) v room kinds
+          (prop-fine q (afterRun o′) named-q)
+          (λ bq room kinds. in-turn due always o″ v room kinds
+          (due-fine t N o″ (later br farther) bq cap low c bound)
+          (λ bd. always-fine t N (afterFine o″) (later (given .start) at-end) (later (given .negation) at-end) bd))))
+
       -- ---- formulas
 
       module _ (low : cap ≤ literalCount) where
@@ -287,6 +326,7 @@ module _ (t : List ℕ) (N : ℕ) where
         fine (count age p op x) s n o given =
             let bound = and-eq-true-iff (bounded cap (rawP p)) (numBound cap x) .0 (given .bound) .1 in
             with-prop (age-es n op x) 4 p (λ bs bn bp. age-fine t N _ bs bn bp cap low op x bound) given
+        fine (lag p x q) s n o given = lag-fine low p x q given
         fine (neg f) s n o given =
             let x : Block = emit flowOf f s n o in
             negated-fine o x (given .room) (given .kinds) (fine f s n o (under-not (x .es) _ given))
