@@ -70,9 +70,7 @@ module _ (t : List ℕ) (N : ℕ) where
       → AllFine o (x .es ++ row) (placeAfter o (x .es))
   negated-fine o x room kinds fine =
       let o′ : ℕ = placeAfter o (x .es) in
-      let row : List Equation = not-es o′ (x .out) in
-      follow (x .es) row o o′ (fine .0)
-      (not-fine t N o′ (fine .1) (room-right (x .es) row o room) (right (x .es) row o kinds))
+      in-turn (x .es) (not-es o′ (x .out)) o o′ room kinds (λ room kinds. fine) (λ bx. not-fine t N o′ bx)
 
   -- and two blocks that fit, joined by a row that fits.
   abbrev Joins : (ℕ → ℕ → ℕ → List Equation) → Node → Type 0
@@ -90,11 +88,9 @@ module _ (t : List ℕ) (N : ℕ) where
         let o″ : ℕ = placeAfter o′ (y .es) in
         let row : List Equation = join o″ (x .out) (y .out) in
         let v : ℕ = ownFlow o″ (d .result) in
-        let row-room = room-right (y .es) row o′ (room-right (x .es) (y .es ++ row) o room) in
-        let row-kinds = right (y .es) row o′ (right (x .es) (y .es ++ row) o kinds) in
-        let first = later (h .1) (after-later (y .es) o′) in
-        follow (x .es) (y .es ++ row) o v (h .0)
-        (follow (y .es) row o′ v (g .0) (row-fine o″ (x .out) (y .out) first (g .1) row-room row-kinds))
+        in-turn (x .es) (y .es ++ row) o v room kinds (λ room kinds. h)
+        (λ bx room kinds. in-turn (y .es) row o′ v room kinds (λ room kinds. g)
+        (row-fine o″ (x .out) (y .out) (later bx (after-later (y .es) o′))))
 
   join-and : Joins and-es andNode
   join-and = joined-fine and-es andNode (λ o a b ba bb. and-fine t N o ba bb)
@@ -177,13 +173,9 @@ module _ (t : List ℕ) (N : ℕ) where
     with-prop {o = o} rows j p rows-fine given =
         let x : Block = emitP flowOf p o in
         let o′ : ℕ = placeAfter o (x .es) in
-        let ys : List Equation = rows o′ (x .out) in
         let far : o ≤ o′ = after-later (x .es) o in
-        let room = room-left (x .es) ys o (given .room) in
-        let fine = prop-fine p o (given .named) room (left (x .es) ys o (given .kinds)) in
-        follow (x .es) ys o (o′ ⊕ j) (fine .0)
-        (rows-fine (later (given .start) far) (later (given .negation) far) (fine .1)
-        (room-right (x .es) ys o (given .room)) (right (x .es) ys o (given .kinds)))
+        in-turn (x .es) (rows o′ (x .out)) o (o′ ⊕ j) (given .room) (given .kinds) (prop-fine p o (given .named))
+        (rows-fine (later (given .start) far) (later (given .negation) far))
 
     -- The formula under a `!`.
     under-not : {bounds : Bool} {names : ℕ → Bool} {s n o : ℕ} (xs ys : List Equation)
@@ -249,34 +241,28 @@ module _ (t : List ℕ) (N : ℕ) where
           let bound = and-eq-true-iff (bounded cap (raw l)) (bounded cap (raw f)) .0 (given .bound) in
           let far : o ≤ o′ = after-later (x .es) o in
           let farther : o′ ⊕ 5 ≤ o″ = after-later (y .es) (o′ ⊕ 5) in
-          let kinds = right (x .es) (ending ++ (y .es ++ rest)) o (given .kinds) in
-          let kinds′ = right ending (y .es ++ rest) o′ kinds in
-          let room = room-right (x .es) (ending ++ (y .es ++ rest)) o (given .room) in
-          let room′ : o″ ⊕ 4 ≤ N = room-right (y .es) rest (o′ ⊕ 5) room in
-          let first = lead-fine (record {
+          let v : ℕ = o″ ⊕ 3 in
+          in-turn (x .es) (ending ++ (y .es ++ rest)) o v (given .room) (given .kinds)
+          (λ room kinds. lead-fine (record {
             bound = bound .0;
             named = named-left (namedBy l) (namedBy f) (given .named);
             start = given .start;
             negation = given .negation;
-            kinds = left (x .es) _ o (given .kinds);
-            room = room-left (x .es) _ o (given .room);
-          }) in
-          let negation = later (given .negation) far in
-          let end = lead-end-fine t N o′ negation (first .1) (omega arith) (left ending (y .es ++ rest) o′ kinds) in
-          let second = second-fine (record {
+            kinds = kinds;
+            room = room;
+          }))
+          (λ bl room kinds. in-turn ending (y .es ++ rest) o′ v room kinds
+          (lead-end-fine t N o′ (later (given .negation) far) bl)
+          (λ be room kinds. in-turn (y .es) rest (o′ ⊕ 5) v room kinds
+          (λ room kinds. second-fine (record {
             bound = bound .1;
             named = named-right (namedBy l) (namedBy f) (given .named) (omega arith);
-            start = end .0 .1;
-            negation = end .1;
-            kinds = left (y .es) rest (o′ ⊕ 5) kinds′;
-            room = room-left (y .es) rest (o′ ⊕ 5) room;
-          }) in
-          let last =
-          rest-fine t N o″ (later negation (omega arith)) (later (end .0 .1) farther) (second .1) room′
-          (right (y .es) rest (o′ ⊕ 5) kinds′) in
-          follow (x .es) (ending ++ (y .es ++ rest)) o (o″ ⊕ 3) (first .0)
-          (follow ending (y .es ++ rest) o′ (o″ ⊕ 3) (end .0 .0)
-          (follow (y .es) rest (o′ ⊕ 5) (o″ ⊕ 3) (second .0) last))
+            start = be .0;
+            negation = be .1;
+            kinds = kinds;
+            room = room;
+          }))
+          (λ bf. rest-fine t N o″ (later (given .negation) (omega arith)) (later (be .0) farther) bf)))
 
       -- A `lag`: its P, the run of it, its Q, that Q holds if it is due, and that this was always so.
       lag-fine : cap ≤ literalCount → (p : Prop) (c : Num) (q : Prop) {s n o : ℕ} → GivenOf cap (lag p c q) s n o
@@ -294,7 +280,7 @@ module _ (t : List ℕ) (N : ℕ) where
           let farther : afterRun o′ ≤ o″ = after-later (y .es) (afterRun o′) in
           let at-q : o ≤ afterRun o′ = omega arith in
           let at-end : o ≤ afterFine o″ = omega arith in
-          let others = and-eq-true-iff (bounded cap (rawP p)) (numBound cap c && bounded cap (rawP q)) .0 (given .bound) .1 in
+          let others = and-eq-true-iff (bounded cap (rawP p)) _ .0 (given .bound) .1 in
           let bound = and-eq-true-iff (numBound cap c) (bounded cap (rawP q)) .0 others .0 in
           let named-p = named-left (namedByP p) (namedByP q) (given .named) in
           let named-q = named-right (namedByP p) (namedByP q) (given .named) at-q in

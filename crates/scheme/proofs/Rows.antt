@@ -222,14 +222,11 @@ module _ (t : List ℕ) (N o : ℕ) where
 
   -- The end of the lead p: flows 3 and 4 are the second part's start and its negation.
   pub lead-end-fine : {n p : ℕ} → Before t o Boolean n → Before t o Boolean p → o ⊕ 5 ≤ N → Kinded (lead-end-es n o p)
-      → Fine (lead-end-es n o p) (o ⊕ 5) (o ⊕ 3) × Before t (o ⊕ 5) Boolean (o ⊕ 4)
+      → Each (Fits t N) o (lead-end-es n o p) × (Before t (o ⊕ 5) Boolean (o ⊕ 3) × Before t (o ⊕ 5) Boolean (o ⊕ 4))
   unfolding all kindOf shapeOf sameSort
   lead-end-fine bn bp room k = (
-    (
-      plain-fit (used bn) unused (used bp) unused leadEndRows room k refl,
-      later (here (o ⊕ 3) AND (k .1 .1 .1 .0) refl) (omega arith),
-    ),
-    here (o ⊕ 4) NOT (k .1 .1 .1 .1 .0) refl,
+    plain-fit (used bn) unused (used bp) unused leadEndRows room k refl,
+    (later (here (o ⊕ 3) AND (k .1 .1 .1 .0) refl) (omega arith), here (o ⊕ 4) NOT (k .1 .1 .1 .1 .0) refl),
   )
 
   -- What follows the second part p, whose start is s.
