@@ -11,12 +11,13 @@ use lib.Seq.{getD-set-same, getD-set-other}
 use Rattle.lists.specs.Number.{numberAt}
 use Rattle.traces.specs.Trace.{truth, nonzero}
 use Rattle.traces.specs.Compare.{opNumber}
+use Rattle.traces.specs.Compare.Op.{lt}
 use Rattle.formulas.specs.Formula.{Prop, Test, Count, Formula}
 use Rattle.formulas.specs.Formula.Prop.{constant, signal, negP, andP, orP}
 use Rattle.formulas.specs.Formula.Test.{begin, end, point, held, kept}
 use Rattle.formulas.specs.Formula.Count.{sum, age}
-use Rattle.formulas.specs.Formula.Formula.{test, len, count, neg, and, or, then}
-use Rattle.formulas.specs.Arena.{CONSTANT, SIGNAL, NOT, AND, OR, TEST, LEN, COUNT, LEAD-END, THEN}
+use Rattle.formulas.specs.Formula.Formula.{test, len, count, lag, neg, and, or, then}
+use Rattle.formulas.specs.Arena.{CONSTANT, SIGNAL, NOT, AND, OR, TEST, LEN, COUNT, RUN, FINE, ALWAYS, LEAD-END, THEN}
 use Rattle.formulas.specs.Arena.{testNumber, countNumber, numKind, numValue, row, flat}
 use Rattle.formulas.proofs.Formulas.{rawP, raw}
 use Rattle.scheme.specs.Emit.{namedByP, namedBy}
@@ -74,17 +75,20 @@ both l m μ ν g h =
           ∙ or-swap (μ j) (ν j) (nonzero (numberAt named j));
     }
 
--- A record of no signal after others, and before them.
-record-after : (l : List ℕ) (ν : ℕ → Bool) (k a b c : ℕ) → eqb k SIGNAL ≡ false → Marks l ν
-    → Marks (l ++ row k a b c) ν
-record-after l ν k a b c e g =
+-- Records that mark none after others; one of no signal after others, and before them.
+records-after : (l : List ℕ) (ν : ℕ → Bool) (m : List ℕ) → ((r named : List ℕ) → marks (m ++ r) named ≡ marks r named)
+    → Marks l ν → Marks (l ++ m) ν
+records-after l ν m none g =
     record {
       on = g .on;
-      left = λ r named.
-          rw (append-assoc l (row k a b c) r) (g .left (row k a b c ++ r) named ∙ passed k a b c e r (g .on named));
+      left = λ r named. rw (append-assoc l m r) (g .left (m ++ r) named ∙ none r (g .on named));
       long = g .long;
       adds = g .adds;
     }
+
+record-after : (l : List ℕ) (ν : ℕ → Bool) (k a b c : ℕ) → eqb k SIGNAL ≡ false → Marks l ν
+    → Marks (l ++ row k a b c) ν
+record-after l ν k a b c e = records-after l ν (row k a b c) (passed k a b c e)
 
 record-before : (l : List ℕ) (ν : ℕ → Bool) (k a b c : ℕ) → eqb k SIGNAL ≡ false → Marks l ν
     → Marks (row k a b c ++ l) ν
@@ -128,6 +132,15 @@ marks-formula (len o n) = other LEN (opNumber o) (numKind n) (numValue n) refl
 marks-formula (count k p o n) =
     record-after (flat (rawP p)) (namedByP p) (COUNT + countNumber k) (opNumber o) (numKind n) (numValue n)
     (count-other k) (marks-prop p)
+marks-formula (lag p n q) =
+    let always : List ℕ = row ALWAYS 0 0 0 in
+    let closing : List ℕ = row FINE (opNumber lt) (numKind n) (numValue n) ++ always in
+    let none : (r named : List ℕ) → marks (closing ++ r) named ≡ marks r named = λ r named.
+    passed FINE (opNumber lt) (numKind n) (numValue n) refl (always ++ r) named ∙ passed ALWAYS 0 0 0 refl r named in
+    let rest : List ℕ = flat (rawP q) ++ closing in
+    both (flat (rawP p)) (row RUN 0 0 0 ++ rest) (namedByP p) (namedByP q) (marks-prop p)
+    (record-before rest (namedByP q) RUN 0 0 0 refl
+    (records-after (flat (rawP q)) (namedByP q) closing none (marks-prop q)))
 marks-formula (neg f) = record-after (flat (raw f)) (namedBy f) NOT 0 0 0 refl (marks-formula f)
 marks-formula (and f g) =
     both (flat (raw f)) (flat (raw g) ++ row AND 0 0 0) (namedBy f) (namedBy g) (marks-formula f)

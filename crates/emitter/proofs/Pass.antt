@@ -5,21 +5,22 @@ use mathlib.Core.Path.{_≡_, refl, ap, _∙_}
 use Prim.Native.Nat.{ℕ, _+_}
 use Rattle.lists.specs.Number.{numberAt}
 use Rattle.traces.specs.Compare.{Op, opNumber}
+use Rattle.traces.specs.Compare.Op.{lt}
 use Rattle.formulas.specs.Formula.{Num, Prop, Test, Count, Formula}
 use Rattle.formulas.specs.Formula.Prop.{constant, signal, negP, andP, orP}
 use Rattle.formulas.specs.Formula.Test.{begin, end, point, held, kept}
 use Rattle.formulas.specs.Formula.Count.{sum, age}
-use Rattle.formulas.specs.Formula.Formula.{test, len, count, neg, and, or, then}
-use Rattle.formulas.specs.Arena.{NOT, AND, OR, TEST, COUNT, LEAD-END, THEN, testNumber, countNumber, numKind}
-use Rattle.formulas.specs.Arena.{numValue}
-use Rattle.formulas.specs.Arena.{row, flat}
+use Rattle.formulas.specs.Formula.Formula.{test, len, count, lag, neg, and, or, then}
+use Rattle.formulas.specs.Arena.{NOT, AND, OR, TEST, COUNT, RUN, FINE, ALWAYS, LEAD-END, THEN, testNumber, countNumber}
+use Rattle.formulas.specs.Arena.{numKind, numValue, row, flat}
 use Rattle.formulas.proofs.Formulas.{rawP, raw}
 use Rattle.tables.specs.Table.{Equation}
 use Rattle.scheme.specs.Scheme.{_⊕_, Node, nodeOf, andNode, orNode, beginNode, pointNode, heldNode, keptNode}
 use Rattle.scheme.specs.Scheme.{sumNode, ageNode}
 use Rattle.scheme.specs.Emit.{Block, placeAfter, ownFlow, emitP, emit, not-block, join-block, atom-block, not-es}
 use Rattle.scheme.specs.Emit.{and-es, or-es}
-use Rattle.scheme.specs.Emit.{begin-es, point-es, held-es, kept-es, sum-es, age-es, lead-end-es, then-es}
+use Rattle.scheme.specs.Emit.{begin-es, point-es, held-es, kept-es, sum-es, age-es, run-es, fine-es, always-es}
+use Rattle.scheme.specs.Emit.{lead-end-es, then-es, afterRun, afterFine}
 use Rattle.emitter.specs.Machine.{withEquations, State, state, before, recordOf}
 use Rattle.emitter.specs.Machine.{valuesAt, applied, step, run}
 use Rattle.scheme.proofs.Places.{after-append}
@@ -48,19 +49,21 @@ module _ (places : List ℕ) where
   abbrev Runs : List ℕ → (State → Block) → Type 0
   Runs l x = (r : List ℕ) (s : State) → run places (l ++ r) s ≡ run places r (done (x s) s)
 
-  -- A record after those of one block,
+  -- Records after those of one block; one record after them,
+  after : (l m : List ℕ) (x : State → Block) → Runs l x → (r : List ℕ) (s : State) →
+      run places ((l ++ m) ++ r) s ≡ run places (m ++ r) (done (x s) s)
+  after l m x h r s = rw (append-assoc l m r) (h (m ++ r) s)
+
   one : (l : List ℕ) (x : State → Block) → Runs l x → (k a b c : ℕ) (r : List ℕ) (s : State) →
       run places ((l ++ row k a b c) ++ r) s ≡ run places r (step places (recordOf k a b c) (done (x s) s))
   unfolding run
-  one l x h k a b c r s = rw (append-assoc l (row k a b c) r) (h (row k a b c ++ r) s)
+  one l x h k a b c = after l (row k a b c) x h
 
   -- and after those of two.
   two : (l m : List ℕ) (x y : State → Block) → Runs l x → Runs m y → (k a b c : ℕ) (r : List ℕ) (s : State) →
       run places ((l ++ (m ++ row k a b c)) ++ r) s
       ≡ run places r (step places (recordOf k a b c) (done (y (done (x s) s)) (done (x s) s)))
-  two l m x y g h k a b c r s =
-      rw (append-assoc l (m ++ row k a b c) r) (g ((m ++ row k a b c) ++ r) s)
-      ∙ one m y h k a b c r (done (x s) s)
+  two l m x y g h k a b c r s = after l (m ++ row k a b c) x g r s ∙ one m y h k a b c r (done (x s) s)
 
   -- The equations of `not` after its operand's, of `and` and `or` after theirs, an atom's after its proposition's.
   not-done : (x : Block) (r : List ℕ) (s : State) →
@@ -146,6 +149,26 @@ module _ (places : List ℕ) where
   run-formula (len o n) r s = refl
   run-formula (count sum p o n) r s = of-count sum p o n r s ∙ atom-done (sum-es (s .idle) o n) sumNode (blockP p s) r s
   run-formula (count age p o n) r s = of-count age p o n r s ∙ atom-done (age-es (s .idle) o n) ageNode (blockP p s) r s
+  -- s₁ is the state after the rows of the run, with its flow on the stack.
+  run-formula (lag p n q) r s =
+      let x : Block = blockP p s in
+      let o₁ : ℕ = placeAfter (s .next) (x .es) in
+      let ran-es : List Equation = run-es (s .idle) o₁ (x .out) in
+      let s₁ : State = all (done x s) ran-es (s .idle) ((o₁ ⊕ 1) ∷ s .stack) in
+      let y : Block = blockP q s₁ in
+      let o₂ : ℕ = placeAfter (afterRun o₁) (y .es) in
+      let due-es : List Equation = fine-es n o₂ (o₁ ⊕ 1) (y .out) in
+      let last-es : List Equation = always-es (before (s .idle)) (afterFine o₂) (o₂ ⊕ 3) in
+      let st : List ℕ = (o₂ ⊕ 6) ∷ s .stack in
+      let closing : List ℕ = row FINE (opNumber lt) (numKind n) (numValue n) ++ row ALWAYS 0 0 0 in
+      let rest : List ℕ = row RUN 0 0 0 ++ (flat (rawP q) ++ closing) in
+      after (flat (rawP p)) rest (blockP p) (run-prop p) r s
+      ∙ after (flat (rawP q)) closing (blockP q) (run-prop q) r s₁
+      ∙ ap (run places r)
+      (joined (done y s₁) due-es last-es (s .idle) (s .idle) ((o₂ ⊕ 3) ∷ s .stack) st
+      ∙ joined s₁ (y .es) (due-es ++ last-es) (s .idle) (s .idle) (y .out ∷ s₁ .stack) st
+      ∙ joined (done x s) ran-es (y .es ++ (due-es ++ last-es)) (s .idle) (s .idle) (s₁ .stack) st
+      ∙ joined s (x .es) (ran-es ++ (y .es ++ (due-es ++ last-es))) (s .idle) (s .idle) (x .out ∷ s .stack) st)
   run-formula (neg f) r s = one (flat (raw f)) (block f) (run-formula f) NOT 0 0 0 r s ∙ not-done (block f s) r s
   run-formula (and f g) r s =
       let x : Block = block f s in
@@ -166,7 +189,7 @@ module _ (places : List ℕ) where
       let rest-es : List Equation = then-es (s .idle) o₂ (o₁ ⊕ 3) (y .out) in
       let st : List ℕ = (o₂ ⊕ 3) ∷ s .stack in
       let rest : List ℕ = row LEAD-END 0 0 0 ++ (flat (raw g) ++ row THEN 0 0 0) in
-      rw (append-assoc (flat (raw f)) rest r) (run-formula f (rest ++ r) s)
+      after (flat (raw f)) rest (block f) (run-formula f) r s
       ∙ one (flat (raw g)) (block g) (run-formula g) THEN 0 0 0 r s₁
       ∙ ap (run places r)
       (joined s₁ (y .es) rest-es (o₁ ⊕ 4) (s .idle) (y .out ∷ s .idle ∷ s .stack) st
