@@ -273,14 +273,20 @@ module _ {ws : List ℕ} {i : ℕ} {before : List ℕ} {top : ℕ} {after : List
         (λ o n. ap (λ (y : ℕ). flat p ++ row (Arena.COUNT + y) (opNumber o) (numKind n) (numValue n)) (sym kind))
         (λ o n. ap (λ (y : Bool). atomFacts (y && upper o)) (sym led′))
 
-  -- A `lag`: its P, then n, then its Q.
-  module _ (w : word ws i ≡ Word.LAG) {n e : ℕ} {f : Facts} {first : List ℕ}
-      (h : Took (goB Word.SQUARE Word.COMMA) ws (i + 1) before top n e f first) where
-    -- What is read after P.
-    after-p : {b : Bool} → isNum (word ws n) ≡ b → read ws goA i ≡ stepLag ws (read ws) (h .part .tree) b n
-    after-p k =
-        lag-is ws i w ∙ then-on _ (h .is) ∙ ap (λ (x : Bool). stepLag ws (read ws) (h .part .tree) x n) k
+  -- Any other word.
+  pub A-none : isTest (word ws i) ≡ false → (word ws i ≡ Word.LEN → ⊥) → isCount (word ws i) ≡ false →
+      (word ws i ≡ Word.LAG → ⊥) → Parses goA ws i before top No after
+  A-none a b c d = says-no (A-at ws i atom-none (simp (a, ne-eqb _ _ b, c, ne-eqb _ _ d)))
 
+-- A `lag` at i: its P, then n, then its Q.
+module _ {ws : List ℕ} (i : ℕ) {before : List ℕ} {top : ℕ} (w : word ws i ≡ Word.LAG) {n e : ℕ} {f : Facts}
+    {first : List ℕ} (h : Took (goB Word.SQUARE Word.COMMA) ws (i + 1) before top n e f first) where
+  -- What is read after P.
+  after-p : {b : Bool} → isNum (word ws n) ≡ b → read ws goA i ≡ stepLag ws (read ws) (h .part .tree) b n
+  after-p k =
+      lag-is ws i w ∙ then-on _ (h .is) ∙ ap (λ (x : Bool). stepLag ws (read ws) (h .part .tree) x n) k
+
+  module _ {after : List ℕ} where
     pub lag-no-n : isNum (word ws n) ≡ false → Parses goA ws i before top No after
     lag-no-n k = says-no (after-p k)
 
@@ -294,15 +300,9 @@ module _ {ws : List ℕ} {i : ℕ} {before : List ℕ} {top : ℕ} {after : List
           a ≡ numKind (numWord x) → b ≡ numValue (numWord x) →
           Pushed third u Arena.FINE (Word.LT - Word.LE) a b v fourth → Pushed fourth v Arena.ALWAYS 0 0 0 p after →
           f′ ≡ atomFacts true → Parses goA ws i before top (At m p f′) after
-      A-lag {a = a} {b = b} run q is kind value fine always facts =
-          let y : Num = numWord (word ws n) in
+      A-lag run q is kind value fine always facts =
           let fine-row = ap₂ (λ (s t : ℕ). row Arena.FINE (opNumber lt) s t)
           (kind ∙ ap (λ (z : ℕ). numKind (numWord z)) is) (value ∙ ap (λ (z : ℕ). numValue (numWord z)) is) in
           let last = stored-on (stored-as fine-row (pushed fine)) (pushed always) in
-          says (lag (h .part .tree) y (q .part .tree)) (after-p k ∙ then-on _ (q .is))
+          says (lag (h .part .tree) (numWord (word ws n)) (q .part .tree)) (after-p k ∙ then-on _ (q .is))
           (stored-on (h .part .stored) (stored-on (pushed run) (stored-on (q .part .stored) last))) facts
-
-  -- Any other word.
-  pub A-none : isTest (word ws i) ≡ false → (word ws i ≡ Word.LEN → ⊥) → isCount (word ws i) ≡ false →
-      (word ws i ≡ Word.LAG → ⊥) → Parses goA ws i before top No after
-  A-none a b c d = says-no (A-at ws i atom-none (simp (a, ne-eqb _ _ b, c, ne-eqb _ _ d)))

@@ -21,7 +21,7 @@ use Rattle.grammar.proofs.Position.{DerivesAt, Span, sized, inside}
 use Rattle.grammar.proofs.Sound.{Holds, read-holds}
 use Rattle.facts.specs.Facts.{factsOf}
 use Rattle.facts.specs.declared.Facts.{Facts}
-use Rattle.parser.specs.Contract.{parsedOf, Parses, Room, Pushed}
+use Rattle.parser.specs.Contract.{parsedOf, Parses, Room, Between, Pushed}
 use Rattle.parser.specs.declared.Parsed.{Parsed}
 use Rattle.parser.specs.declared.Parsed.the-variants.{At, No}
 
@@ -253,6 +253,11 @@ module _ {ws : List ℕ} {i : ℕ} {arena : List ℕ} {top : ℕ} where
   pub fits-tree : (spare : ℕ) {n e : ℕ} {f : Facts} {after : List ℕ} →
       Space (spare + 4) ws i arena top → Part ws i arena top n e f after → e + 4 ≤ length after
   fits-tree spare h p = let s = past-tree h p in omega (arith, s .fits)
+
+-- Room for a P between two words.
+pub between : {spare left right : ℕ} {ws : List ℕ} {i : ℕ} {arena : List ℕ} {top : ℕ} →
+    Space spare ws i arena top → 0 < left → 0 < right → Between left right ws i arena top
+between h l r = record { room = room h; opens = l; closes = r }
 
 module _ {ws : List ℕ} {i : ℕ} {before : List ℕ} {top n e : ℕ} {f : Facts} {after : List ℕ} where
   -- The nodes of what was read are few,

@@ -13,7 +13,7 @@ use Rattle.grammar.proofs.Words.{test-high, count-high}
 use Rattle.facts.specs.Facts.{atomFacts}
 use Rattle.parser.proofs.Steps
 use Rattle.parser.proofs.Stored.{Gave, Space, took, lost, fails}
-use Rattle.parser.proofs.Stored.{room, past-first, past-tree, fits-push, fits-tree}
+use Rattle.parser.proofs.Stored.{between, past-first, past-tree, fits-push, fits-tree}
 use Rattle.parser.proofs.atom.Kinds.{ps, r}
 use Rattle.parser.proofs.atom.Reads as reads
 use Rattle.parser.proofs.+atom+chop+exists+lag+not+prop+read_c+read_d+read_f+read_u+round+then.Lts-atom as lts
@@ -58,6 +58,10 @@ module _ (t : ℕ) where
   abbrev count-call : Here lts.After-known-told2 → Here lts.After-prop2
   count-call c = c .before .before .before .before .before
 
+  -- The word, where it is `lag`.
+  abbrev lag-looked : Here lts.Then4 → Here lts.After-number-at
+  lag-looked c = let no-len = c .before .before .before in no-len .before .before .before
+
   -- The first word, and the room after it.
   abbrev first : Here lts.After-number-at → ℕ
   first c = let args = start c .args in word (args .ws .now) (args .at)
@@ -86,10 +90,10 @@ module _ (t : ℕ) where
   test-requires c κs =
       let here = c .before in
       let s = test-space here in
-      (omega (arith, start (test-looked here) .pre .0), between s)
+      (omega (arith, start (test-looked here) .pre .0), between s (omega arith) (omega arith))
 
   test-no-p-length : Here lts.Need-same-length
-  test-no-p-length c = c .before .before .before .before .prop .kept .1 .1 .0
+  test-no-p-length c = c .before .before .before .before .prop .kept .1 .1 .1 .1 .0
 
   test-no-p : Here lts.Need-returns
   test-no-p c =
@@ -101,7 +105,7 @@ module _ (t : ℕ) where
   test-tree : (c : Here lts.After-known-told) →
       let args = start (test-looked (at-test (test-call c))) .args in
       Gave goSquare (args .ws .now) (args .at + 1) (args .arena .now) (args .top)
-      (c .before .j .given .0) (test-call c .prop .last .1 .1 .0)
+      (c .before .j .given .0) (test-call c .prop .last .1 .1 .1 .1 .0)
   test-tree c = took (test-call c .prop .ensures) (λ a m h. span (h (omega arith) (omega arith))) (c .before .j .given .1)
 
   sub-test : Here lts.Need-sub-push
@@ -121,7 +125,7 @@ module _ (t : ℕ) where
   test-p-length : Here lts.Need-same-length-2
   test-p-length c =
       let after-push = c .before .before .before .before in
-      after-push .push .kept .0 ∙ test-call (pushed-tree after-push) .prop .kept .1 .1 .0
+      after-push .push .kept .0 ∙ test-call (pushed-tree after-push) .prop .kept .1 .1 .1 .1 .0
 
   test-p : Here lts.Need-returns-2
   test-p c =
@@ -169,10 +173,10 @@ module _ (t : ℕ) where
   count-requires c κs =
       let here = c .before in
       let s = count-space here in
-      (omega (arith, start (count-looked here) .pre .0), between s)
+      (omega (arith, start (count-looked here) .pre .0), between s (omega arith) (omega arith))
 
   count-no-p-length : Here lts.Need-same-length-4
-  count-no-p-length c = c .before .before .before .before .prop2 .kept .1 .1 .0
+  count-no-p-length c = c .before .before .before .before .prop2 .kept .1 .1 .1 .1 .0
 
   count-no-p : Here lts.Need-returns-4
   count-no-p c =
@@ -184,7 +188,7 @@ module _ (t : ℕ) where
   count-tree : (c : Here lts.After-known-told2) →
       let args = start (count-looked (at-count (count-call c))) .args in
       Gave goSquare (args .ws .now) (args .at + 1) (args .arena .now) (args .top)
-      (c .before .j2 .given .0) (count-call c .prop2 .last .1 .1 .0)
+      (c .before .j2 .given .0) (count-call c .prop2 .last .1 .1 .1 .1 .0)
   count-tree c = took (count-call c .prop2 .ensures) (λ a m h. span (h (omega arith) (omega arith))) (c .before .j2 .given .1)
 
   sub-count : Here lts.Need-sub-comparison
@@ -205,7 +209,7 @@ module _ (t : ℕ) where
   count-p-length : Here lts.Need-same-length-5
   count-p-length c =
       let tree = c .before .before .before .before .before in
-      c .before .before .comparison2 .kept .1 .1 .0 ∙ count-call tree .prop2 .kept .1 .1 .0
+      c .before .before .comparison2 .kept .1 .1 .0 ∙ count-call tree .prop2 .kept .1 .1 .1 .1 .0
 
   count-p : Here lts.Need-returns-5
   count-p c =
@@ -214,16 +218,34 @@ module _ (t : ℕ) where
       Steps.A-count (count-word here) (count-tree tree) (count-looked here .number-at .ensures)
       (c .before .before .before .is-lead-count .ensures) (c .before .before .comparison2 .ensures)
 
+  -- `lag`.
+  lag-word : (c : Here lts.Then4) → first (lag-looked c) ≡ Word.LAG
+  lag-word c = sym (lag-looked c .number-at .ensures) ∙ c .if4 .taken
+
+  lag-requires : Here lts.Need-lag-requires
+  lag-requires c κs =
+      let here = start (lag-looked (c .before)) in
+      let s = past-first (here .pre .1) (lag-word (c .before)) (omega arith) in
+      (omega (arith, here .pre .0), record { room = here .pre .1; first = lag-word (c .before) })
+
+  a-lag-length : Here lts.Need-same-length-6
+  a-lag-length c = c .before .before .lag .kept .1 .1 .0
+
+  a-lag : Here lts.Need-returns-6
+  a-lag c = c .before .before .lag .ensures
+
   -- Any other word.
-  no-atom : Here lts.Need-returns-6
+  no-atom : Here lts.Need-returns-7
   no-atom c =
-      let no-len = c .before .before in
+      let no-count = c .before in
+      let no-len = no-count .before .before in
       let no-test = no-len .before in
       let looked = no-test .before .before in
       let w = sym (looked .number-at .ensures) in
       Steps.A-none (ap isTest w ∙ sym (no-test .before .is-test .ensures) ∙ no-test .if1 .left)
       (λ e. no-len .if2 .left (looked .number-at .ensures ∙ e))
-      (ap isCount w ∙ sym (c .before .is-count .ensures) ∙ c .if3 .left)
+      (ap isCount w ∙ sym (no-count .before .is-count .ensures) ∙ no-count .if3 .left)
+      (λ e. c .if4 .left (looked .number-at .ensures ∙ e))
 
   -- So the member meets its contract, if the calls with lower measures do.
   pub met : {M : Type 1} → lts.Closed (calls-atom t) (atom-at t) reads.Post M
@@ -234,4 +256,4 @@ module _ (t : ℕ) where
       (λ c κs. search needs) test-p-length test-p add-len len-requires a-len-length a-len
       (λ c κs. search needs) add-count count-requires (λ c. search needs) (λ c. search needs)
       count-no-p-length count-no-p sub-count add-count-kind is-lead-count-requires count-compared
-      count-p-length count-p no-atom
+      count-p-length count-p lag-requires a-lag-length a-lag no-atom

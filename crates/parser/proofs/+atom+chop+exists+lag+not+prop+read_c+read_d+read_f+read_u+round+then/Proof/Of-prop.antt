@@ -85,7 +85,7 @@ module _ (t : ℕ) where
       (λ e. c .if2 .taken (c .before .number-at2 .ensures ∙ e))
 
   -- it closes.
-  add-end : Here lts.Need-add-t11
+  add-end : Here lts.Need-add-t13
   add-end c =
       let told = c .before .before in
       let s = contents told .part .spans in

@@ -49,10 +49,10 @@ module _ (t : ℕ) where
   abbrev head : Here lts.Then1 → Here lts.At-loop
   head c = c .before .before
 
-  abbrev joining : Here lts.After-parse-u2 → Here lts.Then1
+  abbrev joining : Here lts.After-read-u2 → Here lts.Then1
   joining c = c .before .before
 
-  abbrev more-call : Here lts.After-known-told2 → Here lts.After-parse-u2
+  abbrev more-call : Here lts.After-known-told2 → Here lts.After-read-u2
   more-call c = c .before .before .before .before .before
 
   -- The first part, if there is one,
@@ -112,22 +112,22 @@ module _ (t : ℕ) where
   missing-length : Here lts.Need-same-length-2
   missing-length c =
       let at-call = c .before .before .before .before in
-      at-call .parse-u2 .kept .1 .1 .1 .0 ∙ same-size (parts (head (joining at-call)) .part)
+      at-call .read-u2 .kept .1 .1 .1 .0 ∙ same-size (parts (head (joining at-call)) .part)
 
   missing : Here lts.Need-returns-2
   missing c =
       let at-call = c .before .before .before .before in
       let here = joining at-call in
       Chains.missing (chain-C (begun (head here) .args .inside)) (parts (head here)) (join-word here)
-      (lost (at-call .parse-u2 .ensures) (c .enum-told2 .given .1))
+      (lost (at-call .read-u2 .ensures) (c .enum-told2 .given .1))
 
   -- One part more.
   more : (c : Here lts.After-known-told2) →
       let here = head (joining (more-call c)) in
       let args = begun here .args in
       Gave (goU (args .inside)) (args .ws .now) (here .loop .j + 1) (here .loop .arena) (here .loop .t)
-      (c .before .m .given .0) (more-call c .parse-u2 .last .1 .1 .1 .0)
-  more c = took (more-call c .parse-u2 .ensures) (λ a m h. span h) (c .before .m .given .1)
+      (c .before .m .given .0) (more-call c .read-u2 .last .1 .1 .1 .0)
+  more c = took (more-call c .read-u2 .ensures) (λ a m h. span h) (c .before .m .given .1)
 
   more-fits : Here lts.Need-push-requires
   more-fits c κs =
