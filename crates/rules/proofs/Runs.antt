@@ -52,5 +52,5 @@ holds rs are-read are-counted are-meant i l =
 pub runs : (i : ℕ) → i < 13 → RowHolds (getD trials i blank)
 runs = holds trials trials-read trials-counted trials-meant
 
-pub further-runs : (i : ℕ) → i < 18 → RowHolds (getD furtherTrials i blank)
+pub further-runs : (i : ℕ) → i < 30 → RowHolds (getD furtherTrials i blank)
 further-runs = holds furtherTrials further-read further-counted further-meant
