@@ -42,7 +42,7 @@ pub const SORTS: [Sort; 7] = [
     Sort { name: "tables", gate: 200_000, run: |run, n| (0..n).for_each(|i| tables::table_case(run, i)) },
     Sort { name: "Lustre texts", gate: 50_000, run: |run, n| (0..n).for_each(|i| lustre::lustre_case(run, i)) },
     Sort { name: "whole cards", gate: 5000, run: |run, n| (0..n).for_each(|i| cards::card_case(run, i)) },
-    Sort { name: "runs past the cap of counts", gate: 18, run: long_runs::run },
+    Sort { name: "runs past the cap of counts", gate: 24, run: long_runs::run },
 ];
 
 /// Stops at a difference and prints the case.

@@ -1,4 +1,4 @@
-//! Rules: trees (SPEC 3.7), node counts, leads.
+//! Rules: trees (SPEC 3.7), node counts, leads, and what of a rule the tally counts.
 
 pub mod make;
 pub mod meaning;
@@ -49,6 +49,7 @@ pub enum Rule {
     Len(Op, Num),
     Sum(Prop, Op, Num),
     Age(Prop, Op, Num),
+    Lag(Prop, Num, Prop),
     Not(Box<Rule>),
     And(Box<Rule>, Box<Rule>),
     Or(Box<Rule>, Box<Rule>),
@@ -75,7 +76,7 @@ pub fn compare(op: Op, x: u64, n: u64) -> bool {
 /// SPEC 3.8: how many nodes a rule has.
 pub fn nodes(r: &Rule) -> u32 {
     match r {
-        Rule::Test(..) | Rule::Len(..) | Rule::Sum(..) | Rule::Age(..) => 1,
+        Rule::Test(..) | Rule::Len(..) | Rule::Sum(..) | Rule::Age(..) | Rule::Lag(..) => 1,
         Rule::Not(f) => 1 + nodes(f),
         Rule::And(f, g) | Rule::Or(f, g) | Rule::Then(f, g) => 1 + nodes(f) + nodes(g),
         Rule::Chop(..) | Rule::Exists(..) => panic!("no node count"),
@@ -87,6 +88,7 @@ fn is_lead(r: &Rule) -> bool {
     match r {
         Rule::Test(t, _) => matches!(t, Test::Begin | Test::Kept),
         Rule::Len(op, _) | Rule::Sum(_, op, _) => matches!(op, Op::Le | Op::Lt),
+        Rule::Lag(..) => true,
         Rule::And(f, g) | Rule::Or(f, g) => is_lead(f) && is_lead(g),
         _ => false,
     }
@@ -95,20 +97,66 @@ fn is_lead(r: &Rule) -> bool {
 /// SPEC 3.10: the left part of each `then` is a lead.
 fn has_leads(r: &Rule) -> bool {
     match r {
-        Rule::Test(..) | Rule::Len(..) | Rule::Sum(..) | Rule::Age(..) => true,
+        Rule::Test(..) | Rule::Len(..) | Rule::Sum(..) | Rule::Age(..) | Rule::Lag(..) => true,
         Rule::Not(f) | Rule::Exists(_, f) => has_leads(f),
         Rule::And(f, g) | Rule::Or(f, g) | Rule::Chop(f, g) => has_leads(f) && has_leads(g),
         Rule::Then(f, g) => is_lead(f) && has_leads(g),
     }
 }
 
-/// What a rule is at its root: an atom with its comparison (and whether with a parameter), or a connective.
+/// The n of a `lag`: 0 and 1, which mean the same; a few ticks, or more than the random runs have; a parameter.
+#[derive(Clone, Copy, PartialEq, Eq, PartialOrd, Ord, Debug)]
+pub enum Delay {
+    Zero,
+    One,
+    Few,
+    Beyond,
+    Parameter,
+}
+
+pub const DELAYS: [Delay; 5] = [Delay::Zero, Delay::One, Delay::Few, Delay::Beyond, Delay::Parameter];
+
+fn delay(n: Num) -> Delay {
+    match n {
+        Num::Literal(0) => Delay::Zero,
+        Num::Literal(1) => Delay::One,
+        Num::Literal(2..=35) => Delay::Few,
+        Num::Literal(_) => Delay::Beyond,
+        Num::Parameter(_) => Delay::Parameter,
+    }
+}
+
+/// What a `lag` stands in: a `!`, a lead or a second part, whichever is the innermost, or none of them.
+#[derive(Clone, Copy, PartialEq, Eq, PartialOrd, Ord, Debug)]
+pub enum Around {
+    Nothing,
+    Not,
+    Lead,
+    Second,
+}
+
+pub const AROUND: [Around; 4] = [Around::Nothing, Around::Not, Around::Lead, Around::Second];
+
+/// The `lag`s of a rule, each with what it stands in and its n.
+pub fn lags(r: &Rule, around: Around) -> Vec<(Around, Delay)> {
+    match r {
+        Rule::Test(..) | Rule::Len(..) | Rule::Sum(..) | Rule::Age(..) => Vec::new(),
+        Rule::Lag(_, n, _) => vec![(around, delay(*n))],
+        Rule::Not(f) => lags(f, Around::Not),
+        Rule::And(f, g) | Rule::Or(f, g) => [lags(f, around), lags(g, around)].concat(),
+        Rule::Then(f, g) => [lags(f, Around::Lead), lags(g, Around::Second)].concat(),
+        Rule::Chop(..) | Rule::Exists(..) => panic!("not of the fragment"),
+    }
+}
+
+/// What a rule is at its root: an atom with its comparison (and whether with a parameter), a `lag`, or a connective.
 #[derive(Clone, Copy, PartialEq, Eq, PartialOrd, Ord, Debug)]
 pub enum Root {
     Test(Test),
     Len(Op, bool),
     Sum(Op, bool),
     Age(Op, bool),
+    Lag(Delay),
     Not,
     And,
     Or,
@@ -122,6 +170,7 @@ pub fn root(r: &Rule) -> Root {
         Rule::Len(op, n) => Root::Len(*op, named(n)),
         Rule::Sum(_, op, n) => Root::Sum(*op, named(n)),
         Rule::Age(_, op, n) => Root::Age(*op, named(n)),
+        Rule::Lag(_, n, _) => Root::Lag(delay(*n)),
         Rule::Not(_) => Root::Not,
         Rule::And(..) => Root::And,
         Rule::Or(..) => Root::Or,

@@ -1,7 +1,7 @@
 //! How often each outcome came up, and how often it has to.
 
 use crate::card::{End, Place, Why};
-use crate::rule::{Limit, Root, OPS, TESTS};
+use crate::rule::{Around, Delay, Limit, Root, AROUND, DELAYS, OPS, TESTS};
 use crate::table::Flaw;
 use std::collections::BTreeMap;
 
@@ -13,6 +13,8 @@ pub enum Outcome {
     Compile(u32),
     /// The operation is refused by the first number, although the second applies too.
     Order(Operation, u32, u32),
+    /// What a text with `lag` or `,` in it is answered by reading.
+    ReadLag(u32),
     /// A text that is read and stands exactly at a limit.
     AtLimit(Limit),
     /// The refusal is the first text's, or the second's after a first that is read.
@@ -28,6 +30,8 @@ pub enum Outcome {
     RefusedStart,
     /// The verdict of a rule with this root at a tick after a start.
     Verdict(Root, u32),
+    /// A `lag` of a rule that is run.
+    Lag(Around, Delay),
     /// The verdict of a random table.
     TableVerdict(u32),
     /// The value of an equation of this kind in a step: 0, 1, or 2 for any count above 1.
@@ -144,6 +148,7 @@ fn wanted() -> Vec<(Outcome, u64)> {
     let mut all = Vec::new();
     let mut want = |least: u64, outcomes: &mut dyn Iterator<Item = Outcome>| all.extend(outcomes.map(|o| (o, least)));
     want(500, &mut (0..=8).map(Outcome::Read));
+    want(500, &mut (0..=8).map(Outcome::ReadLag));
     want(500, &mut (0..=9).map(Outcome::Compile));
     want(100, &mut [Limit::Bytes, Limit::Words, Limit::Brackets, Limit::Operators].into_iter().map(Outcome::AtLimit));
     want(100, &mut (1..=8).flat_map(|r| [Outcome::SameFirst(r), Outcome::SameSecond(r)]));
@@ -153,6 +158,7 @@ fn wanted() -> Vec<(Outcome, u64)> {
     want(20_000, &mut [0, 12, 13].into_iter().map(Outcome::RuleStep));
     want(10_000, &mut std::iter::once(Outcome::RefusedStart));
     want(300, &mut roots().into_iter().flat_map(|r| [Outcome::Verdict(r, 0), Outcome::Verdict(r, 1)]));
+    want(200, &mut AROUND.into_iter().flat_map(|a| DELAYS.map(|d| Outcome::Lag(a, d))));
     want(50_000, &mut [0, 1].into_iter().map(Outcome::TableVerdict));
     want(2000, &mut flows());
     want(500, &mut std::iter::once(Outcome::AtCap));
@@ -177,6 +183,8 @@ fn roots() -> Vec<Root> {
             roots.extend([Root::Len(op, named), Root::Sum(op, named), Root::Age(op, named)]);
         }
     }
+    // a `lag` with n beyond all ticks is never false here; in the runs past the cap it is (cases/long_runs.rs)
+    roots.extend(DELAYS.into_iter().filter(|d| *d != Delay::Beyond).map(Root::Lag));
     roots.extend([Root::Not, Root::And, Root::Or, Root::Then]);
     roots
 }

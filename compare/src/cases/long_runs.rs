@@ -1,5 +1,5 @@
 //! Runs past the cap of counts (SPEC 5.2): the verdicts have to be those of counts with no cap (SPEC 4.8), far above
-//! it, against numbers next to it.
+//! it, against numbers next to it; and a `lag` has to be due (SPEC 4.11) past the cap too.
 
 use super::{same, show, Run};
 use crate::archive::{self, Answer, Tick};
@@ -8,9 +8,21 @@ use crate::rule::{compare, text_of, Num, Op, Prop, Rule};
 
 const TICKS: u64 = 1_000_300;
 
-/// One rule with signal 0 always on and a start at tick 0 only; its count at tick e is e + more.
-fn long_run(rule: &Rule, op: Op, more: u64, n: u32) {
-    let text = text_of(&mut Random::new(7), rule);
+/// The first tick at which signal 1 is off.
+const OFF: u32 = 1_000_200;
+
+/// A rule whose verdict at tick e is how e + more compares with a number.
+struct Watch {
+    rule: Rule,
+    op: Op,
+    more: u64,
+    number: u32,
+}
+
+/// One rule with signal 0 always on, signal 1 on before its tick, a start at tick 0 only, and n as parameter 3.
+fn long_run(watch: Watch, n: u32) {
+    let Watch { rule, op, more, number } = watch;
+    let text = text_of(&mut Random::new(7), &rule);
     let mut table = vec![0u32; 16384];
     let equations = archive::compile(&text, &mut table).result as usize;
     let mut state = vec![0u32; equations];
@@ -18,25 +30,31 @@ fn long_run(rule: &Rule, op: Op, more: u64, n: u32) {
     archive::fresh_state(&table, equations, &mut state);
     let parameters = [0, 0, 0, n, 0, 0, 0, 0];
     for e in 0..TICKS {
-        let tick = Tick { start: u32::from(e == 0), signals: 1, parameters };
+        let signals = 1 | u64::from(e < u64::from(OFF)) << 1;
+        let tick = Tick { start: u32::from(e == 0), signals, parameters };
         let answer = archive::step(&table, equations, &mut state, &mut values, &tick);
-        let verdict = u32::from(compare(op, e + more, u64::from(n)));
+        let verdict = u32::from(compare(op, e + more, u64::from(number)));
         same(answer, Answer::given(verdict), || format!("{} at tick {e} of a long run", show(&text)));
     }
 }
 
-/// The first so many of 18 runs: six rules, three numbers for each.
+/// The first so many of 24 runs: eight rules, three numbers for each. A `lag` falls as soon as it is due and Q is not
+/// there: after n ticks where Q is `0`, and where Q is signal 1 only once that is off.
 pub fn run(_: &mut Run, runs: u64) {
-    for (i, n) in (0..runs as usize).zip([999_999, 999_998, 1].repeat(6)) {
+    for (i, n) in (0..runs as usize).zip([999_999, 999_998, 1].repeat(8)) {
         let signal = Prop::Signal(0);
-        let (rule, op, more) = match i / 3 {
-            0 => (Rule::Len(Op::Ge, Num::Literal(n)), Op::Ge, 0),
-            1 => (Rule::Len(Op::Eq, Num::Literal(n)), Op::Eq, 0),
-            2 => (Rule::Sum(signal, Op::Gt, Num::Literal(n)), Op::Gt, 0),
-            3 => (Rule::Sum(signal, Op::Le, Num::Parameter(3)), Op::Le, 0),
-            4 => (Rule::Age(signal, Op::Lt, Num::Literal(n)), Op::Lt, 1),
-            _ => (Rule::Age(signal, Op::Eq, Num::Parameter(3)), Op::Eq, 1),
+        let literal = Num::Literal(n);
+        let parameter = Num::Parameter(3);
+        let (rule, op, more, number) = match i / 3 {
+            0 => (Rule::Len(Op::Ge, literal), Op::Ge, 0, n),
+            1 => (Rule::Len(Op::Eq, literal), Op::Eq, 0, n),
+            2 => (Rule::Sum(signal, Op::Gt, literal), Op::Gt, 0, n),
+            3 => (Rule::Sum(signal, Op::Le, parameter), Op::Le, 0, n),
+            4 => (Rule::Age(signal, Op::Lt, literal), Op::Lt, 1, n),
+            5 => (Rule::Age(signal, Op::Eq, parameter), Op::Eq, 1, n),
+            6 => (Rule::Lag(signal, literal, Prop::Constant(false)), Op::Lt, 0, n),
+            _ => (Rule::Lag(signal, parameter, Prop::Signal(1)), Op::Lt, 0, OFF),
         };
-        long_run(&rule, op, more, n);
+        long_run(Watch { rule, op, more, number }, n);
     }
 }

@@ -6,7 +6,7 @@ use crate::archive::{self, Answer, Tick};
 use crate::random::Random;
 use crate::rule::make::{random_parameters, random_rule, random_ticks};
 use crate::rule::meaning::{started, verdict, Moment};
-use crate::rule::{self, Rule};
+use crate::rule::{self, Around, Rule};
 use crate::table;
 use crate::tally::{Outcome, Share};
 
@@ -29,7 +29,7 @@ struct Plan {
 
 impl Plan {
     fn any(random: &mut Random) -> Plan {
-        let size = 1 + random.below(10);
+        let size = if random.once_in(8) { 1 } else { 1 + random.below(10) };
         let rule = random_rule(random, size, false);
         let parameters = random_parameters(random);
         let count = if random.once_in(12) { random.below(6) } else { 6 + random.below(30) };
@@ -141,6 +141,9 @@ fn rule_case(run: &mut Run, ticks: &mut Ticks, number: u64) {
     same(archive::read_rule(&text), Answer::given(nodes), || format!("reading {name}"));
     let mut bench = Bench::new(run, &text, nodes, name);
     let root = rule::root(&plan.rule);
+    for (around, delay) in rule::lags(&plan.rule, Around::Nothing) {
+        run.tally.add(Outcome::Lag(around, delay));
+    }
     for e in 0..plan.trace.len() {
         if run.random.once_in(12) {
             bench.refused_call(run, &plan.parameters);

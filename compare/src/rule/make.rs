@@ -37,14 +37,15 @@ fn random_atom(random: &mut Random, lead: bool) -> Rule {
     let p = random_prop(random, size);
     let op = if lead { random.pick(&[Op::Le, Op::Lt]) } else { OPS[random.below(5)].0 };
     let n = random_num(random);
-    match random.below(if lead { 4 } else { 8 }) {
+    match random.below(if lead { 5 } else { 9 }) {
         0 => Rule::Test(Test::Begin, p),
         1 => Rule::Test(Test::Kept, p),
         2 => Rule::Len(op, n),
         3 => Rule::Sum(p, op, n),
-        4 => Rule::Age(p, op, n),
-        5 => Rule::Test(Test::End, p),
-        6 => Rule::Test(Test::Held, p),
+        4 => Rule::Lag(p, n, random_prop(random, size)),
+        5 => Rule::Age(p, op, n),
+        6 => Rule::Test(Test::End, p),
+        7 => Rule::Test(Test::Held, p),
         _ => Rule::Test(Test::Point, p),
     }
 }

@@ -18,7 +18,7 @@ pub fn holds(p: &Prop, signals: u64) -> bool {
     }
 }
 
-/// SPEC 4.8: the number that a count is compared with.
+/// SPEC 4.8: the number that a count is compared with, and that a `lag` has.
 fn value(n: Num, parameters: &[u32; 8]) -> u64 {
     match n {
         Num::Literal(n) => u64::from(n),
@@ -27,7 +27,7 @@ fn value(n: Num, parameters: &[u32; 8]) -> u64 {
 }
 
 /// The rule on ticks b to e: tests at the ends (SPEC 4.2) and throughout (SPEC 4.3), counts (SPEC 4.4, SPEC 4.5),
-/// formulas joined (SPEC 4.7) and `then` (SPEC 4.6).
+/// `lag` (SPEC 4.11), formulas joined (SPEC 4.7) and `then` (SPEC 4.6).
 pub fn meaning(r: &Rule, trace: &[Moment], parameters: &[u32; 8], b: usize, e: usize) -> bool {
     let at = |p: &Prop, i: usize| holds(p, trace[i].signals);
     match r {
@@ -41,6 +41,11 @@ pub fn meaning(r: &Rule, trace: &[Moment], parameters: &[u32; 8], b: usize, e: u
         Rule::Age(p, op, n) => {
             let row = (b..=e).rev().take_while(|i| at(p, *i)).count();
             compare(*op, row as u64, value(*n, parameters))
+        }
+        Rule::Lag(p, n, q) => {
+            let n = value(*n, parameters);
+            let due = |i: usize, j: usize| (j - i) as u64 >= n && (i..j).all(|k| at(p, k));
+            (b..=e).all(|i| (i + 1..=e).all(|j| !due(i, j) || at(q, j)))
         }
         Rule::Not(f) => !meaning(f, trace, parameters, b, e),
         Rule::And(f, g) => meaning(f, trace, parameters, b, e) && meaning(g, trace, parameters, b, e),

@@ -79,16 +79,31 @@ impl Parser<'_> {
                 let (op, n) = self.comparison()?;
                 Some(Rule::Age(p, op, n))
             }
+            Word::Lag => self.lag(),
             _ => None,
         }
     }
     fn comparison(&mut self) -> Option<(Op, Num)> {
         let Word::Op(op) = self.next()? else { return None };
+        Some((op, self.num()?))
+    }
+    fn num(&mut self) -> Option<Num> {
         match self.next()? {
-            Word::Literal(n) => Some((op, Num::Literal(n))),
-            Word::Parameter(j) => Some((op, Num::Parameter(j))),
+            Word::Literal(n) => Some(Num::Literal(n)),
+            Word::Parameter(j) => Some(Num::Parameter(j)),
             _ => None,
         }
+    }
+    /// What follows the word `lag`.
+    fn lag(&mut self) -> Option<Rule> {
+        self.eat(Word::SquareOpen)?;
+        let p = self.pd()?;
+        self.eat(Word::Comma)?;
+        let n = self.num()?;
+        self.eat(Word::Comma)?;
+        let q = self.pd()?;
+        self.eat(Word::SquareClose)?;
+        Some(Rule::Lag(p, n, q))
     }
     fn square(&mut self) -> Option<Prop> {
         self.eat(Word::SquareOpen)?;

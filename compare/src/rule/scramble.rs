@@ -5,9 +5,20 @@ use super::make::random_rule;
 use super::{text_of, Rule};
 use crate::random::Random;
 
-const WORDS: [&str; 34] = [
-    "(", ")", "[", "]", "!", "&", "|", "<=", "<", "=", ">", ">=", "begin", "end", "point", "held", "kept", "len", "sum",
-    "age", "then", "chop", "exists", "0", "1", "7", "s0", "s63", "s64", "k7", "k8", "01", "999999", "1000000",
+const WORDS: [&str; 36] = [
+    "(", ")", "[", "]", "!", "&", "|", ",", "<=", "<", "=", ">", ">=", "begin", "end", "point", "held", "kept", "len",
+    "sum", "age", "lag", "then", "chop", "exists", "0", "1", "7", "s0", "s63", "s64", "k7", "k8", "01", "999999",
+    "1000000",
+];
+
+/// Texts like those of `lag`, and `,` in other places: a few are rules.
+const NEAR_LAG: [&str; 40] = [
+    "lag[s0,999999,s1]", "lag[s0,1000000,s1]", "lag[s0,k7,s1]", "lag[s0,k8,s1]", "lag[s0,01,s1]", "lag[s64,1,s1]",
+    "lag[s0,1,s64]", "lag[1,0,0]", "lag[2,1,s0]", "lag[s0,1,2]", "lag[s0,s1,s2]", "lag[s0,!1,s1]", "lag[s0,(1),s1]",
+    "lag[s0,<=1,s1]", "lag[s0,1]", "lag[s0,1,]", "lag[s0,,s1]", "lag[,1,s1]", "lag[1,s0]", "lag[s0]", "lag[]", "lag",
+    "lag s0,1,s1", "lag(s0,1,s1)", "lag[s0 1 s1]", "lag[s0;1;s1]", "lag[s0,1,s1", "lag[s0,1,s1]]", "lag[s0,1,s1]<=2",
+    "lag[s0,1,s1,s2]", "lag[(s0,1,s1)]", "lag[end[s0],1,s1]", "lags[s0,1,s1]", "lag1[s0,1,s1]", ",", "end[s0,]",
+    "end[s0,s1]", "sum[s0,2]<=1", "len<=1,len<=2", "lag[s0,1,s1],end[s0]",
 ];
 
 fn random_words(random: &mut Random) -> Vec<u8> {
@@ -38,6 +49,18 @@ fn rule_text(random: &mut Random) -> Vec<u8> {
     text_of(random, &rule)
 }
 
+/// One of the texts near a `lag`, now and then with `!`, a `then` or another rule.
+fn near_lag(random: &mut Random) -> Vec<u8> {
+    let near = random.pick(&NEAR_LAG);
+    match random.below(6) {
+        0 => format!("!{near}").into_bytes(),
+        1 => format!("{near} then end[s0]").into_bytes(),
+        2 => format!("!{near} then end[s0]").into_bytes(),
+        3 => [rule_text(random), b"|".to_vec(), near.into()].concat(),
+        _ => near.into(),
+    }
+}
+
 fn damage(random: &mut Random, text: &mut Vec<u8>) {
     for _ in 0..1 + random.below(2) {
         if text.is_empty() {
@@ -45,24 +68,24 @@ fn damage(random: &mut Random, text: &mut Vec<u8>) {
         }
         let at = random.below(text.len());
         match random.below(4) {
-            0 => text[at] = random.pick(b" ()[]!&|<=>sk0123456789abcdefghijklmnopqrstuvwxyz#\tA"),
+            0 => text[at] = random.pick(b" ()[]!&|,<=>sk0123456789abcdefghijklmnopqrstuvwxyz#\tA"),
             1 => {
                 text.remove(at);
             }
-            2 => text.insert(at, random.pick(b" ()[]!&|<=>sk019aeh\n\xff")),
+            2 => text.insert(at, random.pick(b" ()[]!&|,<=>sk019aeh\n\xff")),
             _ => text.truncate(at),
         }
     }
 }
 
-/// A text of about 240 words: 60 atoms of three words with `&` or `|` between, some `!`, and now and then a bracket.
+/// A text of about 240 words: atoms with `&` or `|` between, some `!`, and now and then a bracket. 60 atoms of three
+/// words are 239 words, and so they are where four `lag`s of eight words stand for nine of them.
 fn many_words(random: &mut Random) -> Vec<u8> {
     let joint = random.pick(&["&", "|"]);
-    let mut text = "!".repeat(random.below(4));
-    for i in 0..60 {
-        text.push_str(if i == 0 { "" } else { joint });
-        text.push_str(random.pick(&["len<=1", "len>2", "len = 7", "len<k0"]));
-    }
+    let fours = random.below(7);
+    let mut atoms = vec!["lag[s0,1,s1]"; 4 * fours];
+    atoms.extend((9 * fours..60).map(|_| random.pick(&["len<=1", "len>2", "len = 7", "len<k0"])));
+    let mut text = "!".repeat(random.below(4)) + &atoms.join(joint);
     if random.once_in(4) {
         text = format!("({text})");
     }
@@ -89,7 +112,11 @@ fn stretch(random: &mut Random, text: Vec<u8>) -> Vec<u8> {
 }
 
 pub fn random_text(random: &mut Random) -> Vec<u8> {
-    let mut text = if random.once_in(4) { random_words(random) } else { rule_text(random) };
+    let mut text = match random.below(12) {
+        0..=2 => random_words(random),
+        3 => near_lag(random),
+        _ => rule_text(random),
+    };
     if random.once_in(2) {
         damage(random, &mut text);
     }

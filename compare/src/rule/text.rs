@@ -35,6 +35,9 @@ impl Writer<'_> {
     fn comparison(&mut self, op: Op, n: Num) {
         let name = OPS.iter().find(|o| o.0 == op).unwrap().1;
         self.word(name);
+        self.num(n);
+    }
+    fn num(&mut self, n: Num) {
         match n {
             Num::Literal(n) => self.word(&n.to_string()),
             Num::Parameter(j) => self.word(&format!("k{j}")),
@@ -70,6 +73,16 @@ impl Writer<'_> {
         self.word(name);
         self.word("[");
         self.prop(p, 0);
+        self.word("]");
+    }
+    fn lag(&mut self, p: &Prop, n: Num, q: &Prop) {
+        self.word("lag");
+        self.word("[");
+        self.prop(p, 0);
+        self.word(",");
+        self.num(n);
+        self.word(",");
+        self.prop(q, 0);
         self.word("]");
     }
     /// level 0: F, 1: D, 2: C, 3: U
@@ -109,6 +122,7 @@ impl Writer<'_> {
                 self.square("age", p);
                 self.comparison(*op, *n);
             }
+            Rule::Lag(p, n, q) => self.lag(p, *n, q),
             Rule::Not(f) => {
                 self.word("!");
                 self.rule(f, 3);
