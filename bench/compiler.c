@@ -4,7 +4,8 @@
 
 #include "interpreter.h"
 
-enum { LITERAL = 1, SIGNAL, PARAMETER, BEGIN, END, POINT, HELD, KEPT, LEN, SUM, AGE, THEN, CHOP, EXISTS, LE, LT, EQ, GT, GE };
+enum { LITERAL = 1, SIGNAL, PARAMETER, BEGIN, END, POINT, HELD, KEPT, LEN, SUM, AGE, LAG, THEN, CHOP, EXISTS };
+enum { LE = EXISTS + 1, LT, EQ, GT, GE };
 
 struct word {
     uint32_t kind, number;
@@ -29,8 +30,9 @@ static uint32_t run(const uint8_t *s, size_t length, struct word *w) {
     static const struct {
         const char *name;
         uint32_t length, kind;
-    } names[] = {{"begin", 5, BEGIN}, {"end", 3, END}, {"point", 5, POINT}, {"held", 4, HELD}, {"kept", 4, KEPT}, {"len", 3, LEN},
-                 {"sum", 3, SUM}, {"age", 3, AGE}, {"then", 4, THEN}, {"chop", 4, CHOP}, {"exists", 6, EXISTS}};
+    } names[] = {{"begin", 5, BEGIN}, {"end", 3, END}, {"point", 5, POINT}, {"held", 4, HELD}, {"kept", 4, KEPT},
+                 {"len", 3, LEN}, {"sum", 3, SUM}, {"age", 3, AGE}, {"lag", 3, LAG}, {"then", 4, THEN},
+                 {"chop", 4, CHOP}, {"exists", 6, EXISTS}};
     if (s[0] <= '9') return w->kind = LITERAL, number(s, length, 999999, &w->number);
     for (size_t i = 0; i < sizeof names / sizeof *names; i++)
         if (names[i].length == length && !memcmp(names[i].name, s, length)) return w->kind = names[i].kind, 0;
@@ -62,7 +64,7 @@ static uint32_t split(const uint8_t *s, size_t length) {
         }
         int equal = i + 1 < length && s[i + 1] == '=';
         switch (b) {
-        case '(': case ')': case '[': case ']': case '!': case '&': case '|': w->kind = b, i++; break;
+        case '(': case ')': case '[': case ']': case '!': case '&': case '|': case ',': w->kind = b, i++; break;
         case '<': w->kind = equal ? LE : LT, i += 1 + equal; break;
         case '>': w->kind = equal ? GE : GT, i += 1 + equal; break;
         case '=': w->kind = EQ, i++; break;
@@ -137,10 +139,40 @@ struct part {
 
 static struct part formula(uint32_t s, uint32_t not_s);
 
+/* The literal or the parameter that a count is compared with. */
+static struct word bound(void) {
+    struct word w = words[at];
+    if (!word(LITERAL) && !word(PARAMETER)) broken = 1;
+    return w;
+}
+
+static uint32_t compared(uint32_t flow, uint32_t op, struct word with) {
+    return put(with.kind == LITERAL ? 10 : 11, flow, op - LE, with.number);
+}
+
+/* lag[P,n,Q]: r is for how many ticks P was on up to the tick before; Q is due where r is n or more and not 0. */
+static struct part lag(uint32_t s, uint32_t not_s) {
+    expect('[');
+    uint32_t p = state_or(), m = memory(7), r = put(9, not_s, m, 0);
+    moves_to(m, put(9, p, put(8, r, p, 0), 0));
+    expect(',');
+    struct word least = bound();
+    expect(',');
+    uint32_t q = state_or();
+    expect(']');
+    if (broken) return (struct part){0, 0};
+    uint32_t early = compared(r, LT, least), none = put(10, r, 0, 0);
+    uint32_t fine = put(5, put(5, early, none, 0), q, 0);
+    m = memory(6);
+    uint32_t always = put(4, put(5, s, m, 0), fine, 0);
+    return moves_to(m, always), (struct part){always, 1};
+}
+
 static struct part atom(uint32_t s, uint32_t not_s) {
     uint32_t k = words[at].kind, p = 0, flow = 0, m;
-    if (k < BEGIN || k > AGE) return broken = 1, (struct part){0, 0};
+    if (k < BEGIN || k > LAG) return broken = 1, (struct part){0, 0};
     at++;
+    if (k == LAG) return lag(s, not_s);
     if (k != LEN) expect('['), p = state_or(), expect(']');
     else p = put(2, 1, 0, 0);
     switch (k) {
@@ -166,9 +198,7 @@ static struct part atom(uint32_t s, uint32_t not_s) {
     moves_to(m, more);
     struct word op = words[at++];
     if (broken || op.kind < LE || op.kind > GE) return broken = 1, (struct part){0, 0};
-    struct word limit = words[at++];
-    if (limit.kind != LITERAL && limit.kind != PARAMETER) return broken = 1, (struct part){0, 0};
-    flow = put(limit.kind == LITERAL ? 10 : 11, c, op.kind - LE, limit.number);
+    flow = compared(c, op.kind, bound());
     return (struct part){flow, k != AGE && op.kind <= LT};
 }
 
