@@ -322,11 +322,11 @@ static void measure_text(const char *what, const char *text, uint32_t refusal) {
     measure(SAME, what);
 }
 
-/* The rule with the most equations: 60 atoms, 32 of `then` and 27 of `&`, 240 words. */
+/* The rule with the most equations: 32 of `then`, 21 of them after a `lag`, 240 words. */
 static void widest(char *to) {
     *to = 0;
-    for (int i = 0; i < OPERATORS; i++) strcat(to, i < 27 ? "len<1&len<1 then " : "len<1 then ");
-    strcat(to, "begin[1]");
+    for (int i = 0; i < OPERATORS; i++) strcat(to, i < 21 ? "lag[1,1,1] then " : "len<1 then ");
+    strcat(to, "len<1&len<1");
 }
 
 static void measure_texts(void) {
@@ -418,7 +418,7 @@ static void measure_tables(void) {
     n = answer.result;
     memcpy(table, loaded, sizeof table);
     if (n != TOWERWATCH_RULE_EQUATIONS) fprintf(stderr, "the widest rule has %zu equations\n", n), exit(1);
-    measure_table("562 equations, the widest rule");
+    measure_table("620 equations, the widest rule");
     n = TOWERWATCH_EQUATIONS;
     all_kinds();
     measure_table("4,096 equations of all kinds");
