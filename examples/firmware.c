@@ -60,6 +60,8 @@ static struct watch watches[] = {
     {.rule = "end[s2]", .policy = STANDING, .further = 2},
     /* 0 while the lead holds; it has to be 1 when the piece ends */
     {.rule = "kept[s0] then end[s2]", .policy = AT_END},
+    /* 0 once the contact was away at a tick before which the drive had been on for k0 ticks; it can only fall, too */
+    {.rule = "lag[s0, k0, s2]", .policy = AT_ONCE},
 };
 enum { WATCHES = sizeof watches / sizeof *watches };
 
