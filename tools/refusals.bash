@@ -41,18 +41,20 @@ first_word_refused() {
 }
 
 # whether the first words, as many as said, can go on to a rule; prints the words that make it one. Every beginning of a
-# rule can: an atom, its brackets or its number may be missing, and then the brackets that are still open are closed.
+# rule can: an atom, its brackets or its number may be missing, and then the brackets that are still open are closed. A
+# square bracket is closed as that of a test, of a count, or of a `lag` with one of its commas missing or both.
 goes_on() {
-    local end=0 close='' head tail
+    local end=0 close='' head square tail
     if [ "$1" -gt 0 ]; then
         end=$((from[$1 - 1] + long[$1 - 1]))
         close=${closers[$1 - 1]#-}
     fi
-    for head in '' 'end[1]' '1' '[1]' '[1]=0' '=0' 's0 end[1]'; do
-        for tail in '' '=0'; do
-            [[ -z $tail || $close == *]* ]] || continue
-            case $(head -c "$end" "$work/rule" | { cat && printf ' %s' "$head${close/]/]$tail}"; } | answer) in
-                0 | 7 | 8) echo "$head${close/]/]$tail}" && return 0 ;;
+    for head in '' 'end[1]' '1' '[1]' '[1]=0' '[1,1,1]' '=0' 's0 end[1]'; do
+        for square in ']' ']=0' ',1]' ',1,1]'; do
+            [[ $square == ']' || $close == *]* ]] || continue
+            tail=$head${close/]/$square}
+            case $(head -c "$end" "$work/rule" | { cat && printf ' %s' "$tail"; } | answer) in
+                0 | 7 | 8) echo "$tail" && return 0 ;;
             esac
         done
     done
