@@ -1,5 +1,5 @@
 //! Runs past the cap of counts (SPEC 5.2): the verdicts have to be those of counts with no cap (SPEC 4.8), far above
-//! it, against numbers next to it; and a `lag` has to be due (SPEC 4.11) past the cap too.
+//! it, against numbers next to it; and Q of a `lag` has to be due (SPEC 4.11) past the cap too.
 
 use super::{same, show, Run};
 use crate::archive::{self, Answer, Tick};
@@ -38,8 +38,8 @@ fn long_run(watch: Watch, n: u32) {
     }
 }
 
-/// The first so many of 24 runs: eight rules, three numbers for each. A `lag` falls as soon as it is due and Q is not
-/// there: after n ticks where Q is `0`, and where Q is signal 1 only once that is off.
+/// The first so many of 24 runs: eight rules, three numbers for each. A `lag` is false from the first tick on at which
+/// Q is due and does not hold: after n ticks where Q is `0`, and once signal 1 is off where Q is that.
 pub fn run(_: &mut Run, runs: u64) {
     for (i, n) in (0..runs as usize).zip([999_999, 999_998, 1].repeat(8)) {
         let signal = Prop::Signal(0);
