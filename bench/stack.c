@@ -176,7 +176,9 @@ static void expect(const char *what, uint32_t refusal) {
  *   t    `len<1 then`               c   `len<1 chop`
  *   |    an operand and `|`         &   an operand and `&`
  *   [    `end[`                     {   `sum[`
- * After [ and { stand round brackets, !, | and & only. A nest's text ends in a leaf and what closes the brackets. */
+ *   p    `lag[`                     q   `lag[1,1,`
+ * After [, {, p and q stand round brackets, !, | and & only. A nest's text ends in a leaf and what closes the
+ * brackets. */
 enum { NEST = 120, BRACKETS = TOWERWATCH_OPEN_BRACKETS, OPERATORS = TOWERWATCH_OPERATORS };
 
 enum ending { WHOLE, NO_LEAF, NO_CLOSING, ENDINGS };
@@ -193,7 +195,7 @@ static void set(struct text *t, const char *words) {
     add(t, words);
 }
 
-static int is_square(char o) { return o == '[' || o == '{'; }
+static int is_square(char o) { return o != 0 && strchr("[{pq", o) != NULL; }
 
 static void opener(struct text *t, char o, int inside) {
     switch (o) {
@@ -206,7 +208,13 @@ static void opener(struct text *t, char o, int inside) {
     case '&': add(t, inside ? "s0&" : "len<1&"); break;
     case '[': add(t, "end["); break;
     case '{': add(t, "sum["); break;
+    case 'p': add(t, "lag["); break;
+    case 'q': add(t, "lag[1,1,"); break;
     }
+}
+
+static const char *closer(char o) {
+    return o == '(' ? ")" : o == '{' ? "]<1" : o == 'p' ? ",1,1]" : is_square(o) ? "]" : "";
 }
 
 static void write_nest(struct text *t, const char *nest, enum ending ending) {
@@ -216,8 +224,7 @@ static void write_nest(struct text *t, const char *nest, enum ending ending) {
     if (ending == NO_LEAF) return;
     add(t, inside ? "s0" : "len<1");
     if (ending == NO_CLOSING) return;
-    for (const char *o = nest + strlen(nest); o-- > nest;)
-        if (*o == '(' || is_square(*o)) add(t, *o == '(' ? ")" : *o == '[' ? "]" : "]<1");
+    for (const char *o = nest + strlen(nest); o-- > nest;) add(t, closer(*o));
 }
 
 /* Whether a nest keeps the limits of brackets, operators and words, so that its text is parsed. */
@@ -225,9 +232,10 @@ static int within(const char *nest) {
     int brackets = 0, operators = 0, words = 3, inside = 0;
     for (const char *o = nest; *o; o++) {
         brackets += *o == '(', operators += strchr("!tce", *o) != NULL;
-        if (inside && strchr("tce[{", *o)) return 0;
+        if (inside && strchr("tce[{pq", *o)) return 0;
         inside |= is_square(*o);
-        words += *o == '!' ? 1 : *o == '(' || *o == 'e' ? 2 : *o == '[' ? 3 : *o == '{' ? 5 : inside ? 2 : 4;
+        words += *o == '!' ? 1 : *o == '(' || *o == 'e' ? 2 : *o == '[' ? 3 : *o == '{' ? 5 : is_square(*o) ? 7
+                 : inside ? 2 : 4;
     }
     return brackets <= BRACKETS && operators <= OPERATORS && words <= TOWERWATCH_WORDS;
 }
@@ -273,7 +281,7 @@ static void measure_ordered(char op, int order, char square, int place) {
 
 static void measure_orders(void) {
     for (const char *o = "!tce"; *o; o++)
-        for (const char *square = "[{"; *square; square++)
+        for (const char *square = "[{pq"; *square; square++)
             for (int order = 0; order < 3; order++) /* the last place: no square bracket */
                 for (int place = 0; place <= BRACKETS + OPERATORS + 1; place++)
                     measure_ordered(*o, order, *square, place);
@@ -287,7 +295,7 @@ static uint32_t random_below(uint32_t bound) {
 }
 
 static void change(char *nest) {
-    static const char openers[] = "(!tce|&[{";
+    static const char openers[] = "(!tce|&[{pq";
     size_t length = strlen(nest), at = random_below((uint32_t)length + 1);
     char o = openers[random_below(sizeof openers - 1)];
     uint32_t how = random_below(3);

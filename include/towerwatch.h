@@ -27,7 +27,7 @@ extern "C" {
  * also takes another number of arguments, so that a caller written for the old one does not compile. The minor
  * number rises where something is added. The archive has no version: take header and archive from one state of
  * the repository. */
-#define TOWERWATCH_VERSION_MAJOR 1
+#define TOWERWATCH_VERSION_MAJOR 2
 #define TOWERWATCH_VERSION_MINOR 0
 
 /* Limits of a rule text: its bytes, its words, how many round brackets are open at a time, and how often `!`, `then`,
@@ -49,7 +49,7 @@ extern "C" {
  * and the most equations of a compiled rule. */
 #define TOWERWATCH_EQUATIONS 4096
 #define TOWERWATCH_TABLE_NUMBERS 16384
-#define TOWERWATCH_RULE_EQUATIONS 562
+#define TOWERWATCH_RULE_EQUATIONS 620
 
 /* Bytes that are enough for every table's Lustre text. */
 #define TOWERWATCH_LUSTRE_BYTES 409700
