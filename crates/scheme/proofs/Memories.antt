@@ -16,7 +16,7 @@ use Rattle.formulas.specs.Arena.{numKind}
 use Rattle.formulas.specs.Tree.{nodes}
 use Rattle.formulas.specs.Raw.{raw}
 use Rattle.limits.specs.Limits.{signalCount}
-use Rattle.tables.specs.Kind.{SIGNAL}
+use Rattle.tables.specs.Kind.{SIGNAL, BOOLEAN-PRE, COUNT-PRE}
 use Rattle.tables.specs.Table.{Equation, kindOf, kindAt, isMemory}
 use Rattle.scheme.specs.Scheme.{_⊕_, comparisonOf}
 use Rattle.tables.specs.Table.{equation}
@@ -108,6 +108,46 @@ module _ (flowOf : ℕ → ℕ) where
   counted-formula (then l f) s n o =
       let o′ : ℕ = placeAfter o (emit flowOf l s n o .es) in
       simp (counted-append, counted-formula l s n o, counted-formula f (o′ ⊕ 3) (o′ ⊕ 4) (o′ ⊕ 5)) (omega arith)
+
+-- ---- the memories of a `lag`: one of a count, and one of a boolean
+
+-- The kinds of the memories among equations, in their order.
+abbrev memoryKinds : List Equation → List ℕ
+memoryKinds [] = []
+memoryKinds (e ∷ es) = cond (isMemory (kindOf (e .kind))) (e .kind ∷ memoryKinds es) (memoryKinds es)
+
+kinds-append : (xs ys : List Equation) → memoryKinds (xs ++ ys) ≡ memoryKinds xs ++ memoryKinds ys
+kinds-append [] ys = refl
+kinds-append (e ∷ xs) ys = with-first (isMemory (kindOf (e .kind))) (kinds-append xs ys)
+  where
+    with-first : (x : Bool) → memoryKinds (xs ++ ys) ≡ memoryKinds xs ++ memoryKinds ys
+        → cond x (e .kind ∷ memoryKinds (xs ++ ys)) (memoryKinds (xs ++ ys))
+        ≡ cond x (e .kind ∷ memoryKinds xs) (memoryKinds xs) ++ memoryKinds ys
+    with-first true h = ap (λ (l : List ℕ). e .kind ∷ l) h
+    with-first false h = h
+
+none-kinds : (es : List Equation) → counted es ≡ 0 → memoryKinds es ≡ []
+none-kinds [] h = refl
+none-kinds (e ∷ es) h = with-first (isMemory (kindOf (e .kind))) h (none-kinds es)
+  where
+    with-first : (x : Bool) → truth x + counted es ≡ 0 → (counted es ≡ 0 → memoryKinds es ≡ [])
+        → cond x (e .kind ∷ memoryKinds es) (memoryKinds es) ≡ []
+    with-first true h others = absurd (omega arith)
+    with-first false h others = others (omega arith)
+
+module _ (flowOf : ℕ → ℕ) where
+  prop-kinds : (p : Prop) (o : ℕ) → memoryKinds (emitP flowOf p o .es) ≡ []
+  prop-kinds p o = none-kinds (emitP flowOf p o .es) (counted-prop flowOf p o)
+
+  pub lag-kinds : (p : Prop) (x : Num) (q : Prop) (s n o : ℕ)
+      → memoryKinds (emit flowOf (lag p x q) s n o .es) ≡ COUNT-PRE ∷ BOOLEAN-PRE ∷ []
+  unfolding kindOf isMemory
+  lag-kinds p (literal c) q s n o =
+      let o′ : ℕ = placeAfter o (emitP flowOf p o .es) in
+      simp (kinds-append, prop-kinds p o, prop-kinds q (afterRun o′))
+  lag-kinds p (parameter j) q s n o =
+      let o′ : ℕ = placeAfter o (emitP flowOf p o .es) in
+      simp (kinds-append, prop-kinds p o, prop-kinds q (afterRun o′))
 
 -- ---- counted over an observer
 
