@@ -14,7 +14,8 @@ use Rattle.traces.specs.Trace.{Trace, nonzero, bit, starts, truth}
 use Rattle.traces.specs.Compare.{Op, compares}
 use Rattle.traces.specs.Compare.Op.{le, lt, eq, gt, ge}
 use Rattle.formulas.specs.Formula.{Formula}
-use Rattle.formulas.specs.Meaning.{value, each, any, tally, streak, due, lagged, at, meaning, latest, verdict, since}
+use Rattle.formulas.specs.Meaning.{value, each, any, tally, streak, due, lagged, at, meaning}
+use Rattle.formulas.specs.Meaning.{latest, verdict, since}
 use Rattle.formulas.specs.Laws.{Compared, Counted, InARow, Starts, Latest, Means}
 
 -- ---- truth values and comparisons

@@ -18,7 +18,7 @@ use Rattle.formulas.specs.Formula.Num.{literal, parameter}
 use Rattle.formulas.specs.Formula.Test.{begin, end, point, held, kept}
 use Rattle.formulas.specs.Formula.Count.{sum, age}
 use Rattle.formulas.specs.Formula.Formula.{test, len, count, lag, neg, and, or, then}
-use Rattle.formulas.specs.Tree.{lead, upper}
+use Rattle.formulas.specs.Tree.{Tree, lead, upper}
 use Rattle.formulas.specs.Meaning.{value, each, tally, streak, lagged, at, meaning}
 use Rattle.formulas.specs.Laws.{InARow}
 use Rattle.formulas.proofs.Formulas.{raw}
@@ -149,25 +149,26 @@ module _ (trace : Trace) (same : (i j : ℕ) → (trace i) .parameters ≡ (trac
 -- ---- `lag`
 
 -- Two truth values that are true together are the same.
-pub same-truth : (x y : Bool) → (x ≡ true) ↔ (y ≡ true) → x ≡ y
+same-truth : (x y : Bool) → (x ≡ true) ↔ (y ≡ true) → x ≡ y
 same-truth true y h = sym (h .0 refl)
 same-truth false true h = h .1 refl
 same-truth false false h = refl
 
--- SPEC 4.11: with n = 0 and with n = 1 it is two formulas
-pub lag-two : (p q : Prop) → ¬ (lag p (literal 0) q ≡ lag p (literal 1) q)
+-- SPEC 4.11: with n = 0 and with n = 1 it is two trees
+pub lag-two : (p q : Tree) → ¬ (Tree.lag p (literal 0) q ≡ Tree.lag p (literal 1) q)
 lag-two p q e = let n : _≡_ {A = ℕ} 0 1 = cc in absurd (omega arith)
 
--- with one meaning: i < j are 1 apart or more.
-pub lag-nought : (trace : Trace) (p q : Prop) (b e : ℕ) →
-    meaning trace (lag p (literal 0) q) b e ≡ meaning trace (lag p (literal 1) q) b e
-lag-nought trace p q b e =
+-- with one meaning, be n a literal or a parameter: i < j are 1 apart or more.
+pub lag-nought : (trace : Trace) (p q : Prop) (n m : Num) (b e : ℕ) → value n (trace e) ≡ 0 → value m (trace e) ≡ 1 →
+    meaning trace (lag p n q) b e ≡ meaning trace (lag p m q) b e
+lag-nought trace p q n m b e none one =
     let with-none = lag-iff (at trace p) 0 (at trace q) b e in
     let with-one = lag-iff (at trace p) 1 (at trace q) b e in
-    same-truth _ _ (
+    rw (none, one)
+    (same-truth _ _ (
       λ h. with-one .1 (λ i j l m u far. with-none .0 h i j l m u (omega arith)),
       λ h. with-none .1 (λ i j l m u far. with-one .0 h i j l m u (omega arith)),
-    )
+    ))
 
 -- Of a run of r ticks of P up to one tick ago: it is shorter than n, or there is none, or x.
 asked-iff : (r n : ℕ) (x : Bool) → ((ltb r n || leb r 0) || x ≡ true) ↔ (n ≤ r → 0 < r → x ≡ true)

@@ -1,17 +1,21 @@
--- P1 to P13 and the further rows, by computation: of every row the formula has as many nodes as said, and the interval
--- meaning gives the verdicts. `row` and `through` take what is computed of all rows to one of them, and to what is made
+-- P1 to P13 and the further rows, by computation: of every row the formula has as many nodes as said, each `then` in it
+-- has a lead on its left, and the interval meaning gives the verdicts. `row` and `through` take what is computed of all rows to one of them, and to what is made
 -- of it. Assumes nothing.
+use mathlib.Core.Bool.{true}
 use mathlib.Core.Path.{_≡_, refl, ap₂}
 use mathlib.Core.List.{List, [], _∷_, map}
 use Prim.Native.Nat.{ℕ, zero, suc, _<_}
 use native.Mathlib.Omega.{arith}
 use lib.ListN.{length, getD}
-use Rattle.formulas.specs.Tree.{nodes}
+use Rattle.formulas.specs.Tree.{nodes, leads}
 use Rattle.formulas.specs.Raw.{raw}
 use Rattle.formulas.specs.Trials.{Trial, trials, furtherTrials, meant}
 
 pub trials-counted : map (λ (r : Trial). nodes (raw (r .formula))) trials ≡ map (λ (r : Trial). r .nodes) trials
 trials-counted = refl
+
+trials-led : map (λ (r : Trial). leads (raw (r .formula))) trials ≡ map (λ (r : Trial). true) trials
+trials-led = refl
 
 pub trials-meant : map meant trials ≡ map (λ (r : Trial). r .verdicts) trials
 trials-meant = refl
@@ -19,6 +23,9 @@ trials-meant = refl
 pub further-counted :
     map (λ (r : Trial). nodes (raw (r .formula))) furtherTrials ≡ map (λ (r : Trial). r .nodes) furtherTrials
 further-counted = refl
+
+further-led : map (λ (r : Trial). leads (raw (r .formula))) furtherTrials ≡ map (λ (r : Trial). true) furtherTrials
+further-led = refl
 
 pub further-meant : map meant furtherTrials ≡ map (λ (r : Trial). r .verdicts) furtherTrials
 further-meant = refl

@@ -3,7 +3,7 @@ use mathlib.Core.Bool.{Bool}
 use Prim.Native.Nat.{ℕ}
 use Rattle.traces.specs.Compare.{Op}
 
--- SPEC 3.5: n, which a count is compared with.
+-- SPEC 3.5: n, a literal or a parameter.
 pub data Num : Type 0 where
   literal : ℕ → Num
   parameter : ℕ → Num

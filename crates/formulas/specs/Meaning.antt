@@ -61,8 +61,8 @@ module _ (trace : Trace) where
   -- The formula on b to e. SPEC 4.2: `begin` and `end` ask for P at that end, `point` for a single tick with P.
   -- SPEC 4.3: `kept` asks for P at every tick before e, `held` for such a tick as well. SPEC 4.4: `sum` leaves out e.
   -- SPEC 4.5: `age` begins with it. SPEC 4.8: these and `len` are compared with the value of n at e. SPEC 4.11: `lag`
-  -- has the value of n at e too. SPEC 4.7: `!`, `&` and `|`. SPEC 4.6: `then` asks for an m after which the left part is
-  -- false, and the right part begins.
+  -- has the value of n at e too. SPEC 4.7: `!`, `&` and `|`. SPEC 4.6: `then` asks for an m after which the left part
+  -- is false, and the right part begins.
   abbrev pub meaning : Formula → ℕ → ℕ → Bool
   meaning (test begin p) b e = at p b
   meaning (test end p) b e = at p e

@@ -65,10 +65,10 @@ trials =
 
 -- Further rows on the same signals, their verdicts worked out by hand from SPEC 4.1 to SPEC 4.11: `!`, `&`, `|` and `0`
 -- in P; `!`, `&` and `|` of formulas; `&` that binds closer than `|`; a second start, and none at tick 0; an age that
--- breaks off, and one that a start cuts; a lead that falls late; a `then` in a `then`. SPEC 14.5: `lag` by itself, with
--- n = 0, as a lead, with a start that ends what was false and one that cuts a run of P, with a parameter, under `!`, as
--- a second part; and last the rule that is taken for `lag[s0,2,!s1]` and differs from it, since `age` counts the present
--- tick.
+-- breaks off, and one that a start cuts; a lead that falls late; a `then` in a `then`. The rows of SPEC 14.5: `lag` by
+-- itself, with n = 0 and as a lead, and the rule that is taken for `lag[s0,2,!s1]` and differs from it, since `age`
+-- counts the present tick. More of `lag`: P not from the start on; Q missing only where it is due a second time; a start
+-- that ends what was false, and one that cuts a run of P; a parameter; under `!`; as a second part.
 abbrev pub furtherTrials : List Trial
 furtherTrials =
     trial "end[!s0]" (test end (negP s0)) 1 first (five 0 0 1 0 0)
@@ -98,13 +98,15 @@ furtherTrials =
     ∷ trial "lag[s0,2,!s1] then end[1]" (then (lag s0 (literal 2) (negP s1)) (test end (constant true))) 3 first
     (five 0 0 1 1 1)
     ∷ trial "lag[1,4,0]" (lag (constant true) (literal 4) (constant false)) 1 first (five 1 1 1 1 0)
+    ∷ trial "age[s0]<=2|end[!s1]" (or (count age s0 le (literal 2)) (test end (negP s1))) 3 first (five 1 1 1 1 1)
+    ∷ trial "lag[s1,1,!s0]" (lag s1 (literal 1) (negP s0)) 1 first (five 1 1 1 0 0)
+    ∷ trial "lag[s0,1,!s1]" (lag s0 (literal 1) (negP s1)) 1 first (five 1 1 0 0 0)
     ∷ trial "lag[s0,1,s1]" (lag s0 (literal 1) s1) 1 (five 1 0 1 0 0) (five 1 0 1 1 1)
     ∷ trial "lag[s0,2,0]" (lag s0 (literal 2) (constant false)) 1 (five 1 1 0 0 0) (five 1 1 1 1 1)
     ∷ trial "lag[s0,k0,s1]" (lag s0 (parameter 0) s1) 1 first (five 1 0 0 0 0)
     ∷ trial "!lag[s0,2,!s1]" (neg (lag s0 (literal 2) (negP s1))) 2 first (five 0 0 1 1 1)
     ∷ trial "len <= 0 then lag[s0,1,!s1]" (then (len le (literal 0)) (lag s0 (literal 1) (negP s1))) 3 first
     (five 0 1 0 0 0)
-    ∷ trial "age[s0]<=2|end[!s1]" (or (count age s0 le (literal 2)) (test end (negP s1))) 3 first (five 1 1 1 1 1)
     ∷ []
 
 -- No row: what stands past the last one.

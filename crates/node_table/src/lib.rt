@@ -264,8 +264,8 @@ const RUN_NODE: Node = Node {
     idle: IDLE,
 };
 
-// That the Q of a `lag`, P here, holds if it is due, r the operand before: (r < n or r <= 0) or P. In `r <= 0` both the
-// comparison and the literal are 0.
+// That the Q of a `lag`, P here, holds if it is due; k is the number of the `lag`, r the operand before: (r < k or
+// r <= 0) or P. In `r <= 0` both the comparison and the literal are 0.
 const FINE_NODE: Node = Node {
     count: 4,
     rows: [
@@ -280,7 +280,7 @@ const FINE_NODE: Node = Node {
     idle: IDLE,
 };
 
-// That this was so at each tick, the present one too: the rows of `kept`, and their conjunction.
+// That this was so at each tick, the present one too: the rows of `kept`, of which the third is the result.
 const ALWAYS_NODE: Node = Node {
     count: 3,
     rows: [KEPT_1, KEPT_2, KEPT_3, NO_ROW, NO_ROW],

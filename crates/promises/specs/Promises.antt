@@ -60,7 +60,7 @@ pub record Reading : Type 0 where
   pub one-answer : (text : List ℕ) (r r′ : Read) → Told text r → Told text r′ → r ≡ r′
   pub one-comparison : (a b : List ℕ) (r r′ : Same) → SameAnswer a b r → SameAnswer a b r′ → r ≡ r′
 
--- The interval meaning has the clauses SPEC 4.1 to SPEC 4.10, each as a law, and what has these laws is the meaning.
+-- The interval meaning has the clauses SPEC 4.1 to SPEC 4.11, each as a law, and what has these laws is the meaning.
 pub record Meaning (trace : Trace) : Type 1 where
   pub clauses : Means trace (λ p i. at trace p i ≡ true) (λ f b e. meaning trace f b e ≡ true) (verdict trace)
   pub only : (At : Prop → ℕ → Type 0) (On : Formula → ℕ → ℕ → Type 0) (v : Formula → ℕ → ℕ) → Means trace At On v

@@ -1,7 +1,7 @@
 -- The rows of a `lag` give its meaning, from the latest start on: by induction on the ticks since that start. At the
--- start nothing is due, since there is no run of P before it. At a tick after it, the run of P up to one tick ago decides
--- whether Q is asked for (formulas, proofs/Meaning.antt: `lagged-next`), and the last rows take this together with what
--- was so one tick ago. Assumes nothing.
+-- start nothing is due, since there is no run of P before it. At a tick after it, the run of P up to one tick ago
+-- decides whether Q is asked for (formulas, proofs/Meaning.antt: `lagged-next`), and the last rows take this together
+-- with what was so one tick ago. Assumes nothing.
 use mathlib.Core.Bool.{Bool, true, false, not, _||_}
 use mathlib.Core.Path.{_≡_, refl, sym, ap₂, _∙_}
 use Prim.Native.Nat.{ℕ, zero, suc, _-_, _<_, min}

@@ -1,7 +1,7 @@
 -- The equations of a formula: its observer. First stand the start flow and its negation, then the signals that the
--- formula names, lowest first, then its nodes, a block for each after the blocks of its operands (`then` has a part of
--- its block between those of its operands), then what tells whether there was a start, and the verdict. Definitions
--- only.
+-- formula names, lowest first, then its nodes, a block for each after the blocks of its operands (`then` and `lag` have
+-- a part of their block between those of their operands), then what tells whether there was a start, and the verdict.
+-- Definitions only.
 use mathlib.Core.Bool.{Bool, false, _||_, cond}
 use mathlib.Core.List.{List, [], _∷_, _++_}
 use Prim.Native.Nat.{ℕ, zero, suc}

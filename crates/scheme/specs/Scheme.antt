@@ -97,8 +97,8 @@ runRows = one COUNT-PRE Fourth ∷ two IF Idle First ∷ two CAPPED Second Last 
 abbrev pub ageRows : List Row
 ageRows = runRows ++ (comparisonRow Fourth ∷ [])
 
--- P is Q of a `lag` and r the run of its P up to one tick ago, the operand before: (r < n or r <= 0) or P. In
--- `r <= 0` both the comparison and the literal are 0.
+-- P is Q of a `lag`, k its number, and r the run of its P up to one tick ago, the operand before:
+-- (r < k or r <= 0) or P. In `r <= 0` both the comparison and the literal are 0.
 abbrev pub fineRows : List Row
 fineRows =
     comparisonRow Previous ∷ row (OfKind COMPARE-LITERAL) Previous Nought Nought ∷ two OR First Second
@@ -181,7 +181,7 @@ runNode = node runRows 1 Second Idle
 abbrev pub fineNode : Node
 fineNode = node fineRows 2 Fourth Idle
 
--- and that this was so at each tick, the present one too: the rows of `kept`, and their conjunction.
+-- and that this was so at each tick, the present one too: the rows of `kept`, of which the third is the result.
 abbrev pub alwaysNode : Node
 alwaysNode = node keptRows 1 Third Idle
 

@@ -85,5 +85,6 @@ keyword-spec =
     (λ c. let k = c .before .before in alone 6 (k .before) (k .match .keys7) tt (λ l. refl) (c .spelled-or9 .ensures))
     (λ c. let k = c .before .before in alone 7 (k .before) (k .match .keys8) tt (λ l. refl) (c .spelled-or10 .ensures))
     (λ c. let k = c .before .before in alone 9 (k .before) (k .match .keys9) tt (λ l. refl) (c .spelled-or11 .ensures))
-    (λ c. let k = c .before .before in alone 10 (k .before) (k .match .keys10) tt (λ l. refl) (c .spelled-or12 .ensures))
+    (λ c. let k = c .before .before in
+    alone 10 (k .before) (k .match .keys10) tt (λ l. refl) (c .spelled-or12 .ensures))
     none-begins)
