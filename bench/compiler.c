@@ -196,8 +196,9 @@ static struct part atom(uint32_t s, uint32_t not_s) {
     uint32_t c = put(9, not_s, m, 0), more = put(8, c, p, 0);
     if (k == AGE) c = more = put(9, p, more, 0);
     moves_to(m, more);
-    struct word op = words[at++];
+    struct word op = words[at];
     if (broken || op.kind < LE || op.kind > GE) return broken = 1, (struct part){0, 0};
+    at++;
     flow = compared(c, op.kind, bound());
     return (struct part){flow, k != AGE && op.kind <= LT};
 }
