@@ -1,6 +1,6 @@
 -- A rule's tree is that of a formula exactly if neither `chop` nor `exists` stands among its words. Assumes nothing.
 use mathlib.Core.Path.{_≡_, refl, sym, ap, ap₂, _∙_}
-use mathlib.Core.Bool.{Bool, true, false, _||_, true≢false, false≢true, or-true, or-false, or-assoc}
+use mathlib.Core.Bool.{Bool, true, false, _||_, true≢false, false≢true, or-true, or-false, or-assoc, or-comm}
 use mathlib.Core.List.{List, [], _∷_, _++_}
 use mathlib.Core.Option.{Option, none, some}
 use Prim.Native.Nat.{ℕ, _<_}
@@ -20,7 +20,7 @@ use Rattle.grammar.specs.Grammar.Derives.{F-one, F-then, F-chop, D-one, 
 use Rattle.grammar.specs.Grammar.Derives.{U-not, U-exists, U-round, U-constant, U-signal}
 use Rattle.grammar.specs.Grammar.Derives.{U-test, U-len, U-count, U-lag, B-between}
 use Rattle.grammar.specs.Fragment.{hasWord, beyond}
-use Rattle.grammar.proofs.Position.{Given, within-high, num-pos, bit-pos, signal-pos}
+use Rattle.grammar.proofs.Position.{within-high, num-pos, bit-pos, signal-pos}
 
 -- ---- words
 
@@ -96,9 +96,16 @@ outside (len o n) = false
 outside (count k p o n) = outside p
 outside (lag p n q) = outside p || outside q
 
--- It is the tree of words that have them; of a B, where its own two words are none of them.
-hits-outside : {l : Bool} {c : Symbol} {s : List ℕ} {t : Tree} → Derives l c s t →
-    Given (λ w. hit w ≡ false) c (hits s ≡ outside t)
+-- A symbol that has them itself: a B, where one of its two words is one of them.
+abbrev own : Symbol → Bool
+own F = false
+own D = false
+own C = false
+own U = false
+own (B before after) = hit before || hit after
+
+-- Words have them exactly if their symbol or their tree has them.
+hits-outside : {l : Bool} {c : Symbol} {s : List ℕ} {t : Tree} → Derives l c s t → hits s ≡ own c || outside t
 hits-outside (F-one g) = hits-outside g
 hits-outside (F-then {s} {u} g h) = hits-append s (THEN ∷ u) ∙ ap₂ _||_ (hits-outside g) (hits-outside h)
 hits-outside (F-chop {s} {u} g h) = hits-append s (CHOP ∷ u) ∙ or-true (hits s)
@@ -111,15 +118,15 @@ hits-outside (U-exists h g) = refl
 hits-outside (U-round {s = s} g) = hits-append s (ROUND-END ∷ []) ∙ or-false (hits s) ∙ hits-outside g
 hits-outside (U-constant {w} h) = or-false (hit w) ∙ bit-hit w h
 hits-outside (U-signal {w} h) = or-false (hit w) ∙ signal-hit w h
-hits-outside (U-test {k} {s} h g) = ap₂ _||_ (test-hit k h) (hits-outside g refl refl)
+hits-outside (U-test {k} {s} h g) = ap₂ _||_ (test-hit k h) (hits-outside g)
 hits-outside (U-len {o} {n} h m) = ap₂ _||_ (op-hit o h) (or-false (hit n) ∙ num-hit n m)
 hits-outside (U-count {k} {s} o n h g p q) =
     let e : hits (o ∷ n ∷ []) ≡ false = ap₂ _||_ (op-hit o p) (or-false (hit n) ∙ num-hit n q) in
-    ap₂ _||_ (count-hit k h) (hits-append s (o ∷ n ∷ []) ∙ ap₂ _||_ (hits-outside g refl refl) e ∙ or-false _)
+    ap₂ _||_ (count-hit k h) (hits-append s (o ∷ n ∷ []) ∙ ap₂ _||_ (hits-outside g) e ∙ or-false _)
 hits-outside (U-lag {s} {u} n g p h) =
-    hits-append s (n ∷ u) ∙ ap₂ _||_ (hits-outside g refl refl) (ap₂ _||_ (num-hit n p) (hits-outside h refl refl))
-hits-outside (B-between {s} before after g) = λ b a.
-    ap₂ _||_ b (hits-append s (after ∷ []) ∙ ap₂ _||_ (hits-outside g) (or-false (hit after) ∙ a) ∙ or-false _)
+    hits-append s (n ∷ u) ∙ ap₂ _||_ (hits-outside g) (ap₂ _||_ (num-hit n p) (hits-outside h))
+hits-outside (B-between {p = p} before after g) =
+    simp (hits-append, hits-outside g, or-false, or-comm (outside p) (hit after), or-assoc)
 
 -- What a tree without them is: inside square brackets a proposition, outside a formula.
 abbrev Sense : Bool → Tree → Type 0
