@@ -219,7 +219,7 @@ module _ (ws : List ℕ) where
       ∙ then-on _ (complete r refl)
       ∙ ap (λ (x : Bool). stepLag ws (read ws) p x j) n
       ∙ then-on _ (complete s refl)
-  complete (b-between {before} {after} {i} {j} {p} k n e r f) = λ h.
+  complete (b-between {before} {after} {i} {j} {p} e r f l) = λ h.
       B-at before after i e ∙ then-on _ (complete r (ends-at _ after f h)) ∙ closed-at after p j f
 
   -- The parser finds the tree that the grammar has for all words,

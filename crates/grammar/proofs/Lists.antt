@@ -16,7 +16,7 @@ use Rattle.grammar.specs.Grammar.Derives.{F-one, F-then, F-chop, D-one, 
 use Rattle.grammar.specs.Grammar.Derives.{U-not, U-exists, U-round, U-constant, U-signal}
 use Rattle.grammar.specs.Grammar.Derives.{U-test, U-len, U-count, U-lag, B-between}
 use Rattle.grammar.specs.Parse.{word}
-use Rattle.grammar.proofs.Position.{DerivesAt, Given, span, inside, num-pos, signal-pos, bit-pos}
+use Rattle.grammar.proofs.Position.{DerivesAt, span, inside, num-pos, signal-pos, bit-pos}
 use Rattle.grammar.proofs.Position.DerivesAt.{f-one, f-then, f-chop, d-one, d-or, c-one, c-and}
 use Rattle.grammar.proofs.Position.DerivesAt.{u-not, u-exists, u-round, u-constant, u-signal}
 use Rattle.grammar.proofs.Position.DerivesAt.{u-test, u-len, u-count, u-lag, b-between}
@@ -113,8 +113,8 @@ to-list {ws} (u-lag {i} {j} {m} e r n s) =
     let y = span s in
     rw (first ws i m (omega arith) (y .within), e, between ws (i + 1) j m (x .moves) (y .moves) (y .within))
     (U-lag (word ws j) (to-list r) n (to-list s))
-to-list {ws} (b-between {before} {after} {i} {j} k n e r f) =
-    rw (bracketed ws i j (span r .moves) (inside ws j (omega arith)), e, f) (B-between before after (to-list r))
+to-list {ws} (b-between {before} {after} {i} {j} e r f h) =
+    rw (bracketed ws i j (span r .moves) h, e, f) (B-between before after (to-list r))
 
 -- ---- from lists to positions
 
@@ -155,6 +155,10 @@ head {ws} {s} {w} {i} x =
     let e : ws ≡ x .front ++ w ∷ (s ++ x .back) = x .whole ∙ simp append-assoc in
     ap (λ (y : List ℕ). word y i) e ∙ getD-at (x .front) w (s ++ x .back) 0 i (sym (x .start))
 
+-- which stands before the end,
+head-inside : {ws s : List ℕ} {w i j : ℕ} → Stands ws (w ∷ s) i j → i < length ws
+head-inside x = let e = ap length (x .whole) in omega (arith, simp length-append at e)
+
 -- and what follows it.
 tail : {ws s : List ℕ} {w i j : ℕ} → Stands ws (w ∷ s) i j → Stands ws s (i + 1) j
 tail {ws} {s} {w} x =
@@ -170,9 +174,9 @@ tail {ws} {s} {w} x =
 next : {ws : List ℕ} {w i j : ℕ} → Stands ws (w ∷ []) i j → j ≡ i + 1
 next x = omega arith
 
--- A reading of words is one over the positions where they stand; of a B, where its words are not 0.
+-- A reading of words is one over the positions where they stand.
 to-position : {l : Bool} {c : Symbol} {s : List ℕ} {t : Tree} {ws : List ℕ} {i j : ℕ} →
-    Derives l c s t → Stands ws s i j → Given (λ w. 0 < w) c (DerivesAt ws l c i t j)
+    Derives l c s t → Stands ws s i j → DerivesAt ws l c i t j
 to-position (F-one g) x = f-one (to-position g x)
 to-position (F-then {s} {u} g h) x =
     let y = right s (THEN ∷ u) x in
@@ -202,7 +206,7 @@ to-position (U-constant h) x = let e = head x in rw (next x, ← e) (u-constant 
 to-position (U-signal h) x = let e = head x in rw (next x, ← e) (u-signal (ap isSignal e ∙ h))
 to-position (U-test h g) x =
     let e = head x in
-    rw (← e) (u-test (ap isTest e ∙ h) (to-position g (tail x) (omega arith) (omega arith)))
+    rw (← e) (u-test (ap isTest e ∙ h) (to-position g (tail x)))
 to-position {i = i} {j = j} (U-len h n) x =
     let y = tail x in
     let z = tail y in
@@ -218,19 +222,16 @@ to-position {i = i} {j = j} (U-count {s = s} o n h g p q) x =
     let k = head (tail z) in
     let end : j ≡ i + 1 + length s + 2 = omega arith in
     rw (end, ← e, ← f, ← k)
-    (u-count (ap isCount e ∙ h) (to-position g (left s (o ∷ n ∷ []) y) (omega arith) (omega arith)) (ap isOp f ∙ p)
-    (ap isNum k ∙ q))
+    (u-count (ap isCount e ∙ h) (to-position g (left s (o ∷ n ∷ []) y)) (ap isOp f ∙ p) (ap isNum k ∙ q))
 to-position (U-lag {s} {u} n g p h) x =
     let y = tail x in
     let z = right s (n ∷ u) y in
     let f = head z in
-    rw (← f)
-    (u-lag (head x) (to-position g (left s (n ∷ u) y) (omega arith) (omega arith)) (ap isNum f ∙ p)
-    (to-position h (tail z) (omega arith) (omega arith)))
-to-position (B-between {s} before after g) x = λ b a.
+    rw (← f) (u-lag (head x) (to-position g (left s (n ∷ u) y)) (ap isNum f ∙ p) (to-position h (tail z)))
+to-position (B-between {s} before after g) x =
     let y = tail x in
     let z = right s (after ∷ []) y in
-    rw (next z) (b-between b a (head x) (to-position g (left s (after ∷ []) y)) (head z))
+    rw (next z) (b-between (head x) (to-position g (left s (after ∷ []) y)) (head z) (head-inside z))
 
 -- ---- the whole
 

@@ -55,4 +55,4 @@ numbers {ws} k (u-count {j = j} h r f n) =
     ap₂ _&&_ (numbers k r) (num-bound (word ws (j + 1)) n (k (j + 1)))
 numbers {ws} k (u-lag {j = j} e r n s) =
     ap₂ _&&_ (numbers k r) (ap₂ _&&_ (num-bound (word ws j) n (k j)) (numbers k s))
-numbers k (b-between h n e r f) = numbers k r
+numbers k (b-between e r f h) = numbers k r

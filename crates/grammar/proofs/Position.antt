@@ -21,8 +21,8 @@ use Rattle.grammar.specs.Grammar.{Symbol, Square, bitWord, signalWord, o
 use Rattle.grammar.specs.Grammar.Symbol.{F, D, C, U, B}
 use Rattle.grammar.specs.Parse.{word}
 
--- As `Derives` of specs/Grammar.antt, constructor by constructor; true: inside square brackets. Neither word of a B is
--- 0, which is the word past the end: a B ends before it.
+-- As `Derives` of specs/Grammar.antt, constructor by constructor; true: inside square brackets. A B may close with the
+-- word 0, which is also the word past the end; so it is said that its last word stands before the end.
 pub data DerivesAt (ws : List ℕ) : Bool → Symbol → ℕ → Tree → ℕ → Type 0 where
   f-one : {l : Bool} {i j : ℕ} {t : Tree} → DerivesAt ws l D i t j → DerivesAt ws l F i t j
   f-then : {i m j : ℕ} {a b : Tree} →
@@ -60,16 +60,8 @@ pub data DerivesAt (ws : List ℕ) : Bool → Symbol → ℕ → Tree → ℕ �
       word ws i ≡ LAG → DerivesAt ws false (B SQUARE COMMA) (i + 1) p j → isNum (word ws j) ≡ true →
       DerivesAt ws false (B COMMA SQUARE-END) (j + 1) q m → DerivesAt ws false U i (lag p (numWord (word ws j)) q) m
   b-between : {before after i j : ℕ} {p : Tree} →
-      0 < before → 0 < after → word ws i ≡ before → DerivesAt ws true F (i + 1) p j → word ws j ≡ after →
+      word ws i ≡ before → DerivesAt ws true F (i + 1) p j → word ws j ≡ after → j < length ws →
       DerivesAt ws false (B before after) i p (j + 1)
-
--- X, said of a symbol; of a B it is said where both its words have P.
-abbrev pub Given : (ℕ → Type 0) → Symbol → Type 0 → Type 0
-Given P F X = X
-Given P D X = X
-Given P C X = X
-Given P U X = X
-Given P (B before after) X = P before → P after → X
 
 -- A word that is not 0 stands before the end,
 pub inside : (ws : List ℕ) (i : ℕ) → 0 < word ws i → i < length ws
@@ -146,7 +138,7 @@ sized (u-test h r) = simp length-append (omega (arith, sized r))
 sized (u-len e h n) = omega arith
 sized (u-count k r h n) = simp length-append (omega (arith, sized r))
 sized (u-lag e r n s) = simp length-append (omega (arith, sized r, sized s))
-sized (b-between k n e r f) = omega (arith, sized r)
+sized (b-between e r f h) = omega (arith, sized r)
 
 -- ---- words and nodes
 
@@ -201,9 +193,8 @@ steps (u-lag e r n s) =
     let x = steps r in
     let y = steps s in
     record { moves = omega arith; within = y .within; few = omega arith }
-steps {ws} (b-between {j = j} k n e r f) =
+steps (b-between e r f h) =
     let x = steps r in
-    let h = inside ws j (omega arith) in
     record { moves = omega arith; within = omega arith; few = omega arith }
 
 -- ---- what a reading takes

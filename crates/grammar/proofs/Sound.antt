@@ -122,7 +122,7 @@ named w = go (isTest w) (eqb w LEN) (isCount w) (eqb w LAG) refl refl refl refl
 
 module _ (ws : List ℕ) where
   -- What an answer to a goal says in the grammar's terms. What follows a D or a C makes a longer one of it. A P between
-  -- two words is one of the grammar's where they are not 0, the word past the end.
+  -- two words is one of the grammar's where the second is not 0, the word past the end.
   abbrev pub Holds : Goal → ℕ → Tree → ℕ → Type 0
   Holds (goF l) i t j = DerivesAt ws l F i t j
   Holds (goD l) i t j = DerivesAt ws l D i t j
@@ -131,7 +131,7 @@ module _ (ws : List ℕ) where
   Holds (goCs l a) i t j = (i ≤ j) × ((s : ℕ) → DerivesAt ws l C s a i → DerivesAt ws l C s t j)
   Holds (goU l) i t j = DerivesAt ws l U i t j
   Holds goA i t j = DerivesAt ws false U i t j
-  Holds (goB before after) i t j = 0 < before → 0 < after → DerivesAt ws false (B before after) i t j
+  Holds (goB before after) i t j = 0 < after → DerivesAt ws false (B before after) i t j
 
   -- Readings whose every answer is so.
   abbrev Sound : (Goal → ℕ → Result) → Type 0
@@ -222,26 +222,24 @@ module _ (ws : List ℕ) where
         DerivesAt ws false (B SQUARE COMMA) (i + 1) p j → isNum (word ws j) ≡ b →
         All (Holds goA i) (stepLag ws rec p b j)
     sound-lag true i p j e r f =
-        all-bind (snd (goB COMMA SQUARE-END) (j + 1)) (λ q m s. gives (u-lag e r f (s (omega arith) (omega arith))))
+        all-bind (snd (goB COMMA SQUARE-END) (j + 1)) (λ q m s. gives (u-lag e r f (s (omega arith))))
     sound-lag false i p j e r f = fails
 
     sound-A : (k : Atom) (i : ℕ) → Names (word ws i) k → All (Holds goA i) (stepA ws rec k i)
-    sound-A atom-test i e =
-        all-bind (snd goSquare (i + 1)) (λ p j s. gives (u-test e (s (omega arith) (omega arith))))
+    sound-A atom-test i e = all-bind (snd goSquare (i + 1)) (λ p j s. gives (u-test e (s (omega arith))))
     sound-A atom-len i e = sound-comparison len (i + 1) (λ f g. u-len e f g)
     sound-A atom-count i e =
         all-bind (snd goSquare (i + 1)) (λ p j s.
-        sound-comparison (count (countWord (word ws i)) p) j (λ f g. u-count e (s (omega arith) (omega arith)) f g))
+        sound-comparison (count (countWord (word ws i)) p) j (λ f g. u-count e (s (omega arith)) f g))
     sound-A atom-lag i e =
-        all-bind (snd (goB SQUARE COMMA) (i + 1)) (λ p j s.
-        sound-lag _ i p j e (s (omega arith) (omega arith)) refl)
+        all-bind (snd (goB SQUARE COMMA) (i + 1)) (λ p j s. sound-lag _ i p j e (s (omega arith)) refl)
     sound-A atom-none i e = fails
 
     sound-B : (b : Bool) (before after i : ℕ) → eqb (word ws i) before ≡ b →
         All (Holds (goB before after) i) (stepB ws rec b after i)
     sound-B true before after i e =
         all-bind (snd (goF true) (i + 1)) (λ p j s.
-        sound-closed after p j (λ f k n. b-between k n (eqb-true _ _ e) s f))
+        sound-closed after p j (λ f n. b-between (eqb-true _ _ e) s f (inside ws j (omega arith))))
     sound-B false before after i e = fails
 
     step-sound : Sound (step ws rec)
@@ -373,7 +371,7 @@ module _ (ws : List ℕ) where
     same-A atom-lag i d e =
         let h = inside ws i (omega arith) in
         same-bind (goB SQUARE COMMA) (i + 1) _ _ (omega arith) (λ p j s.
-        same-lag p _ i j d (span (s (omega arith) (omega arith)) .moves) refl)
+        same-lag p _ i j d (span (s (omega arith)) .moves) refl)
     same-A atom-none i d e = refl
 
     -- The first word of a B may be 0; past the end neither reading gives an F.

@@ -191,6 +191,10 @@ module _ {ws : List ℕ} {i : ℕ} {arena : List ℕ} {top : ℕ} where
   pub room : {spare : ℕ} → Space spare ws i arena top → Room ws i arena top
   room h = record { few = h .few; within = h .within; fits = omega (arith, h .fits) }
 
+  -- The same for a P between two words.
+  pub between : {spare left : ℕ} → Space spare ws i arena top → 0 < left → Between left ws i arena top
+  between h l = record { room = room h; opens = l }
+
   -- Room from a higher place on is room to spare.
   pub spared : {spare : ℕ} (more : ℕ) → Space spare ws i arena (top + more) → Space (spare + more) ws i arena top
   spared more h = record { few = h .few; within = h .within; fits = omega (arith, h .fits) }
@@ -233,10 +237,9 @@ module _ {ws : List ℕ} {i : ℕ} {arena : List ℕ} {top : ℕ} where
 
   -- and a P between two words,
   pub past-between : {spare left right n e : ℕ} {f : Facts} {after : List ℕ} →
-      Space spare ws i arena top → Took (goB left right) ws i arena top n e f after → 0 < left → 0 < right →
+      Space spare ws i arena top → Took (goB left right) ws i arena top n e f after → 0 < right →
       Space (spare + 8) ws n after e
-  past-between {left = left} {right = right} {n = n} h p l r =
-      past-sized h (p .part) (read-holds ws (goB left right) i (p .part .tree) n (p .is) l r)
+  past-between h p r = past-sized h (p .part) (read-holds ws (goB _ _) i _ _ (p .is) r)
 
   -- and a record that is pushed takes four numbers,
   pub past-push : (spare : ℕ) {k a b c e : ℕ} {after : List ℕ} →
@@ -253,11 +256,6 @@ module _ {ws : List ℕ} {i : ℕ} {arena : List ℕ} {top : ℕ} where
   pub fits-tree : (spare : ℕ) {n e : ℕ} {f : Facts} {after : List ℕ} →
       Space (spare + 4) ws i arena top → Part ws i arena top n e f after → e + 4 ≤ length after
   fits-tree spare h p = let s = past-tree h p in omega (arith, s .fits)
-
--- Room for a P between two words.
-pub between : {spare left right : ℕ} {ws : List ℕ} {i : ℕ} {arena : List ℕ} {top : ℕ} →
-    Space spare ws i arena top → 0 < left → 0 < right → Between left right ws i arena top
-between h l r = record { room = room h; opens = l; closes = r }
 
 module _ {ws : List ℕ} {i : ℕ} {before : List ℕ} {top n e : ℕ} {f : Facts} {after : List ℕ} where
   -- The nodes of what was read are few,

@@ -63,11 +63,10 @@ pub record Begun (w : ℕ) (ws : List ℕ) (i : ℕ) (arena : List ℕ) (top : �
   pub room : Room ws i arena top
   pub first : word ws i ≡ w
 
--- The same where two words are given, which are not what stands past the end.
-pub record Between (before after : ℕ) (ws : List ℕ) (i : ℕ) (arena : List ℕ) (top : ℕ) : Type 0 where
+-- The same for a P between two words, of which the first is not 0, the word past the end.
+pub record Between (before : ℕ) (ws : List ℕ) (i : ℕ) (arena : List ℕ) (top : ℕ) : Type 0 where
   pub room : Room ws i arena top
   pub opens : 0 < before
-  pub closes : 0 < after
 
 -- One record stored at `top`.
 pub record Pushed (before : List ℕ) (top k a b c : ℕ) (r : ℕ) (after : List ℕ) : Type 0 where

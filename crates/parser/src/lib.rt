@@ -295,7 +295,7 @@ fn lag(ws: &[u32], at: usize, arena: &mut [u32], top: usize) -> Parsed
 
 // SPEC 3.6: a P between two words.
 fn prop(ws: &[u32], before: u32, after: u32, at: usize, arena: &mut [u32], top: usize) -> Parsed
-    requires { ⌜ Between before after (now ws) at (now arena) top ⌝ }
+    requires { ⌜ Between before (now ws) at (now arena) top ⌝ }
     ensures { λ r.
         ⌜ Parses (goB before after) (now (ws .entry)) at (now (arena .entry)) top r (now (arena .exit)) ⌝ }
 {

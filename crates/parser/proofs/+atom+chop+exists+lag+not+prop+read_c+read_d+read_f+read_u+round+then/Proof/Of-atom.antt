@@ -90,7 +90,7 @@ module _ (t : ℕ) where
   test-requires c κs =
       let here = c .before in
       let s = test-space here in
-      (omega (arith, start (test-looked here) .pre .0), between s (omega arith) (omega arith))
+      (omega (arith, start (test-looked here) .pre .0), between s (omega arith))
 
   test-no-p-length : Here lts.Need-same-length
   test-no-p-length c = c .before .before .before .before .prop .kept .1 .1 .1 .1 .0
@@ -106,7 +106,7 @@ module _ (t : ℕ) where
       let args = start (test-looked (at-test (test-call c))) .args in
       Gave goSquare (args .ws .now) (args .at + 1) (args .arena .now) (args .top)
       (c .before .j .given .0) (test-call c .prop .last .1 .1 .1 .1 .0)
-  test-tree c = took (test-call c .prop .ensures) (λ a m h. span (h (omega arith) (omega arith))) (c .before .j .given .1)
+  test-tree c = took (test-call c .prop .ensures) (λ a m h. span (h (omega arith))) (c .before .j .given .1)
 
   sub-test : Here lts.Need-sub-push
   sub-test c = test-pos _ (is-test (at-test (test-call (c .before))))
@@ -173,7 +173,7 @@ module _ (t : ℕ) where
   count-requires c κs =
       let here = c .before in
       let s = count-space here in
-      (omega (arith, start (count-looked here) .pre .0), between s (omega arith) (omega arith))
+      (omega (arith, start (count-looked here) .pre .0), between s (omega arith))
 
   count-no-p-length : Here lts.Need-same-length-4
   count-no-p-length c = c .before .before .before .before .prop2 .kept .1 .1 .1 .1 .0
@@ -189,7 +189,7 @@ module _ (t : ℕ) where
       let args = start (count-looked (at-count (count-call c))) .args in
       Gave goSquare (args .ws .now) (args .at + 1) (args .arena .now) (args .top)
       (c .before .j2 .given .0) (count-call c .prop2 .last .1 .1 .1 .1 .0)
-  count-tree c = took (count-call c .prop2 .ensures) (λ a m h. span (h (omega arith) (omega arith))) (c .before .j2 .given .1)
+  count-tree c = took (count-call c .prop2 .ensures) (λ a m h. span (h (omega arith))) (c .before .j2 .given .1)
 
   sub-count : Here lts.Need-sub-comparison
   sub-count c = count-pos _ (is-count (at-count (count-call (c .before))))

@@ -78,7 +78,7 @@ module _ (t : ℕ) where
   p-requires c κs =
       let here = c .before .before .before in
       let s = word-space here in
-      (omega (arith, here .pre .0), between s (omega arith) (omega arith))
+      (omega (arith, here .pre .0), between s (omega arith))
 
   -- There is no P;
   no-p-length : Here lts.Need-same-length
@@ -94,14 +94,13 @@ module _ (t : ℕ) where
       let args = p-start c .args in
       Gave (goB Word.SQUARE Word.COMMA) (args .ws .now) (args .at + 1) (args .arena .now) (args .top)
       (c .before .j .given .0) (p-call c .prop .last .1 .1 .1 .1 .0)
-  p-tree c =
-      took (p-call c .prop .ensures) (λ a m h. span (h (omega arith) (omega arith))) (c .before .j .given .1)
+  p-tree c = took (p-call c .prop .ensures) (λ a m h. span (h (omega arith))) (c .before .j .given .1)
 
   -- which, with `lag`, leaves room for three records.
   p-space : (c : Here lts.After-known-told) →
       Space 12 (p-start c .args .ws .now) (c .before .j .given .0 .0) (p-call c .prop .last .1 .1 .1 .1 .0)
       (c .before .j .given .0 .1 .0)
-  p-space c = past-between (word-space (p-start c)) (p-tree c) (omega arith) (omega arith)
+  p-space c = past-between (word-space (p-start c)) (p-tree c) (omega arith)
 
   -- The word after it is no n;
   no-n-length : Here lts.Need-same-length-2
@@ -148,7 +147,7 @@ module _ (t : ℕ) where
       let tree = n-tree (run-n run) in
       let s = n-space run in
       let moves = p-tree tree .part .spans .moves in
-      (omega (arith, p-start tree .pre .0), between s (omega arith) (omega arith))
+      (omega (arith, p-start tree .pre .0), between s (omega arith))
 
   -- There is no Q;
   no-q-length : Here lts.Need-same-length-3
@@ -170,14 +169,13 @@ module _ (t : ℕ) where
       let tree = n-tree (run-n run) in
       Gave (goB Word.COMMA Word.SQUARE-END) (p-start tree .args .ws .now) (tree .before .j .given .0 .0 + 1)
       (run .push .last .0) (run .push .result) (c .before .m .given .0) (q-call c .prop2 .last .1 .1 .1 .1 .0)
-  q-tree c =
-      took (q-call c .prop2 .ensures) (λ a m h. span (h (omega arith) (omega arith))) (c .before .m .given .1)
+  q-tree c = took (q-call c .prop2 .ensures) (λ a m h. span (h (omega arith))) (c .before .m .given .1)
 
   -- and room behind it.
   q-space : (c : Here lts.After-known-told2) →
       Space 20 (p-start (q-tree-p (q-call c)) .args .ws .now) (c .before .m .given .0 .0)
       (q-call c .prop2 .last .1 .1 .1 .1 .0) (c .before .m .given .0 .1 .0)
-  q-space c = past-between (n-space (q-run (q-call c))) (q-tree c) (omega arith) (omega arith)
+  q-space c = past-between (n-space (q-run (q-call c))) (q-tree c) (omega arith)
 
   num-value-requires : Here lts.Need-num-value-requires
   num-value-requires c κs = is-num (run-n (q-run (q-call (c .before .before))))
