@@ -67,8 +67,8 @@ trials =
 -- in P; `!`, `&` and `|` of formulas; `&` that binds closer than `|`; a second start, and none at tick 0; an age that
 -- breaks off, and one that a start cuts; a lead that falls late; a `then` in a `then`. The rows of SPEC 14.5: `lag` by
 -- itself, with n = 0 and as a lead, and the rule that is taken for `lag[s0,2,!s1]` and differs from it, since `age`
--- counts the present tick. More of `lag`: P not from the start on; Q missing only where it is due a second time; a start
--- that ends what was false, and one that cuts a run of P; a parameter; under `!`; as a second part.
+-- counts the present tick. More of `lag`: P not from the start on; Q missing only where it is due a second time; a
+-- start that ends what was false, and one that cuts a run of P; a parameter; under `!`; as a second part.
 abbrev pub furtherTrials : List Trial
 furtherTrials =
     trial "end[!s0]" (test end (negP s0)) 1 first (five 0 0 1 0 0)

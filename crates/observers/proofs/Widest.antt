@@ -2,9 +2,9 @@
 --
 -- The equations of a tree are counted with one for each signal that stands in it (`equationCount`, crate scheme).
 -- Inside square brackets they are at most the words. Outside, a formula is measured by its parts: l atoms that are a
--- `lag`, t words `then`, j words `&` or `|`, which make t + j + 1 atoms together, and x words over. The other atoms have
--- 4 equations for 3 words, as `len` has, or one equation more for each word more; a `lag` has 13 for 8, or likewise; a
--- `then` is one word with 9 equations, `&` and `|` are one word with one. So in all there are
+-- `lag`, t words `then`, j words `&` or `|`, which make t + j + 1 atoms together, and x words over. The other atoms
+-- have 4 equations for 3 words, as `len` has, or one equation more for each word more; a `lag` has 13 for 8, or
+-- likewise; a `then` is one word with 9 equations, `&` and `|` are one word with one. So in all there are
 --     5 * l + 4 * (t + j) + 3 + x  words, or more, and  9 * l + 13 * t + 5 * j + 4 + x  equations, or fewer,
 -- and refusals 4 and 5 leave at most 240 words and at most 32 `then`. The most equations are those of 21 `lag`, 32
 -- `then` and one `&`: with more of `lag` there is no room for all of `then`, and with fewer the words go to atoms that

@@ -298,7 +298,7 @@ module _ {ws : List ℕ} (i : ℕ) {before : List ℕ} {top : ℕ} (w : word ws 
           Pushed first e Arena.RUN 0 0 0 r second →
           Took (goB Word.COMMA Word.SQUARE-END) ws (n + 1) second r m u g third → x ≡ word ws n →
           a ≡ numKind (numWord x) → b ≡ numValue (numWord x) →
-          Pushed third u Arena.FINE (Word.LT - Word.LE) a b v fourth → Pushed fourth v Arena.ALWAYS 0 0 0 p after →
+          Pushed third u Arena.FINE (opNumber lt) a b v fourth → Pushed fourth v Arena.ALWAYS 0 0 0 p after →
           f′ ≡ atomFacts true → Parses goA ws i before top (At m p f′) after
       A-lag run q is kind value fine always facts =
           let fine-row = ap₂ (λ (s t : ℕ). row Arena.FINE (opNumber lt) s t)

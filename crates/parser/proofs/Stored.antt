@@ -21,7 +21,7 @@ use Rattle.grammar.proofs.Position.{DerivesAt, Span, sized, inside}
 use Rattle.grammar.proofs.Sound.{Holds, read-holds}
 use Rattle.facts.specs.Facts.{factsOf}
 use Rattle.facts.specs.declared.Facts.{Facts}
-use Rattle.parser.specs.Contract.{parsedOf, Parses, Room, Between, Pushed}
+use Rattle.parser.specs.Contract.{parsedOf, Parses, Room, Opening, Pushed}
 use Rattle.parser.specs.declared.Parsed.{Parsed}
 use Rattle.parser.specs.declared.Parsed.the-variants.{At, No}
 
@@ -192,8 +192,8 @@ module _ {ws : List ℕ} {i : ℕ} {arena : List ℕ} {top : ℕ} where
   room h = record { few = h .few; within = h .within; fits = omega (arith, h .fits) }
 
   -- The same for a P between two words.
-  pub between : {spare left : ℕ} → Space spare ws i arena top → 0 < left → Between left ws i arena top
-  between h l = record { room = room h; opens = l }
+  pub opening : {spare left : ℕ} → Space spare ws i arena top → 0 < left → Opening left ws i arena top
+  opening h l = record { room = room h; opens = l }
 
   -- Room from a higher place on is room to spare.
   pub spared : {spare : ℕ} (more : ℕ) → Space spare ws i arena (top + more) → Space (spare + more) ws i arena top
@@ -233,7 +233,8 @@ module _ {ws : List ℕ} {i : ℕ} {arena : List ℕ} {top : ℕ} where
       Room ws i arena top → Took (goD l) ws i arena top n e f after → l ≡ false → Space 8 ws n after e
   past-outside {l} {n} h p q =
       let t = p .part .tree in
-      past-sized (space h) (p .part) (subst (λ (x : Bool). DerivesAt ws x D i t n) q (read-holds ws (goD l) i t n (p .is)))
+      let outside = subst (λ (x : Bool). DerivesAt ws x D i t n) q (read-holds ws (goD l) i t n (p .is)) in
+      past-sized (space h) (p .part) outside
 
   -- and a P between two words,
   pub past-between : {spare left right n e : ℕ} {f : Facts} {after : List ℕ} →

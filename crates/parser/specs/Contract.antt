@@ -64,7 +64,7 @@ pub record Begun (w : ℕ) (ws : List ℕ) (i : ℕ) (arena : List ℕ) (top : �
   pub first : word ws i ≡ w
 
 -- The same for a P between two words, of which the first is not 0, the word past the end.
-pub record Between (before : ℕ) (ws : List ℕ) (i : ℕ) (arena : List ℕ) (top : ℕ) : Type 0 where
+pub record Opening (before : ℕ) (ws : List ℕ) (i : ℕ) (arena : List ℕ) (top : ℕ) : Type 0 where
   pub room : Room ws i arena top
   pub opens : 0 < before
 

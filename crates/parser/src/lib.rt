@@ -7,7 +7,7 @@ ghost use lib.ListN.{length};
 ghost use Rattle.limits.specs.Limits.{wordLimit};
 ghost use Rattle.words.specs.Word.{NOT, ROUND, LAG, THEN, CHOP, EXISTS};
 ghost use Rattle.grammar.specs.Parse.Goal.{goF, goD, goC, goU, goA, goB};
-ghost use Rattle.parser.specs.Contract.{Parses, ParsesThen, ParsesChop, Room, Begun, Between};
+ghost use Rattle.parser.specs.Contract.{Parses, ParsesThen, ParsesChop, Room, Begun, Opening};
 ghost use Rattle.parser.specs.Contract.{Pushed, ParsesLeaf, ParsesComparison};
 
 // A tree that was read: the position after its words, the place after its records, and its facts; or none.
@@ -285,7 +285,7 @@ fn lag(ws: &[u32], at: usize, arena: &mut [u32], top: usize) -> Parsed
         arena,
         e,
         formulas::FINE,
-        words::LT - words::LE,
+        traces::BELOW,
         facts::num_kind(n),
         facts::num_value(n),
     );
@@ -295,7 +295,7 @@ fn lag(ws: &[u32], at: usize, arena: &mut [u32], top: usize) -> Parsed
 
 // SPEC 3.6: a P between two words.
 fn prop(ws: &[u32], before: u32, after: u32, at: usize, arena: &mut [u32], top: usize) -> Parsed
-    requires { ⌜ Between before (now ws) at (now arena) top ⌝ }
+    requires { ⌜ Opening before (now ws) at (now arena) top ⌝ }
     ensures { λ r.
         ⌜ Parses (goB before after) (now (ws .entry)) at (now (arena .entry)) top r (now (arena .exit)) ⌝ }
 {

@@ -1,7 +1,8 @@
 -- What each member of the cycle is measured by, is given, and asks of the others. The measure is the depth that
 -- reading needs (grammar, specs/Parse.antt). Assumes nothing.
+use mathlib.Core.List.{List}
 use Prim.Native.Nat.{ℕ, _-_, _*_, _<_}
-use borrow.Fn.Kinds.{In}
+use borrow.Fn.Kinds.{PK, In}
 use borrow.Fn.PlainCycle.{Measures, is, falls, and}
 use lib.ListN.{length}
 use Rattle.grammar.specs.Parse.{depth}
@@ -123,78 +124,14 @@ abbrev pub μ-then : Measures 2 ps-then ℕ
 abbrev pub μ-read-u : Measures 2 ps-u ℕ
 μ-read-u κs a = depth (a .0 .now) (goU (a .1 .0)) (a .1 .1 .0)
 
--- What a member is given where its measure is t, and what it asks where a lower one is called.
-abbrev pub atom-at : ℕ → In 2 ps-atom
-atom-at t = and 2 ps-atom (is 2 ps-atom μ-atom t) atom.Pre
+-- A member with these parameters, this measure and what its contract asks for: what it is given where its measure is t,
+-- and what is asked where one with a lower measure is called.
+module _ (ps : List (PK 2)) (μ : Measures 2 ps ℕ) (pre : In 2 ps) where
+  abbrev pub at : ℕ → In 2 ps
+  at t = and 2 ps (is 2 ps μ t) pre
 
-abbrev atom-below : ℕ → In 2 ps-atom
-atom-below t = and 2 ps-atom (falls 2 ps-atom _<_ μ-atom t) atom.Pre
-
-abbrev pub read-c-at : ℕ → In 2 ps-c
-read-c-at t = and 2 ps-c (is 2 ps-c μ-read-c t) read-c.Pre
-
-abbrev read-c-below : ℕ → In 2 ps-c
-read-c-below t = and 2 ps-c (falls 2 ps-c _<_ μ-read-c t) read-c.Pre
-
-abbrev pub chop-at : ℕ → In 2 ps-chop
-chop-at t = and 2 ps-chop (is 2 ps-chop μ-chop t) chop.Pre
-
-abbrev chop-below : ℕ → In 2 ps-chop
-chop-below t = and 2 ps-chop (falls 2 ps-chop _<_ μ-chop t) chop.Pre
-
-abbrev pub read-d-at : ℕ → In 2 ps-d
-read-d-at t = and 2 ps-d (is 2 ps-d μ-read-d t) read-d.Pre
-
-abbrev read-d-below : ℕ → In 2 ps-d
-read-d-below t = and 2 ps-d (falls 2 ps-d _<_ μ-read-d t) read-d.Pre
-
-abbrev pub exists-at : ℕ → In 2 ps-exists
-exists-at t = and 2 ps-exists (is 2 ps-exists μ-exists t) exists.Pre
-
-abbrev exists-below : ℕ → In 2 ps-exists
-exists-below t = and 2 ps-exists (falls 2 ps-exists _<_ μ-exists t) exists.Pre
-
-abbrev pub read-f-at : ℕ → In 2 ps-f
-read-f-at t = and 2 ps-f (is 2 ps-f μ-read-f t) read-f.Pre
-
-abbrev read-f-below : ℕ → In 2 ps-f
-read-f-below t = and 2 ps-f (falls 2 ps-f _<_ μ-read-f t) read-f.Pre
-
-abbrev pub not-at : ℕ → In 2 ps-not
-not-at t = and 2 ps-not (is 2 ps-not μ-not t) not.Pre
-
-abbrev not-below : ℕ → In 2 ps-not
-not-below t = and 2 ps-not (falls 2 ps-not _<_ μ-not t) not.Pre
-
-abbrev pub round-at : ℕ → In 2 ps-round
-round-at t = and 2 ps-round (is 2 ps-round μ-round t) round.Pre
-
-abbrev round-below : ℕ → In 2 ps-round
-round-below t = and 2 ps-round (falls 2 ps-round _<_ μ-round t) round.Pre
-
-abbrev pub prop-at : ℕ → In 2 ps-prop
-prop-at t = and 2 ps-prop (is 2 ps-prop μ-prop t) prop.Pre
-
-abbrev prop-below : ℕ → In 2 ps-prop
-prop-below t = and 2 ps-prop (falls 2 ps-prop _<_ μ-prop t) prop.Pre
-
-abbrev pub lag-at : ℕ → In 2 ps-lag
-lag-at t = and 2 ps-lag (is 2 ps-lag μ-lag t) lag.Pre
-
-abbrev lag-below : ℕ → In 2 ps-lag
-lag-below t = and 2 ps-lag (falls 2 ps-lag _<_ μ-lag t) lag.Pre
-
-abbrev pub then-at : ℕ → In 2 ps-then
-then-at t = and 2 ps-then (is 2 ps-then μ-then t) then.Pre
-
-abbrev then-below : ℕ → In 2 ps-then
-then-below t = and 2 ps-then (falls 2 ps-then _<_ μ-then t) then.Pre
-
-abbrev pub read-u-at : ℕ → In 2 ps-u
-read-u-at t = and 2 ps-u (is 2 ps-u μ-read-u t) read-u.Pre
-
-abbrev read-u-below : ℕ → In 2 ps-u
-read-u-below t = and 2 ps-u (falls 2 ps-u _<_ μ-read-u t) read-u.Pre
+  abbrev below : ℕ → In 2 ps
+  below t = and 2 ps (falls 2 ps _<_ μ t) pre
 
 -- What each member asks of the functions that it calls, and learns from them.
 abbrev pub calls-atom : ℕ → Claims-atom
@@ -203,7 +140,7 @@ calls-atom t = (
   number-at.Learnt,
   is-test.Asked,
   is-test.Learnt,
-  prop-below t,
+  below ps-prop μ-prop prop.Pre t,
   prop.Post,
   push.Asked,
   push.Learnt,
@@ -217,13 +154,13 @@ calls-atom t = (
   is-count.Learnt,
   is-lead-count.Asked,
   is-lead-count.Learnt,
-  lag-below t,
+  below ps-lag μ-lag lag.Pre t,
   lag.Post,
 )
 
 abbrev pub calls-lag : ℕ → Claims-lag
 calls-lag t = (
-  prop-below t,
+  below ps-prop μ-prop prop.Pre t,
   prop.Post,
   number-at.Asked,
   number-at.Learnt,
@@ -241,7 +178,7 @@ calls-lag t = (
 
 abbrev pub calls-read-c : ℕ → Claims-c
 calls-read-c t = (
-  read-u-below t,
+  below ps-u μ-read-u read-u.Pre t,
   read-u.Post,
   number-at.Asked,
   number-at.Learnt,
@@ -253,7 +190,7 @@ calls-read-c t = (
 
 abbrev pub calls-chop : ℕ → Claims-chop
 calls-chop t = (
-  read-f-below t,
+  below ps-f μ-read-f read-f.Pre t,
   read-f.Post,
   push.Asked,
   push.Learnt,
@@ -263,7 +200,7 @@ calls-chop t = (
 
 abbrev pub calls-read-d : ℕ → Claims-d
 calls-read-d t = (
-  read-c-below t,
+  below ps-c μ-read-c read-c.Pre t,
   read-c.Post,
   number-at.Asked,
   number-at.Learnt,
@@ -279,7 +216,7 @@ calls-exists t = (
   number-at.Learnt,
   is-signal.Asked,
   is-signal.Learnt,
-  read-u-below t,
+  below ps-u μ-read-u read-u.Pre t,
   read-u.Post,
   push.Asked,
   push.Learnt,
@@ -289,19 +226,19 @@ calls-exists t = (
 
 abbrev pub calls-read-f : ℕ → Claims-f
 calls-read-f t = (
-  read-d-below t,
+  below ps-d μ-read-d read-d.Pre t,
   read-d.Post,
   number-at.Asked,
   number-at.Learnt,
-  then-below t,
+  below ps-then μ-then then.Pre t,
   then.Post,
-  chop-below t,
+  below ps-chop μ-chop chop.Pre t,
   chop.Post,
 )
 
 abbrev pub calls-not : ℕ → Claims-not
 calls-not t = (
-  read-u-below t,
+  below ps-u μ-read-u read-u.Pre t,
   read-u.Post,
   push.Asked,
   push.Learnt,
@@ -311,7 +248,7 @@ calls-not t = (
 
 abbrev pub calls-round : ℕ → Claims-round
 calls-round t = (
-  read-f-below t,
+  below ps-f μ-read-f read-f.Pre t,
   read-f.Post,
   number-at.Asked,
   number-at.Learnt,
@@ -321,7 +258,7 @@ abbrev pub calls-prop : ℕ → Claims-prop
 calls-prop t = (
   number-at.Asked,
   number-at.Learnt,
-  read-f-below t,
+  below ps-f μ-read-f read-f.Pre t,
   read-f.Post,
 )
 
@@ -329,7 +266,7 @@ abbrev pub calls-then : ℕ → Claims-then
 calls-then t = (
   push.Asked,
   push.Learnt,
-  read-f-below t,
+  below ps-f μ-read-f read-f.Pre t,
   read-f.Post,
   then-facts.Asked,
   then-facts.Learnt,
@@ -339,14 +276,14 @@ abbrev pub calls-read-u : ℕ → Claims-u
 calls-read-u t = (
   number-at.Asked,
   number-at.Learnt,
-  not-below t,
+  below ps-not μ-not not.Pre t,
   not.Post,
-  round-below t,
+  below ps-round μ-round round.Pre t,
   round.Post,
   leaf.Asked,
   leaf.Learnt,
-  exists-below t,
+  below ps-exists μ-exists exists.Pre t,
   exists.Post,
-  atom-below t,
+  below ps-atom μ-atom atom.Pre t,
   atom.Post,
 )

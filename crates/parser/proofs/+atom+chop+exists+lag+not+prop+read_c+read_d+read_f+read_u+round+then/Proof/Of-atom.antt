@@ -13,19 +13,20 @@ use Rattle.grammar.proofs.Words.{test-high, count-high}
 use Rattle.facts.specs.Facts.{atomFacts}
 use Rattle.parser.proofs.Steps
 use Rattle.parser.proofs.Stored.{Gave, Space, took, lost, fails}
-use Rattle.parser.proofs.Stored.{between, past-first, past-tree, fits-push, fits-tree}
+use Rattle.parser.proofs.Stored.{opening, past-first, past-tree, fits-push, fits-tree}
 use Rattle.parser.proofs.atom.Kinds.{ps, r}
 use Rattle.parser.proofs.atom.Reads as reads
 use Rattle.parser.proofs.+atom+chop+exists+lag+not+prop+read_c+read_d+read_f+read_u+round+then.Lts-atom as lts
 use Rattle.parser.proofs.+atom+chop+exists+lag+not+prop+read_c+read_d+read_f+read_u+round+then.Proof.Frame.{
   calls-atom,
-  atom-at,
+  μ-atom,
+  at,
 }
 
 module _ (t : ℕ) where
   -- A place or a need of the member, where its measure is t.
   abbrev Here : (lts.Claims → In 2 ps → Out 2 ps r → Type 0) → Type 0
-  Here place = place (calls-atom t) (atom-at t) reads.Post
+  Here place = place (calls-atom t) (at ps μ-atom reads.Pre t) reads.Post
 
   -- The places: the start; the word, where it is a test; the call of `prop`, and its tree;
   abbrev start : Here lts.After-number-at → Here lts.Start
@@ -90,7 +91,7 @@ module _ (t : ℕ) where
   test-requires c κs =
       let here = c .before in
       let s = test-space here in
-      (omega (arith, start (test-looked here) .pre .0), between s (omega arith))
+      (omega (arith, start (test-looked here) .pre .0), opening s (omega arith))
 
   test-no-p-length : Here lts.Need-same-length
   test-no-p-length c = c .before .before .before .before .prop .kept .1 .1 .1 .1 .0
@@ -173,7 +174,7 @@ module _ (t : ℕ) where
   count-requires c κs =
       let here = c .before in
       let s = count-space here in
-      (omega (arith, start (count-looked here) .pre .0), between s (omega arith))
+      (omega (arith, start (count-looked here) .pre .0), opening s (omega arith))
 
   count-no-p-length : Here lts.Need-same-length-4
   count-no-p-length c = c .before .before .before .before .prop2 .kept .1 .1 .1 .1 .0
@@ -248,9 +249,9 @@ module _ (t : ℕ) where
       (λ e. c .if4 .left (looked .number-at .ensures ∙ e))
 
   -- So the member meets its contract, if the calls with lower measures do.
-  pub met : {M : Type 1} → lts.Closed (calls-atom t) (atom-at t) reads.Post M
+  pub met : {M : Type 1} → lts.Closed (calls-atom t) (at ps μ-atom reads.Pre t) reads.Post M
   met =
-      lts.spec (calls-atom t) (atom-at t) reads.Post
+      lts.spec (calls-atom t) (at ps μ-atom reads.Pre t) reads.Post
       (λ c κs. search needs) (λ c κs. search needs) add-test test-requires (λ c. search needs)
       (λ c. search needs) test-no-p-length test-no-p sub-test add-test-kind test-fits is-lead-test-requires
       (λ c κs. search needs) test-p-length test-p add-len len-requires a-len-length a-len

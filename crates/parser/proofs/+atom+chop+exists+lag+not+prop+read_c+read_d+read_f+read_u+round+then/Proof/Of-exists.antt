@@ -18,13 +18,14 @@ use Rattle.parser.proofs.exists.Reads as reads
 use Rattle.parser.proofs.+atom+chop+exists+lag+not+prop+read_c+read_d+read_f+read_u+round+then.Lts-exists as lts
 use Rattle.parser.proofs.+atom+chop+exists+lag+not+prop+read_c+read_d+read_f+read_u+round+then.Proof.Frame.{
   calls-exists,
-  exists-at,
+  μ-exists,
+  at,
 }
 
 module _ (t : ℕ) where
   -- A place or a need of the member, where its measure is t.
   abbrev Here : (lts.Claims → In 2 ps → Out 2 ps r → Type 0) → Type 0
-  Here place = place (calls-exists t) (exists-at t) reads.Post
+  Here place = place (calls-exists t) (at ps μ-exists reads.Pre t) reads.Post
 
   -- The places: the start; the signal, the call of `read_u`, and its tree.
   abbrev start : Here lts.After-slice-known → Here lts.Start
@@ -131,8 +132,8 @@ module _ (t : ℕ) where
       (c .exists-facts .ensures)
 
   -- So the member meets its contract, if the calls with lower measures do.
-  pub met : {M : Type 1} → lts.Closed (calls-exists t) (exists-at t) reads.Post M
+  pub met : {M : Type 1} → lts.Closed (calls-exists t) (at ps μ-exists reads.Pre t) reads.Post M
   met =
-      lts.spec (calls-exists t) (exists-at t) reads.Post
+      lts.spec (calls-exists t) (at ps μ-exists reads.Pre t) reads.Post
       add-exists (λ c κs. search needs) (λ c κs. search needs) no-signal add-signal u-requires (λ c. search needs)
       (λ c. search needs) no-u-length no-u sub-signal fits (λ c κs. search needs) u-length u

@@ -1,5 +1,5 @@
--- The answers of the member `lag`: P between `[` and `,`, n, Q between `,` and `]`. The word `lag` leaves room for one
--- record, and the words around P and around Q leave room for two each; three are put. Assumes nothing.
+-- The answers of the member `lag`: P between `[` and `,`, n, Q between `,` and `]`. The words `lag` and n leave room for
+-- a record each, those around P and around Q for two each; three are put. Assumes nothing.
 use mathlib.Core.Bool.{true, false}
 use mathlib.Core.Path.{_≡_, sym, ap, _∙_}
 use Prim.Native.Nat.{ℕ, _+_}
@@ -13,20 +13,21 @@ use Rattle.grammar.specs.Parse.{word}
 use Rattle.grammar.specs.Parse.Goal.{goB}
 use Rattle.grammar.proofs.Position.{span, inside, num-pos}
 use Rattle.parser.proofs.Steps
-use Rattle.parser.proofs.Stored.{Gave, Space, took, lost, fails, between}
+use Rattle.parser.proofs.Stored.{Gave, Space, took, lost, fails, opening}
 use Rattle.parser.proofs.Stored.{past-first, past-between, past-push, past-word, fits-push}
 use Rattle.parser.proofs.lag.Kinds.{ps, r}
 use Rattle.parser.proofs.lag.Reads as reads
 use Rattle.parser.proofs.+atom+chop+exists+lag+not+prop+read_c+read_d+read_f+read_u+round+then.Lts-lag as lts
 use Rattle.parser.proofs.+atom+chop+exists+lag+not+prop+read_c+read_d+read_f+read_u+round+then.Proof.Frame.{
   calls-lag,
-  lag-at,
+  μ-lag,
+  at,
 }
 
 module _ (t : ℕ) where
   -- A place or a need of the member, where its measure is t.
   abbrev Here : (lts.Claims → In 2 ps → Out 2 ps r → Type 0) → Type 0
-  Here place = place (calls-lag t) (lag-at t) reads.Post
+  Here place = place (calls-lag t) (at ps μ-lag reads.Pre t) reads.Post
 
   -- The places: the start; the call for P, and its tree; that tree, where n is known to be one, and where the first
   -- record is put;
@@ -78,7 +79,7 @@ module _ (t : ℕ) where
   p-requires c κs =
       let here = c .before .before .before in
       let s = word-space here in
-      (omega (arith, here .pre .0), between s (omega arith))
+      (omega (arith, here .pre .0), opening s (omega arith))
 
   -- There is no P;
   no-p-length : Here lts.Need-same-length
@@ -147,7 +148,7 @@ module _ (t : ℕ) where
       let tree = n-tree (run-n run) in
       let s = n-space run in
       let moves = p-tree tree .part .spans .moves in
-      (omega (arith, p-start tree .pre .0), between s (omega arith))
+      (omega (arith, p-start tree .pre .0), opening s (omega arith))
 
   -- There is no Q;
   no-q-length : Here lts.Need-same-length-3
@@ -206,10 +207,10 @@ module _ (t : ℕ) where
       (fine .before .num-value .ensures) (fine .push2 .ensures) (last-push c .push3 .ensures) (c .atom-facts .ensures)
 
   -- So the member meets its contract, if the calls with lower measures do.
-  pub met : {M : Type 1} → lts.Closed (calls-lag t) (lag-at t) reads.Post M
+  pub met : {M : Type 1} → lts.Closed (calls-lag t) (at ps μ-lag reads.Pre t) reads.Post M
   met =
-      lts.spec (calls-lag t) (lag-at t) reads.Post
+      lts.spec (calls-lag t) (at ps μ-lag reads.Pre t) reads.Post
       add-p p-requires (λ c. search needs) (λ c. search needs) no-p-length no-p
       (λ c κs. search needs) (λ c κs. search needs) no-n-length no-n run-fits add-q q-requires
-      (λ c. search needs) (λ c. search needs) no-q-length no-q (λ c. omega arith) (λ c κs. search needs)
+      (λ c. search needs) (λ c. search needs) no-q-length no-q (λ c κs. search needs)
       num-value-requires fine-fits always-fits (λ c κs. search needs) lag-length a-lag

@@ -15,13 +15,14 @@ use Rattle.parser.proofs.not.Reads as reads
 use Rattle.parser.proofs.+atom+chop+exists+lag+not+prop+read_c+read_d+read_f+read_u+round+then.Lts-not as lts
 use Rattle.parser.proofs.+atom+chop+exists+lag+not+prop+read_c+read_d+read_f+read_u+round+then.Proof.Frame.{
   calls-not,
-  not-at,
+  μ-not,
+  at,
 }
 
 module _ (t : ℕ) where
   -- A place or a need of the member, where its measure is t.
   abbrev Here : (lts.Claims → In 2 ps → Out 2 ps r → Type 0) → Type 0
-  Here place = place (calls-not t) (not-at t) reads.Post
+  Here place = place (calls-not t) (at ps μ-not reads.Pre t) reads.Post
 
   -- The places: the start; the call of `read_u`, and its tree.
   abbrev start : Here lts.After-slice-known → Here lts.Start
@@ -89,7 +90,7 @@ module _ (t : ℕ) where
       (c .before .before .before .push .ensures) (c .not-facts .ensures)
 
   -- So the member meets its contract, if the calls with lower measures do.
-  pub met : {M : Type 1} → lts.Closed (calls-not t) (not-at t) reads.Post M
+  pub met : {M : Type 1} → lts.Closed (calls-not t) (at ps μ-not reads.Pre t) reads.Post M
   met =
-      lts.spec (calls-not t) (not-at t) reads.Post
+      lts.spec (calls-not t) (at ps μ-not reads.Pre t) reads.Post
       add-u u-requires (λ c. search needs) (λ c. search needs) no-u-length no-u fits facts-requires u-length u

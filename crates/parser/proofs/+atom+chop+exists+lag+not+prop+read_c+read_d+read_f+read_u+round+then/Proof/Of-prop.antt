@@ -16,13 +16,14 @@ use Rattle.parser.proofs.prop.Reads as reads
 use Rattle.parser.proofs.+atom+chop+exists+lag+not+prop+read_c+read_d+read_f+read_u+round+then.Lts-prop as lts
 use Rattle.parser.proofs.+atom+chop+exists+lag+not+prop+read_c+read_d+read_f+read_u+round+then.Proof.Frame.{
   calls-prop,
-  prop-at,
+  μ-prop,
+  at,
 }
 
 module _ (t : ℕ) where
   -- A place or a need of the member, where its measure is t.
   abbrev Here : (lts.Claims → In 2 ps → Out 2 ps r → Type 0) → Type 0
-  Here place = place (calls-prop t) (prop-at t) reads.Post
+  Here place = place (calls-prop t) (at ps μ-prop reads.Pre t) reads.Post
 
   -- The places: the start; the bracket that opens; the call of `read_f`, and its tree.
   abbrev start : Here lts.Else1 → Here lts.Start
@@ -72,7 +73,8 @@ module _ (t : ℕ) where
   empty : Here lts.Need-returns-2
   empty c =
       let at-call = c .before .before .before .before in
-      Steps.bracket-no (between _ _) (open-word (opening at-call)) (lost (at-call .read-f .ensures) (c .enum-told .given .1))
+      Steps.bracket-no (between _ _) (open-word (opening at-call))
+      (lost (at-call .read-f .ensures) (c .enum-told .given .1))
 
   -- it stays open;
   unclosed-length : Here lts.Need-same-length-2
@@ -101,8 +103,8 @@ module _ (t : ℕ) where
       (sym (c .before .number-at2 .ensures) ∙ c .if2 .left)
 
   -- So the member meets its contract, if the calls with lower measures do.
-  pub met : {M : Type 1} → lts.Closed (calls-prop t) (prop-at t) reads.Post M
+  pub met : {M : Type 1} → lts.Closed (calls-prop t) (at ps μ-prop reads.Pre t) reads.Post M
   met =
-      lts.spec (calls-prop t) (prop-at t) reads.Post
+      lts.spec (calls-prop t) (at ps μ-prop reads.Pre t) reads.Post
       (λ c κs. search needs) unopened add-read-f contents-requires (λ c. search needs) (λ c. search needs)
       empty-length empty (λ c κs. search needs) unclosed-length unclosed add-end closed-length closed

@@ -18,7 +18,8 @@ use Rattle.parser.proofs.read_d.Reads as reads
 use Rattle.parser.proofs.+atom+chop+exists+lag+not+prop+read_c+read_d+read_f+read_u+round+then.Lts-read_d as lts
 use Rattle.parser.proofs.+atom+chop+exists+lag+not+prop+read_c+read_d+read_f+read_u+round+then.Proof.Frame.{
   calls-read-d,
-  read-d-at,
+  μ-read-d,
+  at,
 }
 
 -- Whatever arena it was that the first part went into, the parts so far stand there.
@@ -34,7 +35,7 @@ abbrev μ-loop : lts.MeasureT-loop
 module _ (t : ℕ) where
   -- A place or a need of the member, where its measure is t.
   abbrev Here : (lts.Claims → In 2 ps → Out 2 ps r → lts.InvT-loop → lts.MeasureT-loop → Type 0) → Type 0
-  Here place = place (calls-read-d t) (read-d-at t) reads.Post Inv-loop μ-loop
+  Here place = place (calls-read-d t) (at ps μ-read-d reads.Pre t) reads.Post Inv-loop μ-loop
 
   -- The places: the start; the first call of `read_c`; the loop's head; the word that joins; the second call.
   abbrev start : Here lts.After-read-c → Here lts.Start
@@ -163,9 +164,9 @@ module _ (t : ℕ) where
       (λ e. c .if1 .left (c .before .number-at .ensures ∙ e))
 
   -- So the member meets its contract, if the calls with lower measures do.
-  pub met : {M : Type 1} → lts.Closed (calls-read-d t) (read-d-at t) reads.Post M
+  pub met : {M : Type 1} → lts.Closed (calls-read-d t) (at ps μ-read-d reads.Pre t) reads.Post M
   met =
-      lts.spec (calls-read-d t) (read-d-at t) reads.Post Inv-loop μ-loop
+      lts.spec (calls-read-d t) (at ps μ-read-d reads.Pre t) reads.Post Inv-loop μ-loop
       first-requires (λ c. search needs) (λ c. search needs) none-length none loop-holds
       (λ c κs. search needs) add-more more-requires (λ c. search needs) (λ c. search needs) missing-length
       missing more-fits join-facts-requires loop-less loop-again done-length done

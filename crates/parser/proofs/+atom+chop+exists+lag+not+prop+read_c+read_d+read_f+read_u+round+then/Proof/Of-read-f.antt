@@ -20,13 +20,14 @@ use Rattle.parser.proofs.read_f.Reads as reads
 use Rattle.parser.proofs.+atom+chop+exists+lag+not+prop+read_c+read_d+read_f+read_u+round+then.Lts-read_f as lts
 use Rattle.parser.proofs.+atom+chop+exists+lag+not+prop+read_c+read_d+read_f+read_u+round+then.Proof.Frame.{
   calls-read-f,
-  read-f-at,
+  μ-read-f,
+  at,
 }
 
 module _ (t : ℕ) where
   -- A place or a need of the member, where its measure is t.
   abbrev Here : (lts.Claims → In 2 ps → Out 2 ps r → Type 0) → Type 0
-  Here place = place (calls-read-f t) (read-f-at t) reads.Post
+  Here place = place (calls-read-f t) (at ps μ-read-f reads.Pre t) reads.Post
 
   -- The places: the start; the call of `read_d`, and its tree;
   abbrev start : Here lts.After-read-d → Here lts.Start
@@ -157,9 +158,9 @@ module _ (t : ℕ) where
       (λ e. c .if3 .left (looked .number-at .ensures ∙ e)))
 
   -- So the member meets its contract, if the calls with lower measures do.
-  pub met : {M : Type 1} → lts.Closed (calls-read-f t) (read-f-at t) reads.Post M
+  pub met : {M : Type 1} → lts.Closed (calls-read-f t) (at ps μ-read-f reads.Pre t) reads.Post M
   met =
-      lts.spec (calls-read-f t) (read-f-at t) reads.Post
+      lts.spec (calls-read-f t) (at ps μ-read-f reads.Pre t) reads.Post
       read-d-requires (λ c. search needs) (λ c. search needs) no-d-length no-d d-inside-length d-inside
       (λ c κs. search needs) then-requires then-length a-then chop-requires chop-length a-chop
       d-alone-length d-alone

@@ -15,13 +15,14 @@ use Rattle.parser.proofs.read_u.Reads as reads
 use Rattle.parser.proofs.+atom+chop+exists+lag+not+prop+read_c+read_d+read_f+read_u+round+then.Lts-read_u as lts
 use Rattle.parser.proofs.+atom+chop+exists+lag+not+prop+read_c+read_d+read_f+read_u+round+then.Proof.Frame.{
   calls-read-u,
-  read-u-at,
+  μ-read-u,
+  at,
 }
 
 module _ (t : ℕ) where
   -- A place or a need of the member, where its measure is t.
   abbrev Here : (lts.Claims → In 2 ps → Out 2 ps r → Type 0) → Type 0
-  Here place = place (calls-read-u t) (read-u-at t) reads.Post
+  Here place = place (calls-read-u t) (at ps μ-read-u reads.Pre t) reads.Post
 
   -- The places: the start; after a word that is neither `!` nor a round bracket; from the call of `atom`.
   abbrev start : Here lts.After-number-at → Here lts.Start
@@ -128,9 +129,9 @@ module _ (t : ℕ) where
       (λ e. other .if4 .left (here .before .before .number-at .ensures ∙ e)) (call .atom .ensures)
 
   -- So the member meets its contract, if the calls with lower measures do.
-  pub met : {M : Type 1} → lts.Closed (calls-read-u t) (read-u-at t) reads.Post M
+  pub met : {M : Type 1} → lts.Closed (calls-read-u t) (at ps μ-read-u reads.Pre t) reads.Post M
   met =
-      lts.spec (calls-read-u t) (read-u-at t) reads.Post
+      lts.spec (calls-read-u t) (at ps μ-read-u reads.Pre t) reads.Post
       (λ c κs. search needs) not-requires a-not-length a-not round-requires a-round-length a-round
       leaf-requires a-leaf-length a-leaf exists-requires an-exists-length an-exists
       atom-requires an-atom-length an-atom

@@ -16,13 +16,14 @@ use Rattle.parser.proofs.round.Reads as reads
 use Rattle.parser.proofs.+atom+chop+exists+lag+not+prop+read_c+read_d+read_f+read_u+round+then.Lts-round as lts
 use Rattle.parser.proofs.+atom+chop+exists+lag+not+prop+read_c+read_d+read_f+read_u+round+then.Proof.Frame.{
   calls-round,
-  round-at,
+  μ-round,
+  at,
 }
 
 module _ (t : ℕ) where
   -- A place or a need of the member, where its measure is t.
   abbrev Here : (lts.Claims → In 2 ps → Out 2 ps r → Type 0) → Type 0
-  Here place = place (calls-round t) (round-at t) reads.Post
+  Here place = place (calls-round t) (at ps μ-round reads.Pre t) reads.Post
 
   -- The places: the start; the call of `read_f`, and its tree.
   abbrev start : Here lts.After-slice-known → Here lts.Start
@@ -98,8 +99,8 @@ module _ (t : ℕ) where
       (sym (c .before .number-at .ensures) ∙ c .if1 .left)
 
   -- So the member meets its contract, if the calls with lower measures do.
-  pub met : {M : Type 1} → lts.Closed (calls-round t) (round-at t) reads.Post M
+  pub met : {M : Type 1} → lts.Closed (calls-round t) (at ps μ-round reads.Pre t) reads.Post M
   met =
-      lts.spec (calls-round t) (round-at t) reads.Post
+      lts.spec (calls-round t) (at ps μ-round reads.Pre t) reads.Post
       add-f f-requires (λ c. search needs) (λ c. search needs) no-f-length no-f (λ c κs. search needs)
       unclosed-length unclosed add-end closed-length closed

@@ -17,13 +17,14 @@ use Rattle.parser.proofs.then.Reads as reads
 use Rattle.parser.proofs.+atom+chop+exists+lag+not+prop+read_c+read_d+read_f+read_u+round+then.Lts-then as lts
 use Rattle.parser.proofs.+atom+chop+exists+lag+not+prop+read_c+read_d+read_f+read_u+round+then.Proof.Frame.{
   calls-then,
-  then-at,
+  μ-then,
+  at,
 }
 
 module _ (t : ℕ) where
   -- A place or a need of the member, where its measure is t.
   abbrev Here : (lts.Claims → In 2 ps → Out 2 ps r → Type 0) → Type 0
-  Here place = place (calls-then t) (then-at t) reads.Post
+  Here place = place (calls-then t) (at ps μ-then reads.Pre t) reads.Post
 
   -- The places: the start; the mark, the call of `read_f` after it, and its tree.
   abbrev start : Here lts.After-slice-known → Here lts.Start
@@ -111,8 +112,8 @@ module _ (t : ℕ) where
       (c .then-facts .ensures)
 
   -- So the member meets its contract, if the calls with lower measures do.
-  pub met : {M : Type 1} → lts.Closed (calls-then t) (then-at t) reads.Post M
+  pub met : {M : Type 1} → lts.Closed (calls-then t) (at ps μ-then reads.Pre t) reads.Post M
   met =
-      lts.spec (calls-then t) (then-at t) reads.Post
+      lts.spec (calls-then t) (at ps μ-then reads.Pre t) reads.Post
       mark-fits add-f f-requires (λ c. search needs) (λ c. search needs) no-f-length no-f fits facts-requires
       f-length f
