@@ -16,7 +16,6 @@ use Rattle.words.specs.Word.{isOp, isSignal, isNum, isBit, isTest, isCount}
 use Rattle.grammar.specs.Fragment.{hasWord}
 use Rattle.grammar.specs.Parse.{parse, read, treeOf}
 use Rattle.rules.specs.Limits.{deep, counted, operatorCount}
-use Rattle.lists.specs.Same.{same}
 use Rattle.rules.specs.Computed.{ruleOf, sameOf}
 use Rattle.rules.specs.declared.Same.the-variants.{No}
 use Rattle.rules.specs.Reading.Outcome.{rule}
@@ -60,5 +59,5 @@ further-runs = holds furtherTrials further-read further-counted further-meant
 -- SPEC 4.11: with n = 0 and with n = 1 a `lag` is not the same rule.
 pub lag-differs : sameOf (ruleOf (bytes "lag[s0,0,s1]")) (ruleOf (bytes "lag[s0,1,s1]")) ≡ No
 unfolding ruleOf splitOf words wordOf runOf run classOf keywordOf keywordAmong numberOf isDigit digitsAfter numeral
-    treeOf read parse isOp isSignal isNum isBit isTest isCount hasWord deep counted operatorCount same
+    treeOf read parse isOp isSignal isNum isBit isTest isCount hasWord deep counted operatorCount
 lag-differs = refl
