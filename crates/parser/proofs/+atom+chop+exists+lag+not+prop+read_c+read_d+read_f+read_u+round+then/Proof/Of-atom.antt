@@ -49,9 +49,12 @@ module _ (t : ℕ) where
   abbrev len-looked : Here lts.Then2 → Here lts.After-number-at
   len-looked c = c .before .before .before
 
-  -- the word, where it is a count; the call of `prop`, and its tree.
+  -- the word, where it is neither; where it is a count, the call of `prop`, and its tree;
+  abbrev other-looked : Here lts.Else2 → Here lts.After-number-at
+  other-looked c = c .before .before .before
+
   abbrev count-looked : Here lts.Then3 → Here lts.After-number-at
-  count-looked c = c .before .before .before .before .before
+  count-looked c = other-looked (c .before .before)
 
   abbrev at-count : Here lts.After-prop2 → Here lts.Then3
   at-count c = c .before .before
@@ -59,9 +62,9 @@ module _ (t : ℕ) where
   abbrev count-call : Here lts.After-known-told2 → Here lts.After-prop2
   count-call c = c .before .before .before .before .before
 
-  -- The word, where it is `lag`.
+  -- and where it is `lag`.
   abbrev lag-looked : Here lts.Then4 → Here lts.After-number-at
-  lag-looked c = let no-len = c .before .before .before in no-len .before .before .before
+  lag-looked c = other-looked (c .before .before .before)
 
   -- The first word, and the room after it.
   abbrev first : Here lts.After-number-at → ℕ

@@ -1,5 +1,5 @@
--- The answers of the member `lag`: P between `[` and `,`, n, Q between `,` and `]`. The words `lag` and n leave room for
--- a record each, those around P and around Q for two each; three are put. Assumes nothing.
+-- The answers of the member `lag`: P between `[` and `,`, n, Q between `,` and `]`. The words `lag` and n leave room
+-- for a record each, those around P and around Q for two each; three are put. Assumes nothing.
 use mathlib.Core.Bool.{true, false}
 use mathlib.Core.Path.{_≡_, sym, ap, _∙_}
 use Prim.Native.Nat.{ℕ, _+_}
