@@ -5,10 +5,10 @@ use Prim.Native.Nat.{ℕ, zero, suc, _+_, min}
 use lib.Dec.{ltb, leb}
 use lib.ListN.{set}
 use Rattle.traces.specs.declared.Tick.{Tick}
-use Rattle.traces.specs.Trace.{truth, nonzero, signalAt, parameterAt, starts}
+use Rattle.traces.specs.Trace.{truth, idleVerdict, nonzero, signalAt, parameterAt, starts}
 use Rattle.traces.specs.Compare.{opOf, compares}
 use Rattle.lists.specs.Number.{numberAt}
-use Rattle.tables.specs.Table.{isMemory, Equation, equationAt, Kind, kindAt, sortOf}
+use Rattle.tables.specs.Table.{isMemory, Equation, equationAt, Kind, kindAt, sortOf, startedOf, verdictOf}
 use Rattle.limits.specs.Limits.{truthCount}
 use Rattle.tables.specs.Table.Kind.{signal, start, constant, negation, conjunction, disjunction, booleanPre}
 use Rattle.tables.specs.Table.Kind.{countPre, capped, ifElse, compareLiteral, compareParameter, unknown}
@@ -48,6 +48,10 @@ oneMore cap t k state i before = before ++ (valueAt cap t k state before i ∷ [
 unfoldable pub flows : ℕ → List ℕ → Tick → List ℕ → ℕ → List ℕ
 flows cap t k state zero = []
 flows cap t k state (suc i) = oneMore cap t k state i (flows cap t k state i)
+
+-- SPEC 8.5: what a tick answers whose n flows are these: idle where the started flow is 0, else the verdict's flow.
+unfoldable pub answerOf : ℕ → (ℕ → ℕ) → ℕ
+answerOf n flow = cond (nonzero (flow (startedOf n))) (flow (verdictOf n)) idleVerdict
 
 -- Cell i of the state set to f i, if equation i is a memory.
 abbrev pub store : List ℕ → (ℕ → ℕ) → ℕ → List ℕ → List ℕ

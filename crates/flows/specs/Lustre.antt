@@ -4,12 +4,12 @@
 use mathlib.Core.Bool.{true}
 use mathlib.Core.List.{List, [], _∷_, _++_}
 use mathlib.Core.Path.{_≡_}
-use Prim.Native.Nat.{ℕ, zero, suc, _-_, _≤_, _<_}
+use Prim.Native.Nat.{ℕ, zero, suc, _≤_, _<_}
 use lib.ListN.{length, drop}
 use Rattle.traces.specs.declared.Tick.{Tick}
 use Rattle.traces.specs.Trace.{Trace, traceOf}
 use Rattle.tables.specs.Table.{equationAt, kindAt, sortOf}
-use Rattle.flows.specs.Flow.{valueOf, initialAt, inRange}
+use Rattle.flows.specs.Flow.{valueOf, answerOf, initialAt, inRange}
 use Rattle.flows.specs.Step.{AfterStep}
 use Rattle.flows.specs.Run.{Call, Taken, fromFresh, ticks, EachTick, CallsDecide}
 use Rattle.flows.specs.declared.Stepped.the-variants.{Verdict}
@@ -47,10 +47,10 @@ firsts f zero = []
 firsts f (suc n) = firsts f n ++ (f n ∷ [])
 
 -- SPEC 6.4: the step of the tick numbered k leaves the n flows in the lent values (SPEC 5.9), keeps what stood behind
--- them (SPEC 1.5), and answers the last.
+-- them (SPEC 1.5), and answers what they say.
 pub record Leaves (n : ℕ) (flow : ℕ → ℕ → ℕ) (k : ℕ) (s : Taken) : Type 0 where
   pub values : s .left .values ≡ firsts (flow k) n ++ drop n (s .call .values)
-  pub verdict : s .left .answer ≡ Verdict (flow k (n - 1))
+  pub answer : s .left .answer ≡ Verdict (answerOf n (flow k))
 
 -- SPEC 6.4, SPEC 12.2 (demand 2), of a table of n equations with counts up to the cap:
 pub record RunsAsLustre (cap : ℕ) (t : List ℕ) (n : ℕ) : Type 0 where

@@ -1,7 +1,7 @@
 -- The fresh state and the step with their refusals: the whole effect of a call as one record. Definitions only.
 use mathlib.Core.Bool.{Bool, not, _&&_, _||_}
 use mathlib.Core.List.{List, [], _∷_, _++_}
-use Prim.Native.Nat.{ℕ, _-_}
+use Prim.Native.Nat.{ℕ}
 use lib.Dec.{leb, ltb}
 use lib.ListN.{length, drop}
 use Rattle.traces.specs.declared.Tick.{Tick}
@@ -10,7 +10,7 @@ use Rattle.lists.specs.Number.{numberAt}
 use Rattle.tables.specs.Table.{all, Kind, kindAt, sortOf}
 use Rattle.limits.specs.Limits.{parameterCount}
 use Rattle.tables.specs.Table.{Test, test, firstFailed, tableTests}
-use Rattle.flows.specs.Flow.{flows, inRange, freshState, nextState}
+use Rattle.flows.specs.Flow.{flows, answerOf, inRange, freshState, nextState}
 use Rattle.tables.specs.Table.{isMemory}
 use Rattle.limits.specs.Reply.{Reply, gives, refused}
 use Rattle.tables.specs.declared.Checked.{Checked}
@@ -25,7 +25,7 @@ abbrev pub freshReply : Fresh → Reply
 freshReply Made = gives 0
 freshReply (NotMade r) = refused r
 
--- SPEC 8.5: the result is the verdict.
+-- SPEC 8.5: the result is the answer, 0, 1 or 2.
 abbrev pub stepReply : Stepped → Reply
 stepReply (Verdict v) = gives v
 stepReply (Refused r) = refused r
@@ -99,11 +99,11 @@ pub record AfterStep : Type 0 where
 abbrev pub afterStep : Stepped → List ℕ → List ℕ → AfterStep
 afterStep r state values = record { answer = r; state = state; values = values }
 
--- After a tick with the flows fs: the last one is the verdict, the values begin with them (SPEC 5.9), and what stands
--- behind is kept (SPEC 1.5).
+-- After a tick with the flows fs: they give the answer, the values begin with them (SPEC 5.9), and what stands behind
+-- is kept (SPEC 1.5).
 abbrev pub afterFlows : List ℕ → ℕ → List ℕ → List ℕ → List ℕ → AfterStep
 afterFlows t n state values fs =
-    afterStep (Verdict (numberAt fs (n - 1))) (nextState t fs n state) (fs ++ drop n values)
+    afterStep (Verdict (answerOf n (numberAt fs))) (nextState t fs n state) (fs ++ drop n values)
 
 -- After a step that is not refused.
 unfoldable pub afterTick : ℕ → List ℕ → ℕ → List ℕ → List ℕ → Tick → AfterStep

@@ -12,8 +12,8 @@ ghost use Rattle.limits.specs.Limits.{parameterCount, standardCap};
 ghost use Rattle.traces.specs.Trace.{truth, nonzero, parameterAt, bit};
 ghost use Rattle.traces.specs.Compare.{opOf, compares};
 ghost use Rattle.lists.specs.Number.{numberAt};
-ghost use Rattle.tables.specs.Table.{all, kindOf, sortOf, equationAt, kindAt};
-ghost use Rattle.flows.specs.Flow.{increased, valueOf, flows, initial, inRange, freshState, nextState};
+ghost use Rattle.tables.specs.Table.{all, kindOf, sortOf, equationAt, kindAt, closingCount};
+ghost use Rattle.flows.specs.Flow.{increased, valueOf, flows, answerOf, initial, inRange, freshState, nextState};
 ghost use Rattle.flows.specs.Step.{parameterFits, cellFits, cellsFit, freshChecked, stepChecked};
 ghost use Rattle.flows.specs.Step.{afterFresh, freshened, afterStep, afterTick, stepped};
 
@@ -293,16 +293,27 @@ fn check_step(
     Checked::Passed
 }
 
-// A step that is not refused: its verdict.
+// What n flows answer: idle where the started flow is 0, else the verdict's flow.
+fn answer_of(flows: &[u32], n: usize) -> u32
+    requires { ⌜ (closingCount ≤ n) × (n ≤ length (now flows)) ⌝ }
+    ensures { λ r. ⌜ r ≡ answerOf n (numberAt (now (flows .entry))) ⌝ }
+{
+    if flows[n - tables::CLOSING] == 0 {
+        return traces::IDLE;
+    }
+    flows[n - 1]
+}
+
+// A step that is not refused: its answer.
 fn run(cap: u32, table: &[u32], n: usize, state: &mut [u32], values: &mut [u32], tick: Tick) -> u32
-    requires { ⌜ (0 < n) × (4 * n ≤ length (now table)) × (n ≤ length (now state)) × (n ≤ length (now values)) ⌝ }
+    requires { ⌜ (closingCount ≤ n) × (4 * n ≤ length (now table)) × (n ≤ length (now state)) × (n ≤ length (now values)) ⌝ }
     ensures { λ r. ⌜ afterStep (Stepped.Verdict r) (now (state .exit)) (now (values .exit))
         ≡ afterTick cap (now (table .entry)) n (now (state .entry)) (now (values .entry)) tick ⌝ }
 {
     fill(cap, table, n, state, values, tick);
     let flows = &values[..n];
     advance(table, n, state, flows);
-    flows[n - 1]
+    answer_of(flows, n)
 }
 
 // Makes a fresh state.
@@ -335,7 +346,7 @@ pub fn step_checked(table: &[u32], n: usize, state: &[u32], values: &[u32], tick
     check_step(limits::CAP, table, n, state, values, tick)
 }
 
-// A step that is known to have no refusal: its verdict. After `step_checked` has passed, every further step with the
+// A step that is known to have no refusal: its answer. After `step_checked` has passed, every further step with the
 // same parameters is such a step.
 pub fn step_passed(
     table: &[u32],

@@ -6,7 +6,7 @@ use mathlib.Core.Logic.{_↔_, _⊎_}
 use mathlib.Core.Path.{_≡_}
 use Prim.Native.Nat.{ℕ, suc, _+_, _-_, _≤_, _<_}
 use lib.ListN.{getD}
-use Rattle.traces.specs.Trace.{Trace, bit}
+use Rattle.traces.specs.Trace.{Trace, idleVerdict, bit}
 use Rattle.traces.specs.Compare.{Op}
 use Rattle.traces.specs.Compare.Op.{le, lt, eq, gt, ge}
 use Rattle.formulas.specs.Formula.{Num, Prop, Formula}
@@ -87,7 +87,7 @@ module _ (trace : Trace) where
     pub not-on : (f : Formula) (b e : ℕ) → On (neg f) b e ↔ ¬ On f b e
     pub and-on : (f g : Formula) (b e : ℕ) → On (and f g) b e ↔ On f b e × On g b e
     pub or-on : (f g : Formula) (b e : ℕ) → On (or f g) b e ↔ On f b e ⊎ On g b e
-    -- SPEC 4.10: the verdict from the latest start on, and without a start.
+    -- SPEC 4.10: the verdict from the latest start on; idle exactly where there is no start yet.
     pub verdict-one : (f : Formula) (b e : ℕ) → Latest b e → On f b e → verdict f e ≡ 1
     pub verdict-zero : (f : Formula) (b e : ℕ) → Latest b e → ¬ On f b e → verdict f e ≡ 0
-    pub verdict-before : (f : Formula) (e : ℕ) → ((i : ℕ) → i ≤ e → ¬ Starts i) → verdict f e ≡ 1
+    pub verdict-idle : (f : Formula) (e : ℕ) → (verdict f e ≡ idleVerdict) ↔ ((i : ℕ) → i ≤ e → ¬ Starts i)

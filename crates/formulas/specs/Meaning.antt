@@ -4,7 +4,7 @@ use mathlib.Core.Option.{Option, none, some}
 use Prim.Native.Nat.{ℕ, zero, suc, _-_}
 use lib.Dec.{eqb, ltb, leb}
 use Rattle.traces.specs.declared.Tick.{Tick}
-use Rattle.traces.specs.Trace.{Trace, signalAt, parameterAt, starts, truth}
+use Rattle.traces.specs.Trace.{Trace, signalAt, parameterAt, starts, truth, idleVerdict}
 use Rattle.traces.specs.Compare.{compares}
 use Rattle.formulas.specs.Formula.{Num, Prop, Formula}
 use Rattle.formulas.specs.Formula.Num.{literal, parameter}
@@ -84,9 +84,9 @@ module _ (trace : Trace) where
   latest zero = cond (starts (trace zero)) (some zero) none
   latest (suc e) = cond (starts (trace (suc e))) (some (suc e)) (latest e)
 
-  -- SPEC 4.10: without a start 1, else what holds from that start on.
+  -- SPEC 4.10: without a start idle, else what holds from that start on.
   abbrev pub since : (ℕ → Bool) → Option ℕ → ℕ
-  since on none = 1
+  since on none = idleVerdict
   since on (some b) = truth (on b)
 
   -- SPEC 4.10: the verdict at tick e.

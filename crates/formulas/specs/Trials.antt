@@ -57,7 +57,7 @@ trials =
     ∷ trial "len < 0 then len = 0" (then (len lt (literal 0)) (len eq (literal 0))) 3 first (five 0 0 0 0 0)
     ∷ trial "!(len <= 1 then len <= 1)" (neg (then (len le (literal 1)) (len le (literal 1)))) 4 first
     (five 1 1 0 0 1)
-    ∷ trial "len >= 1" (len ge (literal 1)) 1 (five 0 1 0 1 0) (five 1 0 1 0 1)
+    ∷ trial "len >= 1" (len ge (literal 1)) 1 (five 0 1 0 1 0) (five 2 0 1 0 1)
     ∷ trial "sum[s0] > k0" (count sum s0 gt (parameter 0)) 1 first (five 0 1 1 1 1)
     ∷ trial "len <= 0 then end[1]" (then (len le (literal 0)) (test end (constant true))) 3 (five 1 0 0 1 0)
     (five 0 1 1 0 1)
@@ -68,7 +68,8 @@ trials =
 -- breaks off, and one that a start cuts; a lead that falls late; a `then` in a `then`. The rows of SPEC 14.5: `lag` by
 -- itself, with n = 0 and as a lead, and the rule that is taken for `lag[s0,2,!s1]` and differs from it, since `age`
 -- counts the present tick. More of `lag`: P not from the start on; Q missing only where it is due a second time; a
--- start that ends what was false, and one that cuts a run of P; a parameter; under `!`; as a second part.
+-- start that ends what was false, and one that cuts a run of P; a parameter; under `!`; as a second part. Idle: no
+-- start at all, and a `!`, which leaves it as it is.
 abbrev pub furtherTrials : List Trial
 furtherTrials =
     trial "end[!s0]" (test end (negP s0)) 1 first (five 0 0 1 0 0)
@@ -84,7 +85,7 @@ furtherTrials =
     ∷ trial "end[s0 | s1 & 0]" (test end (orP s0 (andP s1 (constant false)))) 1 first (five 1 1 0 1 1)
     ∷ trial "begin[s1]" (test begin s1) 1 (five 1 0 1 0 0) (five 0 0 1 1 1)
     ∷ trial "held[s0]" (test held s0) 1 (five 1 0 0 1 0) (five 0 1 1 0 1)
-    ∷ trial "len = 1" (len eq (literal 1)) 1 (five 0 0 1 0 0) (five 1 1 0 1 0)
+    ∷ trial "len = 1" (len eq (literal 1)) 1 (five 0 0 1 0 0) (five 2 2 0 1 0)
     ∷ trial "sum[!s0] >= 1" (count sum (negP s0) ge (literal 1)) 1 first (five 0 0 0 1 1)
     ∷ trial "age[s0] = 1" (count age s0 eq (literal 1)) 1 first (five 1 0 0 1 0)
     ∷ trial "age[s0] >= 2" (count age s0 ge (literal 2)) 1 (five 1 0 0 0 1) (five 0 1 0 0 0)
@@ -107,6 +108,8 @@ furtherTrials =
     ∷ trial "!lag[s0,2,!s1]" (neg (lag s0 (literal 2) (negP s1))) 2 first (five 0 0 1 1 1)
     ∷ trial "len <= 0 then lag[s0,1,!s1]" (then (len le (literal 0)) (lag s0 (literal 1) (negP s1))) 3 first
     (five 0 1 0 0 0)
+    ∷ trial "end[s0]" (test end s0) 1 (five 0 0 0 0 0) (five 2 2 2 2 2)
+    ∷ trial "!end[s0]" (neg (test end s0)) 2 (five 0 0 1 0 0) (five 2 2 1 0 0)
     ∷ []
 
 -- No row: what stands past the last one.

@@ -51,7 +51,7 @@ equationLimit = 4096
 -- SPEC 12.6: the most equations that a rule's observer has. No rule has more (crates/observers/proofs/Widest.antt), and
 -- one has as many (Reached.antt there).
 abbrev pub ruleEquations : ℕ
-ruleEquations = 620
+ruleEquations = 619
 
 -- SPEC 7.9: the numbers that a table lent for a result needs, four for each equation (SPEC 5.6).
 abbrev pub tableRoom : ℕ

@@ -14,7 +14,7 @@ use Rattle.traces.specs.Compare.Op.{le, lt, eq, gt, ge}
 use Rattle.limits.specs.Limits.{equationLimit, lastLiteral}
 use Rattle.tables.specs.Kind.{SIGNAL, START, CONSTANT, NOT, AND, OR, BOOLEAN-PRE, COUNT-PRE, CAPPED, IF}
 use Rattle.tables.specs.Kind.{COMPARE-LITERAL, COMPARE-PARAMETER}
-use Rattle.tables.specs.Table.{Equation, equation, equationAt, Kind, kindOf}
+use Rattle.tables.specs.Table.{Equation, equation, equationAt, Kind, kindOf, closingCount, startedOf, verdictOf}
 use Rattle.tables.specs.Table.Kind.{signal, start, constant, negation, conjunction, disjunction, booleanPre}
 use Rattle.tables.specs.Table.Kind.{countPre, capped, ifElse, compareLiteral, compareParameter, unknown}
 use Rattle.lustre.specs.Numerals.{numberText}
@@ -26,9 +26,13 @@ use Rattle.lustre.specs.declared.Form.{Form}
 abbrev pub equationOf : Numbers → Equation
 equationOf e = equation (e .kind) (e .a) (e .b) (e .c)
 
--- The number i where A stands, as in `fN=` and in `a=fN;`.
+-- The number i where A stands, as in `fN=`.
 abbrev pub own : ℕ → Equation
 own i = equation 0 i 0 0
+
+-- The numbers of the last two of n flows where A and B stand, as in `w=fN;` and in `a=fN;`.
+abbrev pub lastTwo : ℕ → Equation
+lastTwo n = equation 0 (startedOf n) (verdictOf n) 0
 
 -- The letters that stand for numbers.
 abbrev pub letterA : ℕ
@@ -175,9 +179,9 @@ pub record Plain (e : Equation) : Type 0 where
   pub known : formOf e < formCount
   pub fits : Fits (formAt (formOf e)) e
 
--- A table of as many equations as SPEC 5.6 admits, all of which have forms.
+-- A table of as many equations as SPEC 5.5 and SPEC 5.6 admit, all of which have forms.
 pub record PlainTable (t : List ℕ) (n : ℕ) : Type 0 where
-  pub some : 0 < n
+  pub closed : closingCount ≤ n
   pub few : n ≤ equationLimit
   pub plain : (j : ℕ) → j < n → Plain (equationAt t j)
 

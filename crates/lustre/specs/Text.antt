@@ -1,12 +1,12 @@
 -- The Lustre text of a table, chapter 9 of the specification. Definitions only.
 use mathlib.Core.Bool.{Bool, true, false}
 use mathlib.Core.List.{List, [], _++_}
-use Prim.Native.Nat.{ℕ, zero, suc, _-_}
+use Prim.Native.Nat.{ℕ, zero, suc}
 use Rattle.lists.specs.Text.{bytes}
 use Rattle.traces.specs.Trace.{nonzero}
 use Rattle.traces.specs.Compare.{Op, opOf}
 use Rattle.traces.specs.Compare.Op.{le, lt, eq, gt, ge}
-use Rattle.tables.specs.Table.{Equation, equationAt, Kind, kindOf}
+use Rattle.tables.specs.Table.{Equation, equationAt, Kind, kindOf, startedOf, verdictOf}
 use Rattle.tables.specs.Table.Kind.{signal, start, constant, negation, conjunction, disjunction, booleanPre}
 use Rattle.tables.specs.Table.Kind.{countPre, capped, ifElse, compareLiteral, compareParameter, unknown}
 use Rattle.lustre.specs.Numerals.{numberText}
@@ -58,10 +58,10 @@ unfoldable pub lines : List ℕ → ℕ → List ℕ
 lines t zero = []
 lines t (suc i) = lines t i ++ lineText i (equationAt t i)
 
--- SPEC 9.1: the two last lines, `a=` with the name of the last flow, and `tel`.
+-- SPEC 9.1: the three last lines, `w=` with the name of the started flow, `a=` with that of the verdict, and `tel`.
 unfoldable pub foot : ℕ → List ℕ
-foot n = bytes "a=" ++ flow (n - 1) ++ bytes ";\ntel\n"
+foot n = bytes "w=" ++ flow (startedOf n) ++ bytes ";\na=" ++ flow (verdictOf n) ++ bytes ";\ntel\n"
 
--- SPEC 9.1: `let`, the equations' lines, and the two last ones.
+-- SPEC 9.1: `let`, the equations' lines, and the three last ones.
 unfoldable pub textOf : List ℕ → ℕ → List ℕ
 textOf t n = bytes "let\n" ++ lines t n ++ foot n

@@ -3,9 +3,10 @@
 // operations promise; they stand in the crates `lustre_write` and `lustre_read`. The forms of a line, which the one
 // writer and the one reader both walk, are here.
 ghost use mathlib.Core.Path.{_≡_};
-ghost use Prim.Native.Nat.{_<_};
+ghost use Prim.Native.Nat.{_≤_, _<_};
 ghost use Rattle.limits.specs.Limits.{equationLimit};
-ghost use Rattle.lustre.specs.Form.{equationOf, own, letter?, forms, formCount, formAt};
+ghost use Rattle.tables.specs.Table.{closingCount};
+ghost use Rattle.lustre.specs.Form.{equationOf, own, lastTwo, letter?, forms, formCount, formAt};
 
 // What writing answers: the length of the text in bytes, or the number of a refusal.
 pub enum Written {
@@ -329,7 +330,7 @@ pub fn is_letter(x: u8) -> bool
     if b'A' <= x { x <= b'C' } else { false }
 }
 
-// Numbers that stand for i alone, as in `fN=` and in `a=fN;`.
+// Numbers that stand for i alone, as in `fN=`.
 pub fn only(i: usize) -> Numbers
     requires { ⌜ i < equationLimit ⌝ }
     ensures { λ r. ⌜ equationOf r ≡ own i ⌝ }
@@ -338,6 +339,19 @@ pub fn only(i: usize) -> Numbers
         kind: 0,
         a: i as u32,
         b: 0,
+        c: 0,
+    }
+}
+
+// The numbers of the last two of n flows, as in `w=fN;` and in `a=fN;`.
+pub fn last_two(n: usize) -> Numbers
+    requires { ⌜ (closingCount ≤ n) × (n ≤ equationLimit) ⌝ }
+    ensures { λ r. ⌜ equationOf r ≡ lastTwo n ⌝ }
+{
+    Numbers {
+        kind: 0,
+        a: (n - tables::CLOSING) as u32,
+        b: (n - 1) as u32,
         c: 0,
     }
 }

@@ -195,7 +195,7 @@ fn read_proposal(text: &[u8], table: &mut [u32]) -> Proposal
     let lines = read_lines(text, p, table);
     let n = lines.n;
     let q = lines.next;
-    let tail = scan_form(b"a=fA;\ntel\n", text, q, only(0));
+    let tail = scan_form(b"w=fA;\na=fB;\ntel\n", text, q, only(0));
     let Scan::Found {
         numbers: last,
         next: end,
@@ -206,7 +206,10 @@ fn read_proposal(text: &[u8], table: &mut [u32]) -> Proposal
     if end < text.len() {
         return Proposal::Nothing;
     }
-    if last.a as usize + 1 != n {
+    if last.a as usize + tables::CLOSING != n {
+        return Proposal::Nothing;
+    }
+    if last.b as usize + 1 != n {
         return Proposal::Nothing;
     }
     Proposal::Table(n)

@@ -5,6 +5,7 @@ use lustre::Numbers;
 use lustre::Written;
 use lustre::form_at;
 use lustre::is_letter;
+use lustre::last_two;
 use lustre::only;
 use tables::Checked;
 use tables::check_table;
@@ -157,12 +158,11 @@ fn write_text(table: &[u32], n: usize, out: &mut [u8]) -> usize
     ensures { λ r. ⌜ Placed (formRoom + lineRoom * n + formRoom) (textOf (now (table .entry)) n)
         (now (out .entry)) (now (out .exit)) r ⌝ }
 {
-    let last = n - 1;
     let p = write_form(b"let\n", only(0), out);
     let q = lists::least(p, out.len());
     let s = p + write_lines(table, n, &mut out[q..]);
     let u = lists::least(s, out.len());
-    s + write_form(b"a=fA;\ntel\n", only(last), &mut out[u..])
+    s + write_form(b"w=fA;\na=fB;\ntel\n", last_two(n), &mut out[u..])
 }
 
 // The text of a well-formed table, if the buffer has room for it. How long the text is shows before its first byte is

@@ -319,18 +319,18 @@ const THEN_NODE: Node = Node {
     idle: PREVIOUS,
 };
 
-// The whole rule: started = s or pre started; verdict = (not started) or P.
+// The whole rule: started = s or pre started; verdict = started and P.
 const WHOLE_NODE: Node = Node {
-    count: 4,
+    count: 3,
     rows: [
         Row(tables::BOOLEAN_PRE as u8, SECOND, NOUGHT, NOUGHT),
         Row(tables::OR as u8, START, FIRST, NOUGHT),
-        Row(tables::NOT as u8, SECOND, NOUGHT, NOUGHT),
-        Row(tables::OR as u8, THIRD, LAST, NOUGHT),
+        Row(tables::AND as u8, SECOND, LAST, NOUGHT),
+        NO_ROW,
         NO_ROW,
     ],
     takes: 1,
-    result: FOURTH,
+    result: THIRD,
     idle: IDLE,
 };
 

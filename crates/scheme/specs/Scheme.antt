@@ -113,9 +113,9 @@ leadEndRows =
 abbrev pub thenRows : List Row
 thenRows = one BOOLEAN-PRE Third ∷ two OR Start First ∷ two AND Previous Second ∷ two AND Third Last ∷ []
 
--- started = s or pre started; verdict = (not started) or P
+-- started = s or pre started; verdict = started and P
 abbrev pub wholeRows : List Row
-wholeRows = one BOOLEAN-PRE Second ∷ two OR Start First ∷ one NOT Second ∷ two OR Third Last ∷ []
+wholeRows = one BOOLEAN-PRE Second ∷ two OR Start First ∷ two AND Second Last ∷ []
 
 -- The most rows that a node has.
 abbrev pub widest : ℕ
@@ -193,7 +193,7 @@ abbrev pub thenNode : Node
 thenNode = node thenRows 2 Fourth Previous
 
 abbrev pub wholeNode : Node
-wholeNode = node wholeRows 1 Fourth Idle
+wholeNode = node wholeRows 1 Third Idle
 
 -- In the order of the kinds of records (formulas, specs/Arena.antt), the whole rule's last.
 abbrev pub nodeList : List Node

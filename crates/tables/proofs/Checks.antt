@@ -10,12 +10,11 @@ use lib.ListN.{length}
 use borrow.Author.Tests.{le-ltb, lt-ltb, lt-leb, le-leb, ltb-true, leb-true}
 use Rattle.lists.specs.Number.{numberAt}
 use Rattle.tables.specs.Kind.{kindCount}
-use Rattle.tables.specs.Table.{all, equationAt, equationFits, operandFits, shapeFits, shapeOf, kindOf, kindAt}
-use Rattle.tables.specs.Table.{sortOf, sameSort}
+use Rattle.tables.specs.Table.{all, equationAt, equationFits, operandFits, shapeFits, shapeOf, kindOf}
 use Rattle.limits.specs.Limits.{equationLimit}
+use Rattle.tables.specs.Table.{closingCount, startedOf, verdictOf, booleanAt, closes}
 use Rattle.tables.specs.Table.{lengthFits, equationsFit, Test, firstFailed}
 use Rattle.tables.specs.Table.{tableTests, checked}
-use Rattle.tables.specs.declared.Sort.the-variants.{Boolean}
 use Rattle.tables.specs.declared.Operand.{Operand}
 use Rattle.tables.specs.declared.Checked.{Checked}
 use Rattle.tables.specs.declared.Checked.the-variants.{Passed, Refused}
@@ -43,7 +42,7 @@ passed-one false x r e = (cc, cc)
 
 -- A table that passes its tests.
 pub record Fitting (t : List ℕ) (n : ℕ) : Type 0 where
-  pub some : 0 < n
+  pub closed : closingCount ≤ n
   pub few : n ≤ equationLimit
   pub whole : 4 * n ≤ length t
   pub equations : all (equationFits t n) n ≡ true
@@ -61,20 +60,30 @@ module _ (t : List ℕ) (n : ℕ) where
   unfolding checked lengthFits
   too-short g h k = rw (lt-ltb 0 n g, le-leb n equationLimit h, lt-leb (4 * n) (length t) k)
 
-  -- A table that is long enough, by whether its equations fit and whether the last one is boolean.
+  -- How a table closes: not with fewer than two equations; else by the sorts of these two.
+  pub no-closing : n < closingCount → false ≡ closes t n
+  unfolding closes
+  no-closing h = rw (lt-leb closingCount n h)
+
+  pub closing-by : closingCount ≤ n → (a b : Bool) → booleanAt t (startedOf n) ≡ a → booleanAt t (verdictOf n) ≡ b
+      → (a && b) ≡ closes t n
+  unfolding closes
+  closing-by h a b e f = rw (le-leb closingCount n h, e, f)
+
+  -- A table that is long enough, by whether its equations fit and whether it closes as it has to.
   pub long-enough : 0 < n → n ≤ equationLimit → 4 * n ≤ length t → (b l : Bool) → all (equationFits t n) n ≡ b
-      → sameSort (sortOf (kindAt t (n - 1))) Boolean ≡ l → checked t n ≡ cond (b && l) Passed (Refused 11)
+      → closes t n ≡ l → checked t n ≡ cond (b && l) Passed (Refused 11)
   unfolding checked lengthFits equationsFit
   long-enough g h k b l e f =
       rw (lt-ltb 0 n g, le-leb n equationLimit h, le-leb (4 * n) (length t) k, e, f)
 
   fitting : lengthFits t n ≡ true → equationsFit t n ≡ true → Fitting t n
-  unfolding lengthFits equationsFit
+  unfolding lengthFits equationsFit closes
   fitting e f =
       let p = and-true (ltb 0 n) _ e in
       let q = and-true (leb n equationLimit) _ (p .1) in
       record {
-        some = ltb-true 0 n (p .0);
+        closed = leb-true closingCount n (and-true (leb closingCount n) _ (and-true (all (equationFits t n) n) _ f .1) .0);
         few = leb-true n equationLimit (q .0);
         whole = leb-true (4 * n) (length t) (q .1);
         equations = and-true (all (equationFits t n) n) _ f .0;

@@ -135,9 +135,27 @@ equationFits t n i = shapeFits t n i (shapeOf (kindAt t i)) (equationAt t i)
 unfoldable pub lengthFits : List ℕ → ℕ → Bool
 lengthFits t n = ltb 0 n && (leb n equationLimit && leb (4 * n) (length t))
 
--- The test of refusal 11 (SPEC 7.11): each equation keeps the rules of its kind, and the verdict is boolean (SPEC 5.5).
+-- SPEC 5.5: how many equations close a table, the started flow's and then the verdict's; which of n these are.
+abbrev pub closingCount : ℕ
+closingCount = 2
+
+abbrev pub startedOf : ℕ → ℕ
+startedOf n = n - closingCount
+
+abbrev pub verdictOf : ℕ → ℕ
+verdictOf n = n - 1
+
+-- The flow of equation i is boolean.
+abbrev pub booleanAt : List ℕ → ℕ → Bool
+booleanAt t i = sameSort (sortOf (kindAt t i)) Boolean
+
+-- SPEC 5.5: there are two equations that close the table, and both of their flows are boolean.
+unfoldable pub closes : List ℕ → ℕ → Bool
+closes t n = leb closingCount n && (booleanAt t (startedOf n) && booleanAt t (verdictOf n))
+
+-- The test of refusal 11 (SPEC 7.11): each equation keeps the rules of its kind, and the last two those of SPEC 5.5.
 unfoldable pub equationsFit : List ℕ → ℕ → Bool
-equationsFit t n = all (equationFits t n) n && sameSort (sortOf (kindAt t (n - 1))) Boolean
+equationsFit t n = all (equationFits t n) n && closes t n
 
 -- A test and the refusal of a call that fails it.
 pub record Test : Type 0 where

@@ -6,7 +6,7 @@ ghost use Prim.Native.Nat.{_*_, _≤_, _<_};
 ghost use lib.ListN.{length};
 ghost use Rattle.tables.specs.Kind.{kindCount};
 ghost use Rattle.tables.specs.Table.{all, kindOf, shapeOf, sortOf, sameSort, isMemory, isFlow, operandFits};
-ghost use Rattle.tables.specs.Table.{equationAt, equationFits, checked};
+ghost use Rattle.tables.specs.Table.{equationAt, equationFits, closes, checked};
 
 // The sort of a flow.
 pub enum Sort {
@@ -67,6 +67,9 @@ pub const COMPARE_PARAMETER: u32 = 11;
 
 // How many kinds there are.
 pub const KIND_COUNT: usize = 12;
+
+// SPEC 5.5: how many equations close a table, the started flow's and then the verdict's.
+pub const CLOSING: usize = 2;
 
 // The table of kinds (SPEC 5.3, SPEC 12.5): a row for each, by its number.
 const KINDS: [Shape; KIND_COUNT] = [
@@ -339,6 +342,20 @@ fn equations_fit(table: &[u32], n: usize) -> bool
     true
 }
 
+// Whether the two equations that close a table are there, and both of their flows are boolean.
+fn closes(table: &[u32], n: usize) -> bool
+    requires { ⌜ 4 * n ≤ length (now table) ⌝ }
+    ensures { λ r. ⌜ r ≡ closes (now (table .entry)) n ⌝ }
+{
+    if n < CLOSING {
+        return false;
+    }
+    if is_count(table[4 * (n - CLOSING)]) {
+        return false;
+    }
+    !is_count(table[4 * (n - 1)])
+}
+
 // The check of a table of n equations: refusals 10 and 11.
 pub fn check_table(table: &[u32], n: usize) -> Checked
     ensures { λ r. ⌜ r ≡ checked (now (table .entry)) n ⌝ }
@@ -355,7 +372,7 @@ pub fn check_table(table: &[u32], n: usize) -> Checked
     if !equations_fit(table, n) {
         return Checked::Refused(11);
     }
-    if is_count(table[4 * (n - 1)]) {
+    if !closes(table, n) {
         return Checked::Refused(11);
     }
     Checked::Passed

@@ -10,6 +10,10 @@ abbrev pub truth : Bool → ℕ
 truth true = 1
 truth false = 0
 
+-- SPEC 4.10: the verdict of a watch that has not been started yet, idle.
+abbrev pub idleVerdict : ℕ
+idleVerdict = 2
+
 -- A number as a truth value: 0 alone is no (SPEC 1.1).
 abbrev pub nonzero : ℕ → Bool
 nonzero zero = false

@@ -13,6 +13,9 @@ pub const ABOVE: u32 = 3;
 
 pub const AT_LEAST: u32 = 4;
 
+// SPEC 4.10: the verdict of a watch that has not been started yet, idle.
+pub const IDLE: u32 = 2;
+
 // One tick of a trace (SPEC 1.1): the start, which 0 alone is not, a bit for each signal, and the parameters.
 pub struct Tick {
     pub start: u32,

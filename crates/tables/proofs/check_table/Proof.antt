@@ -2,13 +2,10 @@
 -- it are passed. Assumes nothing.
 use mathlib.Core.Path.{_≡_, refl, sym, ap, _∙_}
 use mathlib.Core.Bool.{Bool, true, false, not, _&&_, cond}
-use Prim.Native.Nat.{_-_}
 use native.Mathlib.Omega.{arith}
 use borrow.Author.Tests.{not-true, not-false}
-use Rattle.tables.specs.Table.{all, equationFits, kindAt, sortOf, sameSort, checked}
-use Rattle.tables.specs.declared.Sort.the-variants.{Boolean}
+use Rattle.tables.specs.Table.{all, equationFits, closes, checked}
 use Rattle.tables.specs.declared.Checked.the-variants.{Passed, Refused}
-use Rattle.tables.proofs.Numbers.{boolean-or-count}
 use Rattle.tables.proofs.Checks.{too-few, too-many, too-short, long-enough}
 use borrow.Author.Needs.{needs}
 use Rattle.tables.proofs.check_table.Statement.{statement}
@@ -21,7 +18,7 @@ start c = c .before .before .before .before .before
 decide : (c : tie.After-equations-fit) → (
     let t = start c .args .table .now in
     let n = start c .args .n in
-    (b l : Bool) → all (equationFits t n) n ≡ b → sameSort (sortOf (kindAt t (n - 1))) Boolean ≡ l
+    (b l : Bool) → all (equationFits t n) n ≡ b → closes t n ≡ l
     → checked t n ≡ cond (b && l) Passed (Refused 11))
 decide c = long-enough _ _ (omega arith) (omega arith) (omega arith)
 
@@ -41,21 +38,24 @@ ill-formed c =
     let fit = c .before .equations-fit in
     sym (decide (c .before) false _ (sym (fit .ensures) ∙ not-true (fit .result) (c .if4 .taken)) refl)
 
-count-last : tie.Need-returns-5
-count-last c =
-    let tested = c .before .before .before .before in
-    let fit = tested .equations-fit in
-    let fits = sym (fit .ensures) ∙ not-false (fit .result) (c .before .before .before .if4 .left) in
-    let counts = sym (c .before .is-count .ensures) ∙ c .if5 .taken in
-    sym (decide tested true false fits (boolean-or-count _ ∙ ap not counts))
+-- The equations fit, where it is asked how the table closes.
+fits : (c : tie.After-closes) → (
+    let args = start (c .before .before) .args in all (equationFits (args .table .now) (args .n)) (args .n) ≡ true)
+fits c =
+    let fit = c .before .before .equations-fit in
+    sym (fit .ensures) ∙ not-false (fit .result) (c .before .if4 .left)
+
+not-closed : tie.Need-returns-5
+not-closed c =
+    let last = c .before .closes in
+    sym (decide (c .before .before .before) true false (fits (c .before))
+    (sym (last .ensures) ∙ not-true (last .result) (c .if5 .taken)))
 
 passed : tie.Need-returns-6
 passed c =
-    let tested = c .before .before .before .before in
-    let fit = tested .equations-fit in
-    let fits = sym (fit .ensures) ∙ not-false (fit .result) (c .before .before .before .if4 .left) in
-    let counts = sym (c .before .is-count .ensures) ∙ c .if5 .left in
-    sym (decide tested true true fits (boolean-or-count _ ∙ ap not counts))
+    let last = c .before .closes in
+    sym (decide (c .before .before .before) true true (fits (c .before))
+    (sym (last .ensures) ∙ not-false (last .result) (c .if5 .left)))
 
 pub check-table-spec : {M : Type 1} → statement M
 check-table-spec =
@@ -67,10 +67,6 @@ check-table-spec =
     short-table
     (λ c κs. search needs)
     ill-formed
-    (λ c. search needs)
-    (λ c. search needs)
-    (λ c. search needs)
-    (λ c. search needs)
     (λ c κs. search needs)
-    count-last
+    not-closed
     passed)
