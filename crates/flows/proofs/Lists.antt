@@ -4,7 +4,7 @@
 use mathlib.Core.Path.{_≡_, refl, _∙_, sym, ap, ap₂, subst}
 use mathlib.Core.Bool.{Bool, true, false, cond}
 use mathlib.Core.List.{List, [], _∷_, _++_, map}
-use Prim.Native.Nat.{ℕ, zero, suc, _+_, _-_, _≤_, _<_}
+use Prim.Native.Nat.{ℕ, zero, suc, _+_, _≤_, _<_}
 use native.Mathlib.Omega.{arith}
 use native.Mathlib.Nat.{add-zero, zero-add}
 use lib.Dec.{leb}
@@ -31,7 +31,7 @@ use Rattle.flows.proofs.Buffers.{length-flows, flows-at, length-memorie
 use Rattle.tables.proofs.Checks.{Fitting, checked-fitting, passed-both}
 use Rattle.flows.proofs.Checks.{step-passed, step-admitted}
 use Rattle.flows.proofs.Ranges.{fresh-fits, next-fits}
-use Rattle.flows.proofs.Runs.{stateAt, flowAt, state-room, state-fits, lustre, flows-same}
+use Rattle.flows.proofs.Runs.{stateAt, flowAt, answer-same, state-room, state-fits, lustre, flows-same}
 
 -- Where a table passes its check and there is room, the fresh state is made.
 pub made : (t : List ℕ) (n : ℕ) (old : List ℕ) → checked t n ≡ Passed → n ≤ length old
@@ -215,8 +215,9 @@ module _ (cap : ℕ) (t : List ℕ) (n : ℕ) (passed : checked t n ≡ Passed) 
               ap (λ (z : AfterStep). z .values) (r .left)
               ∙ ap (λ (l : List ℕ). l ++ drop n (s .call .values))
               (flows-firsts cap t (trace k) state n (f k) same);
-          verdict =
-              ap (λ (z : AfterStep). z .answer) (r .left) ∙ ap Verdict (same (n - 1) (omega (arith, fits .some)));
+          answer =
+              ap (λ (z : AfterStep). z .answer) (r .left)
+              ∙ ap Verdict (answer-same n (numberAt fs) (f k) (fits .closed) same);
         }
 
   pub runs-as-lustre : RunsAsLustre cap t n

@@ -4,17 +4,17 @@ use mathlib.Core.Path.{_≡_, refl, _∙_, sym, ap}
 use mathlib.Core.Bool.{Bool, true, false, _&&_}
 use mathlib.Core.List.{List}
 use mathlib.Core.Logic.{⊎-elim}
-use Prim.Native.Nat.{ℕ, zero, suc, _-_, _≤_, _<_}
+use Prim.Native.Nat.{ℕ, zero, suc, _≤_, _<_}
 use native.Mathlib.Omega.{arith}
 use lib.ListN.{length}
 use Rattle.traces.specs.declared.Tick.{Tick}
 use Rattle.traces.specs.Trace.{Trace}
 use Rattle.lists.specs.Number.{numberAt}
 use Rattle.tables.specs.Table.{all, Equation, equationAt, Kind, kindAt, shapeOf}
-use Rattle.tables.specs.Table.{isFlow, operandFits, shapeFits, equationFits, checked}
+use Rattle.tables.specs.Table.{isFlow, operandFits, shapeFits, equationFits, closingCount, startedOf, verdictOf, checked}
 use Rattle.tables.specs.Table.Kind.{signal, start, constant, negation, conjunction, disjunction, booleanPre}
 use Rattle.tables.specs.Table.Kind.{countPre, capped, ifElse, compareLiteral, compareParameter, unknown}
-use Rattle.flows.specs.Flow.{valueOf, flows, initialAt, operandAt, freshState, nextState}
+use Rattle.flows.specs.Flow.{valueOf, flows, answerOf, initialAt, operandAt, freshState, nextState}
 use Rattle.tables.specs.Table.{isMemory}
 use Rattle.flows.specs.Step.{cellsFit}
 use Rattle.flows.specs.Lustre.{remembered, Satisfied, Lustre, Solves}
@@ -41,9 +41,14 @@ module _ (cap : ℕ) (t : List ℕ) (n : ℕ) (old : List ℕ) (trace : Trace) w
   unfoldable pub flowAt : ℕ → ℕ → ℕ
   flowAt k i = numberAt (flows cap t (trace k) (stateAt k) n) i
 
-  -- SPEC 5.5: the verdict.
-  abbrev pub verdictAt : ℕ → ℕ
-  verdictAt k = flowAt k (n - 1)
+  -- SPEC 8.5: the answer at tick k.
+  abbrev pub answerAt : ℕ → ℕ
+  answerAt k = answerOf n (flowAt k)
+
+-- Flows that are the same answer the same.
+pub answer-same : (n : ℕ) (f g : ℕ → ℕ) → closingCount ≤ n → ((i : ℕ) → i < n → f i ≡ g i) → answerOf n f ≡ answerOf n g
+unfolding answerOf
+answer-same n f g closed same = rw (same (startedOf n) (omega arith), same (verdictOf n) (omega arith))
 
 -- The value of an equation that fits at i depends only on the flows before i, and on the cell if it is a memory.
 module _ (cap : ℕ) (t : List ℕ) (n i : ℕ) (k : Tick) (flow flow′ : ℕ → ℕ) (cell cell′ : ℕ)

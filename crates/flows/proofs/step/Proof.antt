@@ -17,7 +17,7 @@ run-requires : tie.Need-run-requires
 run-requires c κs =
     let told = c .before .before in
     let p = step-passed _ _ _ _ _ _ (sym (checked told .check-step .ensures) ∙ told .enum-told .given .1) in
-    (p .0 .some, p .0 .whole, p .1, p .2)
+    (p .0 .closed, p .0 .whole, p .1, p .2)
 
 verdict : tie.Need-returns
 unfolding stepped

@@ -13,7 +13,7 @@ start c = c .before .before .before .before .before
 run-requires : tie.Need-run-requires
 run-requires c κs =
     let p = step-passed _ _ _ _ _ _ (start c .pre) in
-    (p .0 .some, p .0 .whole, p .1, p .2)
+    (p .0 .closed, p .0 .whole, p .1, p .2)
 
 returns : tie.Need-returns
 returns c =
