@@ -10,9 +10,10 @@ use native.Mathlib.Omega.{arith}
 use native.Mathlib.Nat.{eq-or-lt-of-le}
 use lib.Dec.{eqb, ltb, leb}
 use borrow.Author.Tests.{leb-true, ltb-true, eqb-true, le-leb, lt-ltb, eq-eqb}
-use Rattle.traces.specs.Trace.{Trace, nonzero, bit, starts, truth}
+use Rattle.traces.specs.Trace.{Trace, nonzero, bit, starts, truth, idleVerdict}
 use Rattle.traces.specs.Compare.{Op, compares}
 use Rattle.traces.specs.Compare.Op.{le, lt, eq, gt, ge}
+use Rattle.traces.proofs.Laws.{truth-idle}
 use Rattle.formulas.specs.Formula.{Formula}
 use Rattle.formulas.specs.Meaning.{value, each, any, tally, streak, due, lagged, at, meaning}
 use Rattle.formulas.specs.Meaning.{latest, verdict, since}
@@ -308,9 +309,9 @@ module _ (trace : Trace) where
     since-some none s b l = absurd (s b (l .past) (l .set))
     since-some (some c) s b l = rw (latest-one b c e l s)
 
-    since-none : (o : Option ℕ) → Seen o e → Seen none e → since trace on o ≡ 1
-    since-none none s n = refl
-    since-none (some b) s n = absurd (n b (s .past) (s .set))
+    since-idle : (o : Option ℕ) → Seen o e → (since trace on o ≡ idleVerdict) ↔ Seen none e
+    since-idle none s = (λ h. s, λ n. refl)
+    since-idle (some b) s = (λ h. absurd (truth-idle (on b) h), λ n. absurd (n b (s .past) (s .set)))
 
   verdict-since : (f : Formula) (b e : ℕ) → Latest trace b e → verdict trace f e ≡ truth (meaning trace f b e)
   verdict-since f b e l = since-some (λ b. meaning trace f b e) e (latest trace e) (seen e) b l
@@ -344,5 +345,5 @@ module _ (trace : Trace) where
         or-on = λ f g b e. or-iff (meaning trace f b e) (meaning trace g b e);
         verdict-one = λ f b e l h. verdict-since f b e l ∙ rw h;
         verdict-zero = λ f b e l h. verdict-since f b e l ∙ rw (off h);
-        verdict-before = λ f e n. since-none (λ b. meaning trace f b e) e (latest trace e) (seen e) n;
+        verdict-idle = λ f e. since-idle (λ b. meaning trace f b e) e (latest trace e) (seen e);
       }

@@ -126,5 +126,5 @@ module _
             ∙ sym (means trace .verdict-zero f b e l (no y))
 
         go : (o : Option ℕ) → Seen trace o e → v f e ≡ verdict trace f e
-        go none s = laws .verdict-before f e s ∙ sym (means trace .verdict-before f e s)
+        go none s = laws .verdict-idle f e .1 s ∙ sym (means trace .verdict-idle f e .1 s)
         go (some b) l = decided b l (meaning trace f b e) refl

@@ -3,7 +3,7 @@ use mathlib.Core.Bool.{Bool, true, false}
 use mathlib.Core.Path.{_≡_, refl}
 use Prim.Native.Nat.{ℕ, zero, suc, _≤_, _<_}
 use native.Mathlib.Omega.{arith}
-use Rattle.traces.specs.Trace.{truth, nonzero}
+use Rattle.traces.specs.Trace.{truth, idleVerdict, nonzero}
 use Rattle.traces.specs.Compare.{Op, opOf, opNumber}
 use Rattle.traces.specs.Compare.Op.{le, lt, eq, gt, ge}
 
@@ -11,6 +11,11 @@ use Rattle.traces.specs.Compare.Op.{le, lt, eq, gt, ge}
 pub nonzero-truth : (b : Bool) → nonzero (truth b) ≡ b
 nonzero-truth true = refl
 nonzero-truth false = refl
+
+-- No truth value is idle.
+pub truth-idle : (b : Bool) → ¬ (truth b ≡ idleVerdict)
+truth-idle true e = omega arith
+truth-idle false e = omega arith
 
 -- A number that is 0 or 1 is the number of a truth value.
 pub truth-nonzero : (x : ℕ) → x ≤ 1 → truth (nonzero x) ≡ x
