@@ -1,10 +1,10 @@
--- The closing rows: started since the latest start and not before any, so the last flow is the verdict. Assumes
--- nothing.
-use mathlib.Core.Bool.{Bool, true, false, not, _||_}
+-- The closing rows: started since the latest start and not before any, so that the last two flows answer the verdict.
+-- Assumes nothing.
+use mathlib.Core.Bool.{true, false, _&&_, cond}
 use mathlib.Core.Option.{Option}
-use mathlib.Core.Path.{_≡_, ap, _∙_}
+use mathlib.Core.Path.{_≡_}
 use Prim.Native.Nat.{ℕ, zero, suc}
-use Rattle.traces.specs.Trace.{Trace, truth, starts}
+use Rattle.traces.specs.Trace.{Trace, truth, idleVerdict, starts}
 use Rattle.formulas.specs.Formula.{Formula}
 use Rattle.formulas.specs.Meaning.{meaning, since, verdict}
 use Rattle.tables.specs.Table.{kindOf}
@@ -29,16 +29,18 @@ module _ (cap : ℕ) (trace : Trace) (flow : ℕ → ℕ → ℕ) where
     not-started zero never = rw (h .1 .0 0, never, h .0 .0)
     not-started (suc e) never = rw (h .1 .0 (suc e), never .1, h .0 .1 e, not-started e (never .0))
 
-    shown : (e : ℕ) → on flow (o ⊕ 3) e ≡ not (on flow (o ⊕ 1) e) || on flow v e
+    -- From the first start on the verdict's flow is the formula's.
+    shown : (e : ℕ) → on flow (o ⊕ 2) e ≡ (on flow (o ⊕ 1) e && on flow v e)
     unfolding kindOf
-    shown e = h .1 .1 .1 .0 e ∙ ap (λ (x : Bool). x || on flow v e) (h .1 .1 .0 e)
+    shown e = h .1 .1 .0 e
 
-    module _ (f : Formula) (begins : (k : ℕ) → on flow s k ≡ starts (trace k))
-        (agree : Agrees cap trace flow s v f) where
-      pub whole-is : (e : ℕ) → truth (on flow (o ⊕ 3) e) ≡ verdict trace f e
-      whole-is e = rw (shown e) (go (latest-is trace (on flow s) begins e))
+    module _ (begins : (k : ℕ) → on flow s k ≡ starts (trace k)) where
+      pub whole-is : (f : Formula) → Agrees cap trace flow s v f → (e : ℕ)
+          → cond (on flow (o ⊕ 1) e) (truth (on flow (o ⊕ 2) e)) idleVerdict ≡ verdict trace f e
+      whole-is f agree e = rw (shown e) (go (latest-is trace (on flow s) begins e))
         where
           go : {x : Option ℕ} → Latest (on flow s) e x
-              → truth (not (on flow (o ⊕ 1) e) || on flow v e) ≡ since trace (λ b. meaning trace f b e) x
+              → cond (on flow (o ⊕ 1) e) (truth (on flow (o ⊕ 1) e && on flow v e)) idleVerdict
+              ≡ since trace (λ b. meaning trace f b e) x
           go (Latest.never never) = rw (not-started e never)
           go (Latest.since b d end begun) = rw (← end, started b d begun, agree b d begun)

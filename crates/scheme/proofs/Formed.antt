@@ -2,27 +2,27 @@
 use mathlib.Core.Bool.{true}
 use mathlib.Core.List.{List, _++_}
 use mathlib.Core.Path.{_≡_, refl, sym, ap, subst}
-use Prim.Native.Nat.{ℕ, _-_, _≤_, _<_}
+use Prim.Native.Nat.{ℕ, _≤_, _<_}
 use native.Mathlib.Omega.{arith}
 use lib.ListN.{length, length-append}
 use Rattle.formulas.specs.Formula.{Formula}
 use Rattle.formulas.specs.Bounds.{bounded}
 use Rattle.formulas.specs.Raw.{raw}
-use Rattle.tables.specs.Kind.{START, NOT}
-use Rattle.tables.specs.Table.{Equation, kindOf, kindAt, shapeOf, sortOf, sameSort, shapeFits, operandFits}
-use Rattle.tables.specs.Table.{equationFits, checked, all}
+use Rattle.tables.specs.Kind.{START, NOT, OR}
+use Rattle.tables.specs.Table.{Equation, kindOf, shapeOf, sameSort, shapeFits, operandFits}
+use Rattle.tables.specs.Table.{equationFits, closingCount, startedOf, verdictOf, booleanAt, checked, all}
 use Rattle.limits.specs.Limits.{equationLimit, literalCount, signalCount}
 use Rattle.tables.specs.declared.Sort.the-variants.{Boolean}
 use Rattle.tables.specs.declared.Checked.the-variants.{Passed}
 use Rattle.tables.proofs.Tests.{all-of}
-use Rattle.tables.proofs.Checks.{long-enough}
+use Rattle.tables.proofs.Checks.{closing-by, long-enough}
 use Rattle.scheme.specs.Scheme.{_⊕_}
 use Rattle.scheme.specs.Emit.{namedBy, signals-es, startFlow, idleFlow, headerCount, numbersOf}
 use Rattle.scheme.proofs.Offsets.{zero-⊕}
 use Rattle.scheme.proofs.Places.{after-later, Each, each-left, each-right, each-at, each-from}
 use Rattle.scheme.proofs.Places.{equation-at, length-numbers}
 use Rattle.scheme.proofs.Parts.{headRows, flowAmong, bodyPlace, bodyBlock, wholePlace, wholeRows}
-use Rattle.scheme.proofs.Parts.{observerOver, whole-last}
+use Rattle.scheme.proofs.Parts.{observerOver, whole-last, started-last, verdict-last}
 use Rattle.scheme.proofs.Roles.{Before, later, Fits, KindAt}
 use Rattle.scheme.proofs.Rows.{here, not-fine, whole-fine}
 use Rattle.scheme.proofs.Blocks.{AllFine, follow, fine}
@@ -89,14 +89,14 @@ module _ (cap : ℕ) (low : cap ≤ literalCount) (m : ℕ) (few : m ≤ signalC
       let negation-fits = not-fine t n idleFlow start (omega arith) (head-kinds .1 .0, tt) .0 in
       (record { fits = refl }, (negation-fits .0, signals-fit (namedBy f) t n m 0 headerCount (omega arith)))
 
-  all-fine : AllFine t n 0 (observerOver m f) (wholePlace m f ⊕ 3)
+  all-fine : AllFine t n 0 (observerOver m f) (wholePlace m f ⊕ 2)
   all-fine =
       let further : bodyPlace m f ≤ wholePlace m f = after-later (bodyBlock m f .es) (bodyPlace m f) in
       let start′ : Before t (wholePlace m f) Boolean startFlow = later start (omega (arith, far)) in
-      let room : wholePlace m f ⊕ 4 ≤ n = omega (arith, whole-last m f) in
+      let room : wholePlace m f ⊕ 3 ≤ n = omega (arith, whole-last m f) in
       let closing-fine = whole-fine t n (wholePlace m f) start′ (body-fine .1) room whole-kinds in
-      follow t n (headRows (namedBy f) m) (bodyBlock m f .es ++ wholeRows m f) 0 (wholePlace m f ⊕ 3) head-fits
-      (follow t n (bodyBlock m f .es) (wholeRows m f) (bodyPlace m f) (wholePlace m f ⊕ 3) (body-fine .0) closing-fine)
+      follow t n (headRows (namedBy f) m) (bodyBlock m f .es ++ wholeRows m f) 0 (wholePlace m f ⊕ 2) head-fits
+      (follow t n (bodyBlock m f .es) (wholeRows m f) (bodyPlace m f) (wholePlace m f ⊕ 2) (body-fine .0) closing-fine)
 
   -- So every equation of the table keeps its rules,
   equations-fit : all (equationFits t n) n ≡ true
@@ -106,15 +106,21 @@ module _ (cap : ℕ) (low : cap ≤ literalCount) (m : ℕ) (few : m ≤ signalC
       (sym (equation-at (observerOver m f) junk i h))
       (rw zero-⊕ at (each-at (Fits t n) (observerOver m f) 0 i (all-fine .0) h) .fits))
 
-  -- and the last one is boolean.
-  pub last-over : n - 1 ≡ wholePlace m f ⊕ 3
-  last-over = omega (arith, whole-last m f)
+  -- and the last two are boolean.
+  pub started-boolean : booleanAt t (startedOf n) ≡ true
+  unfolding kindOf shapeOf sameSort
+  started-boolean =
+      let sorted = here t n 0 (wholePlace m f ⊕ 1) OR (whole-kinds .1 .0) refl .sorted in
+      subst (λ (x : ℕ). booleanAt t x ≡ true) (sym (started-last m f)) sorted
 
-  pub last-boolean : sameSort (sortOf (kindAt t (n - 1))) Boolean ≡ true
-  last-boolean = subst (λ (x : ℕ). sameSort (sortOf (kindAt t x)) Boolean ≡ true) (sym last-over) (all-fine .1 .sorted)
+  pub verdict-boolean : booleanAt t (verdictOf n) ≡ true
+  verdict-boolean = subst (λ (x : ℕ). booleanAt t x ≡ true) (sym (verdict-last m f)) (all-fine .1 .sorted)
+
+  closed : closingCount ≤ n
+  closed = omega (arith, whole-last m f)
 
   pub formed-over : n ≤ equationLimit → checked t n ≡ Passed
   formed-over small =
       long-enough t n (omega arith) small
       (omega (arith, length-append (numbersOf (observerOver m f)) junk, length-numbers (observerOver m f))) true true
-      equations-fit last-boolean
+      equations-fit (sym (closing-by t n closed true true started-boolean verdict-boolean))

@@ -9,7 +9,7 @@ use lib.ListN.{length}
 use Rattle.lists.specs.Number.{numberAt}
 use Rattle.formulas.specs.Formula.{Formula}
 use Rattle.limits.specs.Limits.{signalCount}
-use Rattle.tables.specs.Table.{Equation}
+use Rattle.tables.specs.Table.{Equation, startedOf, verdictOf}
 use Rattle.scheme.specs.Scheme.{_⊕_}
 use Rattle.scheme.specs.Emit.{Block, placeAfter, emit, namedBy, signals-es, places, whole-es, observer}
 use Rattle.scheme.specs.Emit.{startFlow, idleFlow, headerCount, start-es}
@@ -41,12 +41,18 @@ module _ (m : ℕ) (f : Formula) where
   abbrev pub observerOver : List Equation
   observerOver = headRows (namedBy f) m ++ (bodyBlock .es ++ wholeRows)
 
-  -- The closing equations are the last four.
-  pub whole-last : wholePlace ⊕ 4 ≡ length observerOver
+  -- The closing equations are the last three: after its memory the started flow's, and then the verdict's.
+  pub whole-last : wholePlace ⊕ 3 ≡ length observerOver
   whole-last =
       sym (after-append (headRows (namedBy f) m) (bodyBlock .es ++ wholeRows) 0
       ∙ after-append (bodyBlock .es) wholeRows bodyPlace)
       ∙ after-length observerOver 0 ∙ omega arith
+
+  pub started-last : startedOf (length observerOver) ≡ wholePlace ⊕ 1
+  started-last = omega (arith, whole-last)
+
+  pub verdict-last : verdictOf (length observerOver) ≡ wholePlace ⊕ 2
+  verdict-last = omega (arith, whole-last)
 
 pub is-observer : (f : Formula) → observerOver signalCount f ≡ observer f
 is-observer f = refl

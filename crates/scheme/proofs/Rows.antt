@@ -237,8 +237,8 @@ module _ (t : List ℕ) (N o : ℕ) where
       (plain-fit unused (used bs) (used bp) (used bn) thenRows room k refl, here (o ⊕ 3) AND (k .1 .1 .1 .0) refl)
 
   -- The closing rows, for the start flow s and the formula's result p.
-  pub whole-fine : {s p : ℕ} → Before t o Boolean s → Before t o Boolean p → o ⊕ 4 ≤ N → Kinded (whole-es s o p)
-      → Fine (whole-es s o p) (o ⊕ 4) (o ⊕ 3)
+  pub whole-fine : {s p : ℕ} → Before t o Boolean s → Before t o Boolean p → o ⊕ 3 ≤ N → Kinded (whole-es s o p)
+      → Fine (whole-es s o p) (o ⊕ 3) (o ⊕ 2)
   unfolding all kindOf shapeOf sameSort
   whole-fine bs bp room k =
-      (plain-fit unused (used bs) (used bp) unused wholeRows room k refl, here (o ⊕ 3) OR (k .1 .1 .1 .0) refl)
+      (plain-fit unused (used bs) (used bp) unused wholeRows room k refl, here (o ⊕ 2) AND (k .1 .1 .0) refl)
