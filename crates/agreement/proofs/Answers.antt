@@ -1,36 +1,45 @@
 -- The answers of an observer, over every list of calls from the fresh state, are its formula's verdicts. This joins
 -- what Formed (scheme) shows of the table's check, Verdicts of flows that satisfy their equations, and the laws of runs
 -- of any table (flows). Over a number m of signals that is left open (scheme, proofs/Parts.antt). Assumes nothing.
-use mathlib.Core.Bool.{true}
+use mathlib.Core.Bool.{true, cond}
 use mathlib.Core.List.{List, _++_}
+use mathlib.Core.Logic.{_↔_, Iff·trans}
 use mathlib.Core.Path.{_≡_, sym, ap, _∙_, subst}
-use Prim.Native.Nat.{ℕ, _-_, _≤_, _<_}
+use Prim.Native.Nat.{ℕ, _≤_, _<_}
 use native.Mathlib.Omega.{arith}
 use lib.ListN.{length}
 use Rattle.traces.specs.declared.Tick.{Tick}
-use Rattle.traces.specs.Trace.{Trace, tickOf, truth}
+use Rattle.traces.specs.Trace.{Trace, traceOf, tickOf, idleVerdict}
 use Rattle.formulas.specs.Formula.{Formula}
 use Rattle.formulas.specs.Meaning.{verdict}
+use Rattle.formulas.specs.Laws.{Starts}
 use Rattle.formulas.specs.Tree.{leads}
 use Rattle.formulas.specs.Bounds.{bounded}
 use Rattle.formulas.specs.Raw.{raw}
 use Rattle.limits.specs.Limits.{equationLimit, literalCount, signalCount}
-use Rattle.tables.specs.Table.{checked}
+use Rattle.tables.specs.Table.{verdictOf, checked}
+use Rattle.flows.specs.Flow.{answerOf}
 use Rattle.flows.specs.Step.{AfterStep, afterTick}
 use Rattle.flows.specs.Run.{Call, Taken, fromFresh, answered, ticks, EachTick}
 use Rattle.flows.specs.Lustre.{Lustre}
 use Rattle.tables.specs.declared.Checked.the-variants.{Passed}
+use Rattle.flows.specs.declared.Stepped.{Stepped}
 use Rattle.flows.specs.declared.Stepped.the-variants.{Verdict}
-use Rattle.flows.proofs.Runs.{flowAt, verdictAt, lustre}
+use Rattle.flows.proofs.Runs.{flowAt, answerAt, lustre}
 use Rattle.flows.proofs.Lists.{each-map, Ran, ran}
 use Rattle.flows.proofs.Expected.{admitted, expected, decided-ticks, each-expected}
 use Rattle.scheme.specs.Emit.{namedBy, numbersOf}
-use Rattle.agreement.specs.Agreement.{SameParameters, traceOfTicks, AsMeant, Observes}
-use Rattle.scheme.proofs.Parts.{observerOver}
-use Rattle.scheme.proofs.Formed.{formed-over, last-over, last-boolean}
+use Rattle.agreement.specs.Agreement.{SameParameters, traceOfTicks, AsMeant, IdleUntilStart, Observes}
+use Rattle.scheme.specs.Scheme.{_⊕_}
+use Rattle.scheme.proofs.Parts.{wholePlace, observerOver, whole-last, started-last, verdict-last}
+use Rattle.scheme.proofs.Formed.{formed-over, verdict-boolean}
 use Rattle.scheme.proofs.Local.{on, boolean-number}
-use Rattle.agreement.proofs.Verdicts.{verdict-over}
+use Rattle.agreement.proofs.Verdicts.{told, idle-over, verdict-over}
 use Rattle.agreement.proofs.Calls.{Small, same-at, admitted-small}
+
+-- Verdicts are the same if their numbers are.
+same-verdict : (x y : ℕ) → (Verdict x ≡ Verdict y) ↔ (x ≡ y)
+same-verdict x y = (λ e. cc, λ e. ap Verdict e)
 
 module _ (cap : ℕ) (low : cap ≤ literalCount) (m : ℕ) (few : m ≤ signalCount) (f : Formula)
     (led : leads (raw f) ≡ true) (bound : bounded cap (raw f) ≡ true)
@@ -46,21 +55,42 @@ module _ (cap : ℕ) (low : cap ≤ literalCount) (m : ℕ) (few : m ≤ signalC
   pub passes : checked t n ≡ Passed
   passes = formed-over cap low m few f bound below junk short
 
+  module _ (old : List ℕ) (room : n ≤ length old) (trace : Trace) where
+    abbrev flow : ℕ → ℕ → ℕ
+    flow = flowAt cap t n old trace
+
+    run : Lustre cap t n trace flow
+    run = lustre cap t n old trace passes room
+
+    -- The answer at a tick of a run, by the last two flows.
+    answer-over : (e : ℕ) → answerAt cap t n old trace e ≡ told cap trace flow m f junk run e
+    unfolding answerOf
+    answer-over e =
+        rw (started-last m f, ← verdict-last m f)
+        (ap (λ (x : ℕ). cond (on flow (wholePlace m f ⊕ 1) e) x idleVerdict)
+        (boolean-number cap trace flow t n run (verdictOf n) (omega (arith, whole-last m f))
+        (verdict-boolean cap low m few f bound below junk) e))
+
+    -- It is idle exactly before the first start,
+    tick-idle : (k : ℕ) (s : Taken) → Ran cap t n passes old room trace k s → IdleUntilStart trace k s
+    unfolding afterTick flowAt
+    tick-idle k s r =
+        let tells : s .left .answer ≡ Verdict (told cap trace flow m f junk run k) =
+        ap (λ (z : AfterStep). z .answer) (r .left) ∙ ap Verdict (answer-over k) in
+        subst (λ (a : Stepped). (a ≡ Verdict idleVerdict) ↔ ((i : ℕ) → i ≤ k → ¬ Starts trace i)) (sym tells)
+        (Iff·trans (same-verdict _ idleVerdict) (idle-over cap trace flow m f junk run k))
+
   module _ (old : List ℕ) (room : n ≤ length old) (ps : List ℕ) where
-    -- The verdict at each tick of a run is the formula's,
+    -- and the formula's verdict, where the parameters are the same and below the cap:
     verdicts : (ks : List Tick) → SameParameters ps ks → Small cap ps → (e : ℕ)
-        → verdictAt cap t n old (traceOfTicks ps ks) e ≡ verdict (traceOfTicks ps ks) f e
+        → answerAt cap t n old (traceOfTicks ps ks) e ≡ verdict (traceOfTicks ps ks) f e
     verdicts ks same small e =
         let trace : Trace = traceOfTicks ps ks in
-        let flow : ℕ → ℕ → ℕ = flowAt cap t n old trace in
-        let run : Lustre cap t n trace flow = lustre cap t n old trace passes room in
-        boolean-number cap trace flow t n run (n - 1) (omega arith) (last-boolean cap low m few f bound below junk) e
-        ∙ ap (λ (i : ℕ). truth (on flow i e)) (last-over cap low m few f bound below junk)
-        ∙ verdict-over cap trace flow
-        (λ i j. same-at same i ∙ sym (same-at same j)) (λ k j h. rw (same-at same k) (small j h))
-        m f led bound below junk run e
+        answer-over old room trace e
+        ∙ verdict-over cap trace (flow old room trace) m f junk (run old room trace)
+        (λ i j. same-at same i ∙ sym (same-at same j)) (λ k j h. rw (same-at same k) (small j h)) led bound below e
 
-    -- and so the answer of each tick's step is, over any list of calls.
+    -- so the step of each tick, over any list of calls.
     module _ (ks : List Tick) (same : SameParameters ps ks) where
       tick-means : (k : ℕ) (s : Taken) → Ran cap t n passes old room (traceOfTicks ps ks) k s
           → AsMeant f (traceOfTicks ps ks) k s
@@ -78,6 +108,10 @@ module _ (cap : ℕ) (low : cap ≤ literalCount) (m : ℕ) (few : m ≤ signalC
   answers-mean old room calls ps same =
       each-map (tick-means old room ps (ticks (fromFresh cap t n old calls)) same)
       (ran cap t n passes old room calls (tickOf 0 0 ps))
+
+  pub answers-idle : (old : List ℕ) → n ≤ length old → (calls : List Call) (d : Tick)
+      → EachTick (IdleUntilStart (traceOf d (ticks (fromFresh cap t n old calls)))) 0 (fromFresh cap t n old calls)
+  answers-idle old room calls d = each-map (tick-idle old room _) (ran cap t n passes old room calls d)
 
 -- The answers as a list, of any table that observes a formula.
 pub answers-are : {cap : ℕ} {t : List ℕ} {n : ℕ} {f : Formula} {m : ℕ} → Observes cap t n f m

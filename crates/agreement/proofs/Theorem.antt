@@ -21,7 +21,7 @@ use Rattle.flows.proofs.Lists.{made, calls-decide}
 use Rattle.scheme.proofs.Header.{names-below}
 use Rattle.scheme.proofs.Sizes.{observer-size}
 use Rattle.scheme.proofs.Memories.{memories-few}
-use Rattle.agreement.proofs.Answers.{passes, answers-mean}
+use Rattle.agreement.proofs.Answers.{passes, answers-mean, answers-idle}
 
 -- For every cap up to a million, every formula f whose `then`s have leads on their left, whose signals, parameters and
 -- literals are in range, and whose tree has no more records than reading makes, and whatever numbers stand after its
@@ -35,6 +35,7 @@ observes cap low f led bound size junk =
       fresh = λ old room. ap (λ (y : AfterFresh). y .answer) (made t n old formed room);
       agrees = answers-mean cap low signalCount few f led bound below junk short;
       decides = λ old room calls. calls-decide cap t n formed old room calls;
+      idle = answers-idle cap low signalCount few f led bound below junk short;
       few = memories-few f junk;
     }
   where

@@ -13,9 +13,9 @@ use Rattle.formulas.specs.Arena.{flat}
 use Rattle.formulas.specs.Raw.{raw}
 use Rattle.formulas.specs.Trials.{Trial, trials}
 use Rattle.tables.specs.Table.{all, kindOf, shapeOf, sameSort, isFlow, operandFits, shapeFits, lengthFits}
-use Rattle.tables.specs.Table.{equationsFit}
+use Rattle.tables.specs.Table.{equationsFit, closes}
 use Rattle.limits.specs.Limits.{arenaLimit, standardCap}
-use Rattle.flows.specs.Flow.{increased, valueOf, flows, memoriesSet, initial, inRange}
+use Rattle.flows.specs.Flow.{increased, valueOf, flows, answerOf, memoriesSet, initial, inRange}
 use Rattle.tables.specs.Table.{isMemory}
 use Rattle.flows.specs.Step.{parameterFits, cellFits, freshChecked, stepChecked, freshened, afterTick, stepped}
 use Rattle.flows.specs.Run.{steps}
@@ -23,8 +23,8 @@ use Rattle.flows.specs.declared.Stepped.the-variants.{Verdict}
 use Rattle.agreement.specs.Trials.{ran}
 
 pub trials-ran : map ran trials ≡ map (λ (r : Trial). map Verdict (r .verdicts)) trials
-unfolding all kindOf shapeOf sameSort isFlow operandFits shapeFits lengthFits equationsFit
-    increased valueOf flows isMemory memoriesSet initial inRange
+unfolding all kindOf shapeOf sameSort isFlow operandFits shapeFits lengthFits equationsFit closes
+    increased valueOf flows answerOf isMemory memoriesSet initial inRange
     parameterFits cellFits freshChecked stepChecked freshened afterTick stepped steps
 trials-ran = refl
 

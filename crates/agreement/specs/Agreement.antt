@@ -1,13 +1,15 @@
 -- SPEC 12.3 (demand 3): the agreement of an observer's answers with the interval meaning, as one statement about a list
 -- of calls (SPEC 6.1). Definitions only; the theorem is in proofs/Theorem.antt.
 use mathlib.Core.List.{List, [], _∷_}
+use mathlib.Core.Logic.{_↔_}
 use mathlib.Core.Path.{_≡_}
 use Prim.Native.Nat.{ℕ, _+_, _*_, _≤_}
 use lib.ListN.{length}
 use Rattle.traces.specs.declared.Tick.{Tick}
-use Rattle.traces.specs.Trace.{Trace, traceOf, tickOf}
+use Rattle.traces.specs.Trace.{Trace, traceOf, tickOf, idleVerdict}
 use Rattle.formulas.specs.Formula.{Formula}
 use Rattle.formulas.specs.Meaning.{verdict}
+use Rattle.formulas.specs.Laws.{Starts}
 use Rattle.tables.specs.Table.{checked}
 use Rattle.flows.specs.Step.{AfterFresh, freshened, AfterStep}
 use Rattle.flows.specs.Run.{Call, Taken, fromFresh, ticks, EachTick, CallsDecide}
@@ -29,6 +31,10 @@ traceOfTicks ps ks = traceOf (tickOf 0 0 ps) ks
 abbrev pub AsMeant : Formula → Trace → ℕ → Taken → Type 0
 AsMeant f trace k s = s .left .answer ≡ Verdict (verdict trace f k)
 
+-- The step of the tick numbered k answers idle exactly if none of the ticks up to it is a start.
+abbrev pub IdleUntilStart : Trace → ℕ → Taken → Type 0
+IdleUntilStart trace k s = (s .left .answer ≡ Verdict idleVerdict) ↔ ((i : ℕ) → i ≤ k → ¬ Starts trace i)
+
 -- The n equations of the table are an observer of the formula f, which has that many nodes.
 pub record Observes (cap : ℕ) (t : List ℕ) (n : ℕ) (f : Formula) (nodes : ℕ) : Type 0 where
   -- They pass the tests of refusals 10 and 11, so that a fresh state is made where there are cells for it.
@@ -41,5 +47,9 @@ pub record Observes (cap : ℕ) (t : List ℕ) (n : ℕ) (f : Formula) (nodes : 
       → EachTick (AsMeant f (traceOfTicks ps (ticks (fromFresh cap t n old calls)))) 0 (fromFresh cap t n old calls)
   pub decides : (old : List ℕ) → n ≤ length old → (calls : List Call)
       → CallsDecide cap n calls (fromFresh cap t n old calls)
+  -- It answers idle exactly before the first start (SPEC 4.10), also where ticks have other parameters than others.
+  -- Past the last tick, where no step looks, the trace is as d.
+  pub idle : (old : List ℕ) → n ≤ length old → (calls : List Call) (d : Tick)
+      → EachTick (IdleUntilStart (traceOf d (ticks (fromFresh cap t n old calls)))) 0 (fromFresh cap t n old calls)
   -- Two memories (SPEC 5.7) for each node (SPEC 3.8) at the most, and one besides.
   pub few : memories t n ≤ 2 * nodes + 1

@@ -309,7 +309,7 @@ module _ (trace : Trace) where
     since-some none s b l = absurd (s b (l .past) (l .set))
     since-some (some c) s b l = rw (latest-one b c e l s)
 
-    since-idle : (o : Option ℕ) → Seen o e → (since trace on o ≡ idleVerdict) ↔ Seen none e
+    pub since-idle : (o : Option ℕ) → Seen o e → (since trace on o ≡ idleVerdict) ↔ Seen none e
     since-idle none s = (λ h. s, λ n. refl)
     since-idle (some b) s = (λ h. absurd (truth-idle (on b) h), λ n. absurd (n b (s .past) (s .set)))
 

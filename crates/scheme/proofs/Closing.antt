@@ -1,12 +1,12 @@
 -- The closing rows: started since the latest start and not before any, so that the last two flows answer the verdict.
 -- Assumes nothing.
-use mathlib.Core.Bool.{true, false, _&&_, cond}
+use mathlib.Core.Bool.{Bool, true, false, _&&_, cond}
 use mathlib.Core.Option.{Option}
-use mathlib.Core.Path.{_≡_}
+use mathlib.Core.Path.{_≡_, refl, _∙_}
 use Prim.Native.Nat.{ℕ, zero, suc}
 use Rattle.traces.specs.Trace.{Trace, truth, idleVerdict, starts}
 use Rattle.formulas.specs.Formula.{Formula}
-use Rattle.formulas.specs.Meaning.{meaning, since, verdict}
+use Rattle.formulas.specs.Meaning.{meaning, latest, since, verdict}
 use Rattle.tables.specs.Table.{kindOf}
 use Rattle.scheme.specs.Scheme.{_⊕_}
 use Rattle.scheme.specs.Emit.{whole-es}
@@ -35,12 +35,21 @@ module _ (cap : ℕ) (trace : Trace) (flow : ℕ → ℕ → ℕ) where
     shown e = h .1 .1 .0 e
 
     module _ (begins : (k : ℕ) → on flow s k ≡ starts (trace k)) where
+      -- Whatever is answered once started is answered from the first start on, and before it idle.
+      pub answers-since : (x : Bool) (e : ℕ)
+          → cond (on flow (o ⊕ 1) e) (truth x) idleVerdict ≡ since trace (λ b. x) (latest trace e)
+      answers-since x e = go (latest-is trace (on flow s) begins e)
+        where
+          go : {y : Option ℕ} → Latest (on flow s) e y
+              → cond (on flow (o ⊕ 1) e) (truth x) idleVerdict ≡ since trace (λ b. x) y
+          go (Latest.never never) = rw (not-started e never)
+          go (Latest.since b d end begun) = rw (← end, started b d begun)
+
       pub whole-is : (f : Formula) → Agrees cap trace flow s v f → (e : ℕ)
           → cond (on flow (o ⊕ 1) e) (truth (on flow (o ⊕ 2) e)) idleVerdict ≡ verdict trace f e
-      whole-is f agree e = rw (shown e) (go (latest-is trace (on flow s) begins e))
+      whole-is f agree e = answers-since (on flow (o ⊕ 2) e) e ∙ go (latest-is trace (on flow s) begins e)
         where
-          go : {x : Option ℕ} → Latest (on flow s) e x
-              → cond (on flow (o ⊕ 1) e) (truth (on flow (o ⊕ 1) e && on flow v e)) idleVerdict
-              ≡ since trace (λ b. meaning trace f b e) x
-          go (Latest.never never) = rw (not-started e never)
-          go (Latest.since b d end begun) = rw (← end, started b d begun, agree b d begun)
+          go : {y : Option ℕ} → Latest (on flow s) e y
+              → since trace (λ b. on flow (o ⊕ 2) e) y ≡ since trace (λ b. meaning trace f b e) y
+          go (Latest.never never) = refl
+          go (Latest.since b d end begun) = rw (← end, shown (b ⊕ d), started b d begun, agree b d begun)
