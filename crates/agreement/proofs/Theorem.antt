@@ -16,12 +16,21 @@ use Rattle.tables.specs.Table.{checked}
 use Rattle.flows.specs.Step.{AfterFresh}
 use Rattle.tables.specs.declared.Checked.the-variants.{Passed}
 use Rattle.scheme.specs.Emit.{namedBy, observer, numbersOf}
-use Rattle.agreement.specs.Agreement.{Observes}
+use Rattle.agreement.specs.Agreement.{Observes, Closing}
 use Rattle.flows.proofs.Lists.{made, calls-decide}
 use Rattle.scheme.proofs.Header.{names-below}
 use Rattle.scheme.proofs.Sizes.{observer-size}
 use Rattle.scheme.proofs.Memories.{memories-few}
 use Rattle.agreement.proofs.Answers.{passes, answers-mean, answers-idle}
+use Rattle.agreement.proofs.Ends.{closing-over}
+
+-- The formula names signals 0 to 63 only.
+below : (cap : ℕ) (f : Formula) → bounded cap (raw f) ≡ true → (j : ℕ) → namedBy f j ≡ true → j < signalCount
+below cap f bound j e = names-below cap j f bound e
+
+-- What is cited is over any number of signals, so that nothing computes a list of 64.
+few : signalCount ≤ signalCount
+few = omega arith
 
 -- For every cap up to a million, every formula f whose `then`s have leads on their left, whose signals, parameters and
 -- literals are in range, and whose tree has no more records than reading makes, and whatever numbers stand after its
@@ -33,9 +42,9 @@ observes cap low f led bound size junk =
     record {
       formed = formed;
       fresh = λ old room. ap (λ (y : AfterFresh). y .answer) (made t n old formed room);
-      agrees = answers-mean cap low signalCount few f led bound below junk short;
+      agrees = answers-mean cap low signalCount few f led bound (below cap f bound) junk short;
       decides = λ old room calls. calls-decide cap t n formed old room calls;
-      idle = answers-idle cap low signalCount few f led bound below junk short;
+      idle = answers-idle cap low signalCount few f led bound (below cap f bound) junk short;
       few = memories-few f junk;
     }
   where
@@ -45,16 +54,13 @@ observes cap low f led bound size junk =
     n : ℕ
     n = length (observer f)
 
-    -- What is cited is over any number of signals, so that nothing computes a list of 64.
-    few : signalCount ≤ signalCount
-    few = omega arith
-
-    -- The formula names signals 0 to 63 only.
-    below : (j : ℕ) → namedBy f j ≡ true → j < signalCount
-    below j e = names-below cap j f bound e
-
     short : n ≤ equationLimit
     short = observer-size f size
 
     formed : checked t n ≡ Passed
-    formed = passes cap low signalCount few f led bound below junk short
+    formed = passes cap low signalCount few f led bound (below cap f bound) junk short
+
+-- SPEC 12.7: how it closes.
+pub closing : (cap : ℕ) → cap ≤ literalCount → (f : Formula) → bounded cap (raw f) ≡ true → (junk : List ℕ)
+    → Closing (numbersOf (observer f) ++ junk) (length (observer f))
+closing cap low f bound junk = closing-over cap low signalCount few f bound (below cap f bound) junk

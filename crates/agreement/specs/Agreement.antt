@@ -3,20 +3,30 @@
 use mathlib.Core.List.{List, [], _∷_}
 use mathlib.Core.Logic.{_↔_}
 use mathlib.Core.Path.{_≡_}
-use Prim.Native.Nat.{ℕ, _+_, _*_, _≤_}
+use Prim.Native.Nat.{ℕ, _+_, _*_, _-_, _≤_, _<_}
 use lib.ListN.{length}
 use Rattle.traces.specs.declared.Tick.{Tick}
 use Rattle.traces.specs.Trace.{Trace, traceOf, tickOf, idleVerdict}
 use Rattle.formulas.specs.Formula.{Formula}
 use Rattle.formulas.specs.Meaning.{verdict}
 use Rattle.formulas.specs.Laws.{Starts}
-use Rattle.tables.specs.Table.{checked}
+use Rattle.tables.specs.Kind.{START, AND, OR, BOOLEAN-PRE}
+use Rattle.tables.specs.Table.{equation, equationAt, startedOf, verdictOf, checked}
 use Rattle.flows.specs.Step.{AfterFresh, freshened, AfterStep}
 use Rattle.flows.specs.Run.{Call, Taken, fromFresh, ticks, EachTick, CallsDecide}
 use Rattle.tables.specs.declared.Checked.the-variants.{Passed}
 use Rattle.flows.specs.declared.Fresh.the-variants.{Made}
 use Rattle.flows.specs.declared.Stepped.the-variants.{Verdict}
 use Rattle.tables.specs.Table.{memories}
+
+-- SPEC 12.7: the last three of n equations. The memory of the started flow begins with 0; the started flow is 1 where
+-- the tick is a start, which is equation 0, or the memory gives 1; the verdict is the started flow and a flow from
+-- before the three.
+pub record Closing (t : List ℕ) (n : ℕ) : Type 0 where
+  pub start : equationAt t 0 ≡ equation START 0 0 0
+  pub memory : equationAt t (n - 3) ≡ equation BOOLEAN-PRE (startedOf n) 0 0
+  pub started : equationAt t (startedOf n) ≡ equation OR 0 (n - 3) 0
+  pub verdict : (x : ℕ) × (x < n - 3) × (equationAt t (verdictOf n) ≡ equation AND (startedOf n) x 0)
 
 -- SPEC 12.3: all ticks have the same parameters, ps.
 pub data SameParameters (ps : List ℕ) : List Tick → Type 0 where

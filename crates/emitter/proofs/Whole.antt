@@ -57,7 +57,7 @@ whole-is : (x : Block) (ps t : List ℕ) (o : ℕ) →
     step ps (recordOf WHOLE 0 0 0) (done x (state t o idleFlow []))
     ≡ state (withEquations (withEquations t o (x .es)) o′ (whole-es startFlow o′ (x .out)))
     (placeAfter o′ (whole-es startFlow o′ (x .out))) idleFlow
-    ((o′ ⊕ 3) ∷ []))
+    ((o′ ⊕ 2) ∷ []))
 unfolding nodeOf valuesAt applied step
 whole-is x ps t o = refl
 

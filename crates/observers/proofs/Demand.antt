@@ -20,8 +20,8 @@ use Rattle.grammar.proofs.Theorems.{rule-numbers, rule-size}
 use Rattle.tables.specs.Table.{Equation}
 use Rattle.limits.specs.Limits.{arenaLimit, literalCount, standardCap, tableRoom, ruleEquations}
 use Rattle.scheme.specs.Emit.{observer, numbersOf}
-use Rattle.agreement.specs.Agreement.{Observes}
-use Rattle.agreement.proofs.Theorem.{observes}
+use Rattle.agreement.specs.Agreement.{Closing, Observes}
+use Rattle.agreement.proofs.Theorem.{observes, closing}
 use Rattle.emitter.specs.Contract.{Emitted}
 use Rattle.scheme.proofs.Sizes.{observer-size}
 use Rattle.emitter.proofs.Size.{observer-front}
@@ -79,6 +79,10 @@ module _ {t : Tree} (k : Known t) where
       (sym (k .tree))
       (observes standardCap (omega arith) f led-raw bound-raw small-raw junk)
 
+  -- So they close.
+  pub closes-rule : (junk : List ℕ) → Closing (numbersOf (observer (k .formula)) ++ junk) (length (observer (k .formula)))
+  closes-rule junk = closing standardCap (omega arith) (k .formula) bound-raw junk
+
 -- ---- the effect of compiling
 
 -- The outcome that is computed is the text's.
@@ -114,8 +118,9 @@ module _ (text before : List ℕ) where
       pub room-compiles : (es : List Equation) → length es ≤ ruleEquations
           → sets before 0 (numbersOf es) ≡ numbersOf es ++ drop (4 * length es) before
           → ((rest : List ℕ) → Observes standardCap (numbersOf es ++ rest) (length es) f (nodes t))
+          → ((rest : List ℕ) → Closing (numbersOf es ++ rest) (length es))
           → Compiles text before (Equations (length es)) (sets before 0 (numbersOf es))
-      room-compiles es few front h =
+      room-compiles es few front h ends =
           let size = 4 * length es in
           let others = drop size before in
           let taken : take size (sets before 0 (numbersOf es)) ≡ numbersOf es =
@@ -125,6 +130,7 @@ module _ (text before : List ℕ) where
           (ap (drop size) front ∙ drop-at (numbersOf es) others size (length-numbers es))
           (λ rest. subst (λ (l : List ℕ). Observes standardCap (l ++ rest) (length es) f (nodes t)) (sym taken)
           (h rest))
+          (subst (λ (l : List ℕ). Closing l (length es)) (sym front) (ends others))
 
 -- What the pass over the tree's records left is what compiling is to leave.
 pub emitted-rule : (text before : List ℕ) (t : Tree) → ruleOf text ≡ rule t → tableRoom ≤ length before
@@ -142,5 +148,5 @@ emitted-rule text before t e room arena r after same h =
           (room-compiles text before t e f (k .is) room (observer f)
           (rule-equations text t f (accepted text t .0 e) (k .is))
           (observer-front f before (observer-size f (small-raw k)) room)
-          (observes-rule k)),
+          (observes-rule k) (closes-rule k)),
     )

@@ -13,8 +13,8 @@ use Rattle.formulas.specs.Tree.{formulaOf}
 use Rattle.formulas.specs.Trials.{Trial, trials, ticksIn}
 use Rattle.formulas.proofs.Trials.{through}
 use Rattle.tables.specs.Table.{Equation, kindOf, shapeOf, sameSort, isFlow, operandFits, shapeFits, lengthFits}
-use Rattle.tables.specs.Table.{equationsFit, all, checked, isMemory}
-use Rattle.flows.specs.Flow.{increased, valueOf, flows, memoriesSet, initial, inRange}
+use Rattle.tables.specs.Table.{equationsFit, closes, all, checked, isMemory}
+use Rattle.flows.specs.Flow.{increased, valueOf, flows, answerOf, memoriesSet, initial, inRange}
 use Rattle.flows.specs.Step.{freshened, freshChecked, stepped, stepChecked, afterTick, parameterFits, cellFits}
 use Rattle.flows.specs.Run.{Call, steps, fromFresh, answered}
 use Rattle.flows.specs.declared.Stepped.{Stepped}
@@ -47,7 +47,7 @@ tables-ran : map (λ (r : Trial). answersOf (observerOf (formulaOf (raw (r .form
     ≡ map (λ (r : Trial). map Verdict (r .verdicts)) trials
 unfolding steps freshened freshChecked stepped stepChecked afterTick parameterFits cellFits increased valueOf flows
     isMemory memoriesSet initial inRange kindOf shapeOf sameSort isFlow operandFits shapeFits lengthFits
-    equationsFit all
+    equationsFit closes answerOf all
     checked
 tables-ran = refl
 

@@ -53,7 +53,7 @@ holds rs are-read are-counted are-meant i l =
 pub runs : (i : ℕ) → i < 13 → RowHolds (getD trials i blank)
 runs = holds trials trials-read trials-counted trials-meant
 
-pub further-runs : (i : ℕ) → i < 32 → RowHolds (getD furtherTrials i blank)
+pub further-runs : (i : ℕ) → i < 34 → RowHolds (getD furtherTrials i blank)
 further-runs = holds furtherTrials further-read further-counted further-meant
 
 -- SPEC 4.11: with n = 0 and with n = 1 a `lag` is not the same rule.

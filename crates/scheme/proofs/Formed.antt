@@ -9,7 +9,7 @@ use Rattle.formulas.specs.Formula.{Formula}
 use Rattle.formulas.specs.Bounds.{bounded}
 use Rattle.formulas.specs.Raw.{raw}
 use Rattle.tables.specs.Kind.{START, NOT, OR}
-use Rattle.tables.specs.Table.{Equation, kindOf, shapeOf, sameSort, shapeFits, operandFits}
+use Rattle.tables.specs.Table.{Equation, equation, equationAt, kindOf, shapeOf, sameSort, shapeFits, operandFits}
 use Rattle.tables.specs.Table.{equationFits, closingCount, startedOf, verdictOf, booleanAt, checked, all}
 use Rattle.limits.specs.Limits.{equationLimit, literalCount, signalCount}
 use Rattle.tables.specs.declared.Sort.the-variants.{Boolean}
@@ -118,6 +118,24 @@ module _ (cap : ℕ) (low : cap ≤ literalCount) (m : ℕ) (few : m ≤ signalC
 
   closed : closingCount ≤ n
   closed = omega (arith, whole-last m f)
+
+  -- The start's equation and the three closing ones, where they stand.
+  abbrev pub Stands : ℕ → Equation → Type 0
+  Stands i e = equationAt t i ≡ e
+
+  stands : Each Stands 0 (observerOver m f)
+  stands = each-from Stands (observerOver m f) 0 (λ i h. rw zero-⊕ (equation-at (observerOver m f) junk i h))
+
+  pub start-stands : Stands 0 (equation START 0 0 0)
+  start-stands = each-left Stands (headRows (namedBy f) m) _ 0 stands .0
+
+  pub whole-stands : Each Stands (wholePlace m f) (wholeRows m f)
+  whole-stands =
+      each-right Stands (bodyBlock m f .es) (wholeRows m f) (bodyPlace m f)
+      (each-right Stands (headRows (namedBy f) m) _ 0 stands)
+
+  pub result-before : bodyBlock m f .out < wholePlace m f
+  result-before = body-fine .1 .earlier
 
   pub formed-over : n ≤ equationLimit → checked t n ≡ Passed
   formed-over small =

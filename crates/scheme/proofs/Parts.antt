@@ -3,7 +3,7 @@
 use mathlib.Core.Bool.{Bool}
 use mathlib.Core.List.{List, _++_}
 use mathlib.Core.Path.{_≡_, refl, sym, _∙_}
-use Prim.Native.Nat.{ℕ}
+use Prim.Native.Nat.{ℕ, _-_}
 use native.Mathlib.Omega.{arith}
 use lib.ListN.{length}
 use Rattle.lists.specs.Number.{numberAt}
@@ -47,6 +47,9 @@ module _ (m : ℕ) (f : Formula) where
       sym (after-append (headRows (namedBy f) m) (bodyBlock .es ++ wholeRows) 0
       ∙ after-append (bodyBlock .es) wholeRows bodyPlace)
       ∙ after-length observerOver 0 ∙ omega arith
+
+  pub memory-last : length observerOver - 3 ≡ wholePlace
+  memory-last = omega (arith, whole-last)
 
   pub started-last : startedOf (length observerOver) ≡ wholePlace ⊕ 1
   started-last = omega (arith, whole-last)
