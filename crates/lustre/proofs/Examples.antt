@@ -46,6 +46,6 @@ column =
     }
 
 -- SPEC 9.1: a text of two equations.
-whole : textOf (1 ∷ 0 ∷ 0 ∷ 0 ∷ 3 ∷ 0 ∷ 0 ∷ 0 ∷ []) 2 ≡ bytes "let\nf0=b;\nf1=not f0;\na=f1;\ntel\n"
+whole : textOf (1 ∷ 0 ∷ 0 ∷ 0 ∷ 3 ∷ 0 ∷ 0 ∷ 0 ∷ []) 2 ≡ bytes "let\nf0=b;\nf1=not f0;\nw=f0;\na=f1;\ntel\n"
 unfolding textOf lines lineText lineRest foot valueText kindOf digits numberText
 whole = refl

@@ -2,7 +2,7 @@
 use mathlib.Core.Bool.{Bool, true, false}
 use mathlib.Core.List.{List}
 use mathlib.Core.Path.{_≡_}
-use Prim.Native.Nat.{ℕ, zero, suc, _*_, _-_, _≤_, _<_}
+use Prim.Native.Nat.{ℕ, zero, suc, _*_, _≤_, _<_}
 use native.Mathlib.Omega.{arith}
 use lib.ListN.{length, length-append}
 use Rattle.lists.specs.Number.{numberAt}
@@ -10,7 +10,7 @@ use Rattle.limits.specs.Limits.{equationLimit}
 use Rattle.traces.specs.Compare.{Op, opOf}
 use Rattle.traces.specs.Compare.Op.{le, lt, eq, gt, ge}
 use Rattle.traces.specs.Trace.{nonzero}
-use Rattle.tables.specs.Table.{Equation, equationAt, Kind, kindOf}
+use Rattle.tables.specs.Table.{Equation, equationAt, Kind, kindOf, startedOf, verdictOf}
 use Rattle.tables.specs.Table.Kind.{signal, start, constant, negation, conjunction, disjunction, booleanPre}
 use Rattle.tables.specs.Table.Kind.{countPre, capped, ifElse, compareLiteral, compareParameter, unknown}
 use Rattle.tables.proofs.Checks.{checked-fitting}
@@ -76,7 +76,7 @@ module _ (t : List ℕ) (small : (i : ℕ) → numberAt t i < 4294967296) where
   -- The whole text.
   pub text-few : (n : ℕ) → n ≤ equationLimit → length (textOf t n) ≤ lengthLimit
   unfolding textOf foot
-  text-few n h = simp length-append (omega (arith, lines-few n h, digits-short (n - 1) (omega arith)))
+  text-few n h = simp length-append (omega (arith, lines-few n h, digits-short (startedOf n) (omega arith), digits-short (verdictOf n) (omega arith)))
 
   -- What a call wrote.
   pub written-few : (n l : ℕ) (buffer : List ℕ) → writeEffect t n buffer .answer ≡ Length l → l ≤ lengthLimit

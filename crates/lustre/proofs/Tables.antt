@@ -15,6 +15,7 @@ use Rattle.lists.specs.Decimal.{isDigit}
 use Rattle.lists.specs.Number.{numberAt}
 use Rattle.tables.specs.Table.{all, Equation, equationAt, kindOf, kindAt, shapeOf, isFlow}
 use Rattle.tables.specs.Table.{operandFits, shapeFits, equationFits, equationsFit, checked}
+use Rattle.tables.specs.Table.{startedOf, verdictOf, closes}
 use Rattle.limits.specs.Limits.{equationLimit, lastLiteral}
 use Rattle.tables.specs.declared.Sort.{Sort}
 use Rattle.tables.specs.declared.Shape.{Shape}
@@ -34,7 +35,7 @@ pub well-plain : (t : List ℕ) (n : ℕ) → checked t n ≡ Passed → PlainTa
 well-plain t n e =
     let w = checked-fitting t n e in
     record {
-      some = w .some;
+      closed = w .closed;
       few = w .few;
       plain = λ j h.
           fitting-plain t n j (equationAt t j) (w .few) (omega (arith, w .few))
@@ -60,7 +61,7 @@ one-line i e e′ l r h w w′ q =
 -- No line stands where the last lines do.
 pub foot-stops : (n m : ℕ) → NoLine m (foot n)
 unfolding foot lineText
-foot-stops n m e r w h = let z : _≡_ {A = ℕ} 97 102 = cc in omega arith
+foot-stops n m e r w h = let z : _≡_ {A = ℕ} 119 102 = cc in omega arith
 
 -- The lines of k equations from i on.
 unfoldable pub linesFrom : List ℕ → ℕ → ℕ → List ℕ
@@ -195,10 +196,13 @@ module _ (t u : List ℕ) (n : ℕ) (same : (j : ℕ) → j < n → equationAt t
 
   -- and the same check, if there is room for them.
   pub same-check : 4 * n ≤ length u → checked t n ≡ Passed → checked u n ≡ Passed
-  unfolding equationsFit
+  unfolding equationsFit closes
   same-check l e =
       let w = checked-fitting t n e in
       let p = and-true (all (equationFits t n) n) _ (passed-both t n e .1) in
-      long-enough u n (w .some) (w .few) l true true
+      long-enough u n (omega (arith, w .closed)) (w .few) l true true
       (all-of (equationFits u n) n (λ i h. equation-same i h (all-at (equationFits t n) n (p .0) i h)))
-      (rw (← kind-same (n - 1) (omega (arith, w .some))) (p .1))
+      (rw (
+        ← kind-same (startedOf n) (omega (arith, w .closed)),
+        ← kind-same (verdictOf n) (omega (arith, w .closed)),
+      ) (p .1))

@@ -2,7 +2,7 @@
 use Prim.Native.Nat.{ℕ, _+_, _*_}
 use Rattle.limits.specs.Limits.{equationLimit}
 
--- No line is longer, nor are the first line and the last two together (proofs/Sizes.antt).
+-- No line is longer, nor are the first line and the last three together (proofs/Sizes.antt).
 abbrev pub longestLine : ℕ
 longestLine = 100
 
