@@ -1,7 +1,7 @@
 -- What writing leaves: a line and the whole text placed part by part, and the cases of the operation. Assumes nothing.
 use mathlib.Core.Path.{_≡_, _∙_, sym, ap}
 use mathlib.Core.List.{List, [], _++_}
-use Prim.Native.Nat.{ℕ, _+_, _-_, _≤_, _<_, min}
+use Prim.Native.Nat.{ℕ, _+_, _≤_, _<_, min}
 use native.Mathlib.Omega.{arith}
 use native.Mathlib.Nat.{zero-add}
 use lib.ListN.{length, drop}
@@ -14,7 +14,7 @@ use Rattle.tables.specs.declared.Checked.the-variants.{Passed, Refused as Faile
 use Rattle.tables.proofs.Checks.{passed-both, refused-table}
 use Rattle.lustre.specs.Text.{lineRest, lineText, lines, textOf}
 use Rattle.lustre.specs.Write.{writeChecked, afterWrite, afterText, writeEffect}
-use Rattle.lustre.specs.Form.{own, render, formWidth, formCount, formAt, formText, formOf, Plain}
+use Rattle.lustre.specs.Form.{own, lastTwo, render, formWidth, formCount, formAt, formText, formOf, Plain}
 use Rattle.lustre.specs.declared.Form.{Form}
 use Rattle.lustre.specs.declared.Written.the-variants.{Length, Refused}
 use Rattle.lustre.proofs.Forms.{form-fine, form-room, end-form}
@@ -47,7 +47,7 @@ line-placed i q d e e′ h g w c v =
 
 pub text-placed : (t : List ℕ) (n q u : ℕ) (d f : Equation) {l : ℕ} {b m p s : List ℕ} {r k j : ℕ}
     → Placed formRoom (render d opening) b m r → q ≡ min r (length m) → Placed l (lines t n) (lent m q) p k
-    → u ≡ min (r + k) (length (back m q p)) → f ≡ own (n - 1)
+    → u ≡ min (r + k) (length (back m q p)) → f ≡ lastTwo n
     → Placed formRoom (render f closing) (lent (back m q p) u) s j
     → Placed (formRoom + l + formRoom) (textOf t n) b (back (back m q p) u s) (r + k + j)
 unfolding textOf

@@ -24,7 +24,7 @@ tail c = c .before .before
 abbrev lines : tie.After-least2 → tie.After-write-lines
 lines c = c .before .before .before
 
-abbrev last-tail : tie.After-only2 → tie.After-least2
+abbrev last-tail : tie.After-last-two → tie.After-least2
 last-tail c = c .before .before
 
 abbrev entry : tie.After-write-lines → tie.Start
@@ -40,11 +40,11 @@ add-s c =
       entry body .pre .few,
     )
 
--- The number of the last equation is below the limit.
-last-below : tie.Need-only-requires-2
-last-below c κs =
+-- There are two equations that close the table.
+last-within : tie.Need-last-two-requires
+last-within c κs =
     let plain = entry (lines (c .before)) .pre in
-    omega (arith, plain .some, plain .few)
+    (plain .closed, plain .few)
 
 add-result : tie.Need-add-result
 add-result c =
@@ -61,7 +61,7 @@ add-result c =
 returns : tie.Need-returns
 returns c =
     let end = c .before .before in
-    let last = end .before .before .only2 in
+    let last = end .before .before .last-two in
     let rest = last-tail (end .before .before) in
     let body = lines rest in
     let head = first (tail body) in
@@ -73,7 +73,6 @@ pub write-text-spec : {M : Type 1} → statement M
 write-text-spec =
     tie.close
     (tie.spec
-    (λ c. omega (arith, c .before .before .pre .some))
     (λ c. search needs)
     (λ c κs. search needs)
     (λ c κs. search needs)
@@ -85,7 +84,7 @@ write-text-spec =
     add-s
     (λ c κs. search needs)
     (λ c. search needs)
-    last-below
+    last-within
     (λ c. omega (arith, last-tail c .least2 .ensures))
     (λ c. omega (arith, last-tail c .least2 .ensures))
     (λ c. search needs)
