@@ -89,7 +89,7 @@ scanned-text f l r e₀ e o h = go (scan f l e₀) h (sees f l e₀ o)
 pub own-small : (i : ℕ) → i ≤ lastLiteral → Small (own i)
 own-small i h = small 0 i 0 0 h (omega arith) (omega arith)
 
-pub own-agrees : (i : ℕ) (f : List ℕ) → absent letterA f ≡ false → Agree (own i) (own 0) f
+own-agrees : (i : ℕ) (f : List ℕ) → absent letterA f ≡ false → Agree (own i) (own 0) f
 own-agrees i f n = record { kinds = refl; others = others }
   where
     others : (x : ℕ) → Letter x → absent x f ≡ true → slot (own i) x ≡ slot (own 0) x

@@ -2,8 +2,11 @@
 -- after the other, or no table writes the text. Assumes nothing.
 use borrow.Author.Needs.{needs}
 use mathlib.Core.Path.{_≡_}
-use mathlib.Core.List.{_++_}
+use mathlib.Core.List.{List, _++_}
+use Prim.Native.Nat.{ℕ, _+_}
 use lib.ListN.{drop}
+use Rattle.tables.specs.Table.{closingCount}
+use Rattle.lustre.specs.Read.{Writes}
 use Rattle.lustre.specs.Form.{equationOf}
 use Rattle.lustre.specs.Scan.{scan}
 use Rattle.lustre.specs.Scan.Scanned.{scanned}
@@ -14,7 +17,7 @@ use Rattle.lustre_read.proofs.read_proposal.Statement.{statement}
 use Rattle.lustre_read.proofs.read_proposal.Tie as tie
 
 -- The places: the start; the first line is scanned, and found; the equations' lines are read; the last lines are
--- scanned, and found.
+-- scanned, and found; nothing follows them; they name the started flow.
 abbrev start : tie.After-scan-form → tie.Start
 start c = c .before .before .before .before .before
 
@@ -29,6 +32,12 @@ lines c = c .before .before .before .before .before
 
 abbrev last : tie.After-known-told2 → tie.After-scan-form2
 last c = c .before .before .before
+
+abbrev last-told : tie.Else1 → tie.After-known-told2
+last-told c = c .before
+
+abbrev ended : tie.Else2 → tie.Else1
+ended c = c .before .before
 
 abbrev entry : tie.After-scan-form2 → tie.Start
 entry c = start (first (first-told (lines c)))
@@ -86,26 +95,42 @@ bytes-after c =
     bytes-left (opened (first-told read)) (read .read-lines .ensures) (equationOf (number .result))
     (equationOf (found .0 .0)) (found .0 .1 .0) (number .ensures) (closed (c .before)) (c .if1 .taken)
 
--- They name another equation than the last.
-other-named : tie.Need-returns-4
-other-named c =
-    let told = c .before .before .before in
-    let here = last told in
+-- They do not name the last two flows,
+abbrev lastNamed : tie.After-known-told2 → Type 0
+lastNamed c =
+    let e = c .before .tail .given .0 .0 in
+    let n = lines (last c) .read-lines .result .n in
+    (e .a + closingCount ≡ n) × (e .b + 1 ≡ n)
+
+others-named : (c : tie.After-known-told2) → (lastNamed c → ⊥)
+    → (t : List ℕ) (m : ℕ) → Writes t m (entry (last c) .args .text .now) → ⊥
+others-named c h =
+    let here = last c in
     let read = lines here in
     let number = here .before .only2 in
-    let found = told .before .tail .given in
+    let found = c .before .tail .given in
     other-last (opened (first-told read)) (read .read-lines .ensures) (equationOf (number .result))
-    (equationOf (found .0 .0)) (found .0 .1 .0) (number .ensures) (closed told) (c .if2 .taken)
+    (equationOf (found .0 .0)) (found .0 .1 .0) (number .ensures) (closed c) h
+
+-- the started flow,
+other-started : tie.Need-returns-4
+other-started c = others-named (last-told (c .before .before)) (λ named. c .if2 .taken (named .0))
+
+-- or the verdict.
+other-verdict : tie.Need-returns-5
+other-verdict c = others-named (last-told (ended (c .before .before))) (λ named. c .if3 .taken (named .1))
 
 -- The text proposes the equations.
-all-found : tie.Need-returns-5
+all-found : tie.Need-returns-6
 all-found c =
-    let told = c .before .before .before in
+    let started = c .before .before in
+    let told = last-told (ended started) in
     let here = last told in
     let read = lines here in
     let found = told .before .tail .given in
     proposes (opened (first-told read)) (read .read-lines .ensures) (equationOf (here .before .only2 .result))
-    (equationOf (found .0 .0)) (found .0 .1 .0) (closed told) (c .before .before .if1 .left) (c .if2 .left)
+    (equationOf (found .0 .0)) (found .0 .1 .0) (closed told) (ended started .if1 .left) (started .if2 .left)
+    (c .if3 .left)
 
 pub read-proposal-spec : {M : Type 1} → statement M
 read-proposal-spec =
@@ -130,6 +155,10 @@ read-proposal-spec =
     (λ c. search needs)
     (λ c. search needs)
     (λ c. search needs)
-    other-named
+    other-started
+    (λ c. search needs)
+    (λ c. search needs)
+    (λ c. search needs)
+    other-verdict
     (λ c. search needs)
     all-found)
