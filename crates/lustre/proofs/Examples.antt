@@ -1,12 +1,15 @@
--- The texts that SPEC 5.3 has for the kinds, and a whole text (SPEC 9.1): the definitions write them so. Assumes
--- nothing.
+-- The texts that SPEC 5.3 has for the kinds, and a whole text (SPEC 9.1): the definitions write them so. Tables that
+-- do not close as SPEC 5.5 says, which writing refuses. Assumes nothing.
 use mathlib.Core.List.{List, [], _∷_}
 use mathlib.Core.Path.{_≡_, refl}
 use Prim.Native.Nat.{ℕ}
 use Rattle.lists.specs.Text.{bytes}
-use Rattle.tables.specs.Table.{kindOf}
+use Rattle.tables.specs.Table.{all, kindOf, shapeOf, sameSort, isFlow, operandFits, shapeFits}
+use Rattle.tables.specs.Table.{lengthFits, closes, equationsFit}
 use Rattle.lustre.specs.Numerals.{digits, numberText}
 use Rattle.lustre.specs.Text.{valueText, lineRest, lineText, lines, foot, textOf}
+use Rattle.lustre.specs.Write.{writeChecked, afterWrite, writeEffect}
+use Rattle.lustre.specs.declared.Written.the-variants.{Refused}
 
 -- What follows `fN=` for an equation of these four numbers.
 abbrev endOf : ℕ → ℕ → ℕ → ℕ → List ℕ
@@ -45,7 +48,29 @@ column =
       kind11 = refl;
     }
 
--- SPEC 9.1: a text of two equations.
+-- SPEC 9.1: a text of two equations, which close the table (SPEC 5.5).
 whole : textOf (1 ∷ 0 ∷ 0 ∷ 0 ∷ 3 ∷ 0 ∷ 0 ∷ 0 ∷ []) 2 ≡ bytes "let\nf0=b;\nf1=not f0;\nw=f0;\na=f1;\ntel\n"
 unfolding textOf lines lineText lineRest foot valueText kindOf digits numberText
 whole = refl
+
+-- SPEC 8.6, whatever buffer is lent: no equation is refused by 10 (SPEC 7.10), one alone by 11 (SPEC 7.11), and so are
+-- two of which the started flow's, or the verdict's, is a count.
+abbrev refuses : ℕ → List ℕ → ℕ → Type 0
+refuses r t n = (buffer : List ℕ) → writeEffect t n buffer ≡ afterWrite (Refused r) buffer
+
+record Unclosed : Type 0 where
+  none : refuses 10 (1 ∷ 0 ∷ 0 ∷ 0 ∷ []) 0
+  alone : refuses 11 (1 ∷ 0 ∷ 0 ∷ 0 ∷ []) 1
+  started-count : refuses 11 (7 ∷ 0 ∷ 0 ∷ 0 ∷ 1 ∷ 0 ∷ 0 ∷ 0 ∷ []) 2
+  verdict-count : refuses 11 (1 ∷ 0 ∷ 0 ∷ 0 ∷ 7 ∷ 1 ∷ 0 ∷ 0 ∷ []) 2
+
+unclosed : Unclosed
+unfolding writeEffect writeChecked lengthFits equationsFit closes all isFlow operandFits shapeFits shapeOf
+    sameSort kindOf
+unclosed =
+    record {
+      none = λ b. refl;
+      alone = λ b. refl;
+      started-count = λ b. refl;
+      verdict-count = λ b. refl;
+    }
