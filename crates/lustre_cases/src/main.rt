@@ -128,17 +128,17 @@ fn writes(name: &[u8], table: &[u32], n: usize, text: &[u8]) {
     say_written(written, table, n, &buffer, text);
 }
 
-// Writes to a buffer of 19 bytes,
+// Writes to a buffer of 31 bytes,
 fn writes_short(name: &[u8], table: &[u32], n: usize, text: &[u8]) {
-    let mut buffer = [33u8; 19];
+    let mut buffer = [33u8; 31];
     say(name);
     let written = write_lustre(table, n, &mut buffer);
     say_written(written, table, n, &buffer, text);
 }
 
-// and to one of 20.
+// and to one of 32.
 fn writes_enough(name: &[u8], table: &[u32], n: usize, text: &[u8]) {
-    let mut buffer = [33u8; 20];
+    let mut buffer = [33u8; 32];
     say(name);
     let written = write_lustre(table, n, &mut buffer);
     say_written(written, table, n, &buffer, text);
@@ -146,10 +146,30 @@ fn writes_enough(name: &[u8], table: &[u32], n: usize, text: &[u8]) {
 
 // Kinds 0 to 2 (SPEC 5.3), with both constants (SPEC 9.3).
 fn leaves() {
-    writes(b"signal", &[0, 63, 0, 0], 1, b"let\nf0=s63;\na=f0;\ntel\n");
-    writes(b"start", &[1, 0, 0, 0], 1, b"let\nf0=b;\na=f0;\ntel\n");
-    writes(b"false", &[2, 0, 0, 0], 1, b"let\nf0=false;\na=f0;\ntel\n");
-    writes(b"true", &[2, 1, 0, 0], 1, b"let\nf0=true;\na=f0;\ntel\n");
+    writes(
+        b"signal",
+        &[0, 63, 0, 0, 1, 0, 0, 0],
+        2,
+        b"let\nf0=s63;\nf1=b;\nw=f0;\na=f1;\ntel\n",
+    );
+    writes(
+        b"start",
+        &[1, 0, 0, 0, 1, 0, 0, 0],
+        2,
+        b"let\nf0=b;\nf1=b;\nw=f0;\na=f1;\ntel\n",
+    );
+    writes(
+        b"false",
+        &[2, 0, 0, 0, 1, 0, 0, 0],
+        2,
+        b"let\nf0=false;\nf1=b;\nw=f0;\na=f1;\ntel\n",
+    );
+    writes(
+        b"true",
+        &[1, 0, 0, 0, 2, 1, 0, 0],
+        2,
+        b"let\nf0=b;\nf1=true;\nw=f0;\na=f1;\ntel\n",
+    );
 }
 
 // Kinds 3 to 5.
@@ -158,19 +178,19 @@ fn connectives() {
         b"not",
         &[1, 0, 0, 0, 3, 0, 0, 0],
         2,
-        b"let\nf0=b;\nf1=not f0;\na=f1;\ntel\n",
+        b"let\nf0=b;\nf1=not f0;\nw=f0;\na=f1;\ntel\n",
     );
     writes(
         b"and",
         &[0, 5, 0, 0, 1, 0, 0, 0, 4, 0, 1, 0],
         3,
-        b"let\nf0=s5;\nf1=b;\nf2=f0 and f1;\na=f2;\ntel\n",
+        b"let\nf0=s5;\nf1=b;\nf2=f0 and f1;\nw=f1;\na=f2;\ntel\n",
     );
     writes(
         b"or",
         &[0, 0, 0, 0, 1, 0, 0, 0, 5, 1, 0, 0],
         3,
-        b"let\nf0=s0;\nf1=b;\nf2=f1 or f0;\na=f2;\ntel\n",
+        b"let\nf0=s0;\nf1=b;\nf2=f1 or f0;\nw=f1;\na=f2;\ntel\n",
     );
 }
 
@@ -180,19 +200,35 @@ fn memories() {
         b"false before",
         &[6, 1, 0, 0, 1, 0, 0, 0],
         2,
-        b"let\nf0=false->pre(f1);\nf1=b;\na=f1;\ntel\n",
+        b"let\nf0=false->pre(f1);\nf1=b;\nw=f0;\na=f1;\ntel\n",
     );
     writes(
         b"true before",
-        &[6, 0, 0, 1],
-        1,
-        b"let\nf0=true->pre(f0);\na=f0;\ntel\n",
+        &[1, 0, 0, 0, 6, 1, 0, 1],
+        2,
+        b"let\nf0=b;\nf1=true->pre(f1);\nw=f0;\na=f1;\ntel\n",
     );
     writes(
-        b"counts",
-        &[1, 0, 0, 0, 7, 2, 0, 0, 8, 1, 0, 0, 9, 0, 2, 0, 10, 3, 0, 12],
+        b"cap",
+        &[1, 0, 0, 0, 7, 2, 0, 0, 8, 1, 0, 0, 10, 2, 0, 12, 4, 0, 3, 0],
         5,
-        b"let\nf0=b;\nf1=0->pre(f2);\nf2=cap(f1,f0);\nf3=if f0 then f2 else 0;\nf4=f3<=12;\na=f4;\ntel\n",
+        b"let\nf0=b;\nf1=0->pre(f2);\nf2=cap(f1,f0);\nf3=f2<=12;\nf4=f0 and f3;\nw=f3;\na=f4;\ntel\n",
+    );
+    writes(
+        b"if",
+        &[1, 0, 0, 0, 7, 2, 0, 0, 9, 0, 1, 0, 10, 2, 0, 12, 4, 0, 3, 0],
+        5,
+        b"let\nf0=b;\nf1=0->pre(f2);\nf2=if f0 then f1 else 0;\nf3=f2<=12;\nf4=f0 and f3;\nw=f3;\na=f4;\ntel\n",
+    );
+}
+
+// The started flow with its memory, and the verdict (SPEC 5.5), as compiled tables have them.
+fn compiled() {
+    writes(
+        b"started and verdict",
+        &[1, 0, 0, 0, 0, 5, 0, 0, 6, 3, 0, 0, 5, 0, 2, 0, 4, 3, 1, 0],
+        5,
+        b"let\nf0=b;\nf1=s5;\nf2=false->pre(f3);\nf3=f0 or f2;\nf4=f3 and f1;\nw=f3;\na=f4;\ntel\n",
     );
 }
 
@@ -202,13 +238,13 @@ fn literals() {
         b"literals, op 0 to 2",
         &[7, 0, 0, 0, 10, 0, 0, 0, 10, 0, 1, 999999, 10, 0, 2, 10],
         4,
-        b"let\nf0=0->pre(f0);\nf1=f0<=0;\nf2=f0<999999;\nf3=f0=10;\na=f3;\ntel\n",
+        b"let\nf0=0->pre(f0);\nf1=f0<=0;\nf2=f0<999999;\nf3=f0=10;\nw=f2;\na=f3;\ntel\n",
     );
     writes(
         b"literals, op 3 and 4",
         &[7, 0, 0, 0, 10, 0, 3, 7, 10, 0, 4, 100],
         3,
-        b"let\nf0=0->pre(f0);\nf1=f0>7;\nf2=f0>=100;\na=f2;\ntel\n",
+        b"let\nf0=0->pre(f0);\nf1=f0>7;\nf2=f0>=100;\nw=f1;\na=f2;\ntel\n",
     );
 }
 
@@ -218,13 +254,13 @@ fn parameters() {
         b"parameters, op 0 to 2",
         &[7, 0, 0, 0, 11, 0, 0, 0, 11, 0, 1, 3, 11, 0, 2, 7],
         4,
-        b"let\nf0=0->pre(f0);\nf1=f0<=k0;\nf2=f0<k3;\nf3=f0=k7;\na=f3;\ntel\n",
+        b"let\nf0=0->pre(f0);\nf1=f0<=k0;\nf2=f0<k3;\nf3=f0=k7;\nw=f2;\na=f3;\ntel\n",
     );
     writes(
         b"parameters, op 3 and 4",
         &[7, 0, 0, 0, 11, 0, 3, 1, 11, 0, 4, 2],
         3,
-        b"let\nf0=0->pre(f0);\nf1=f0>k1;\nf2=f0>=k2;\na=f2;\ntel\n",
+        b"let\nf0=0->pre(f0);\nf1=f0>k1;\nf2=f0>=k2;\nw=f1;\na=f2;\ntel\n",
     );
 }
 
@@ -233,25 +269,37 @@ fn write_sizes() {
     writes(b"no equation", &[1, 0, 0, 0], 0, b"");
     writes(b"one equation too many", &[1, 0, 0, 0], 4097, b"");
     writes(b"table too short", &[1, 0, 0, 0, 1, 0, 0], 2, b"");
+    writes(b"10 before 11", &[1, 0, 0], 1, b"");
 }
 
-// by 11 (SPEC 7.11): a kind that SPEC 5.3 does not have, SPEC 5.1, SPEC 5.4 and SPEC 5.5 broken,
+// by 11 (SPEC 7.11): a kind that SPEC 5.3 does not have, SPEC 5.1 and SPEC 5.4 broken,
 fn write_rules() {
-    writes(b"unknown kind", &[12, 0, 0, 0], 1, b"");
-    writes(b"unused number", &[1, 0, 0, 1], 1, b"");
-    writes(b"operand not earlier", &[3, 0, 0, 0], 1, b"");
-    writes(b"last a count", &[7, 0, 0, 0], 1, b"");
+    writes(
+        b"unknown kind",
+        &[12, 0, 0, 0, 1, 0, 0, 0, 1, 0, 0, 0],
+        3,
+        b"",
+    );
+    writes(b"unused number", &[1, 0, 0, 1, 1, 0, 0, 0], 2, b"");
+    writes(b"operand not earlier", &[3, 0, 0, 0, 1, 0, 0, 0], 2, b"");
+}
+
+// SPEC 5.5 broken,
+fn write_closing() {
+    writes(b"one equation", &[1, 0, 0, 0], 1, b"");
+    writes(b"last a count", &[1, 0, 0, 0, 7, 1, 0, 0], 2, b"");
+    writes(b"last but one a count", &[7, 0, 0, 0, 1, 0, 0, 0], 2, b"");
 }
 
 // and by 15 (SPEC 7.15).
 fn write_room() {
-    writes_short(b"11 before 15", &[7, 0, 0, 0], 1, b"");
-    writes_short(b"one byte short", &[1, 0, 0, 0], 1, b"");
+    writes_short(b"11 before 15", &[1, 0, 0, 0, 7, 1, 0, 0], 2, b"");
+    writes_short(b"one byte short", &[1, 0, 0, 0, 1, 0, 0, 0], 2, b"");
     writes_enough(
         b"just long enough",
-        &[1, 0, 0, 0],
-        1,
-        b"let\nf0=b;\na=f0;\ntel\n",
+        &[1, 0, 0, 0, 1, 0, 0, 0],
+        2,
+        b"let\nf0=b;\nf1=b;\nw=f0;\na=f1;\ntel\n",
     );
 }
 
@@ -259,81 +307,152 @@ fn write_room() {
 fn read_room() {
     reads(
         b"eleven",
-        b"let\nf0=b;\nf1=b;\nf2=b;\nf3=b;\nf4=b;\nf5=b;\nf6=b;\nf7=b;\nf8=b;\nf9=b;\nf10=not f9;\na=f10;\ntel\n",
+        b"let\nf0=b;\nf1=b;\nf2=b;\nf3=b;\nf4=b;\nf5=b;\nf6=b;\nf7=b;\nf8=b;\nf9=b;\nf10=not f9;\nw=f9;\na=f10;\ntel\n",
     );
-    reads_short(b"one number short", b"let\nf0=b;\na=f0;\ntel\n");
-    reads_short(b"16 before 9", b"let\nf0=b;\na=f0;\ntel");
+    reads_short(
+        b"one number short",
+        b"let\nf0=b;\nf1=b;\nw=f0;\na=f1;\ntel\n",
+    );
+    reads_short(b"16 before 9", b"let\nf0=b;\nf1=b;\nw=f0;\na=f1;\ntel");
 }
 
 // Texts that no well-formed table has (SPEC 7.16): a number with a 0 in front (SPEC 2.8),
 fn needless_zeros() {
-    reads(b"needless 0 in a line number", b"let\nf00=b;\na=f0;\ntel\n");
-    reads(b"needless 0 in a signal", b"let\nf0=s05;\na=f0;\ntel\n");
+    reads(
+        b"needless 0 in a line number",
+        b"let\nf00=b;\nf1=b;\nw=f0;\na=f1;\ntel\n",
+    );
+    reads(
+        b"needless 0 in a signal",
+        b"let\nf0=s05;\nf1=b;\nw=f0;\na=f1;\ntel\n",
+    );
+    reads(
+        b"needless 0 in the number after w=",
+        b"let\nf0=b;\nf1=b;\nw=f00;\na=f1;\ntel\n",
+    );
     reads(
         b"needless 0 in the last number",
-        b"let\nf0=b;\na=f00;\ntel\n",
+        b"let\nf0=b;\nf1=b;\nw=f0;\na=f01;\ntel\n",
     );
     reads(
         b"needless 0 in a literal",
-        b"let\nf0=0->pre(f0);\nf1=f0<=012;\na=f1;\ntel\n",
+        b"let\nf0=0->pre(f0);\nf1=b;\nf2=f0<=012;\nw=f1;\na=f2;\ntel\n",
     );
 }
 
-// a wrong number of a line (SPEC 9.2) or of the last flow (SPEC 9.1),
+// a wrong number of a line (SPEC 9.2) or of the last two flows (SPEC 9.1),
 fn wrong_numbers() {
-    reads(b"wrong line number", b"let\nf1=b;\na=f1;\ntel\n");
-    reads(b"line left out", b"let\nf0=b;\nf2=b;\na=f2;\ntel\n");
-    reads(b"wrong last number", b"let\nf0=b;\nf1=b;\na=f0;\ntel\n");
+    reads(
+        b"wrong line number",
+        b"let\nf1=b;\nf2=b;\nw=f0;\na=f1;\ntel\n",
+    );
+    reads(
+        b"line left out",
+        b"let\nf0=b;\nf2=b;\nf3=b;\nw=f2;\na=f3;\ntel\n",
+    );
+    reads(
+        b"w= with the verdict",
+        b"let\nf0=b;\nf1=b;\nw=f1;\na=f1;\ntel\n",
+    );
+    reads(
+        b"w= with an earlier flow",
+        b"let\nf0=b;\nf1=b;\nf2=b;\nw=f0;\na=f2;\ntel\n",
+    );
+    reads(
+        b"a= with the started flow",
+        b"let\nf0=b;\nf1=b;\nw=f0;\na=f0;\ntel\n",
+    );
+    reads(
+        b"the two numbers exchanged",
+        b"let\nf0=b;\nf1=b;\nw=f1;\na=f0;\ntel\n",
+    );
 }
 
 // something missing or too much (SPEC 9.1),
 fn wrong_frames() {
     reads(b"empty", b"");
-    reads(b"last byte 10 missing", b"let\nf0=b;\na=f0;\ntel");
-    reads(b"bytes after tel", b"let\nf0=b;\na=f0;\ntel\n\n");
-    reads(b"no let", b"f0=b;\na=f0;\ntel\n");
-    reads(b"no line", b"let\na=f0;\ntel\n");
+    reads(
+        b"last byte 10 missing",
+        b"let\nf0=b;\nf1=b;\nw=f0;\na=f1;\ntel",
+    );
+    reads(
+        b"bytes after tel",
+        b"let\nf0=b;\nf1=b;\nw=f0;\na=f1;\ntel\n\n",
+    );
+    reads(b"no let", b"f0=b;\nf1=b;\nw=f0;\na=f1;\ntel\n");
+    reads(b"no line", b"let\nw=f0;\na=f1;\ntel\n");
+}
+
+// the last lines not both there, or not in their order,
+fn wrong_last_lines() {
+    reads(b"no line w=", b"let\nf0=b;\nf1=b;\na=f1;\ntel\n");
+    reads(b"no line a=", b"let\nf0=b;\nf1=b;\nw=f0;\ntel\n");
+    reads(b"w= after a=", b"let\nf0=b;\nf1=b;\na=f1;\nw=f0;\ntel\n");
+}
+
+// one equation, which has no last but one (SPEC 5.5),
+fn one_equation() {
+    reads(b"one equation", b"let\nf0=b;\na=f0;\ntel\n");
+    reads(b"one equation, w=f0", b"let\nf0=b;\nw=f0;\na=f0;\ntel\n");
 }
 
 // another spelling (SPEC 9.2, and of a comparison SPEC 9.4),
 fn wrong_spellings() {
-    reads(b"no semicolon", b"let\nf0=b\na=f0;\ntel\n");
-    reads(b"a space", b"let\nf0= b;\na=f0;\ntel\n");
+    reads(b"no semicolon", b"let\nf0=b\nf1=b;\nw=f0;\na=f1;\ntel\n");
+    reads(
+        b"no semicolon after w=",
+        b"let\nf0=b;\nf1=b;\nw=f0\na=f1;\ntel\n",
+    );
+    reads(b"a space", b"let\nf0= b;\nf1=b;\nw=f0;\na=f1;\ntel\n");
     reads(
         b"unknown operator",
-        b"let\nf0=0->pre(f0);\nf1=f0=<1;\na=f1;\ntel\n",
+        b"let\nf0=0->pre(f0);\nf1=b;\nf2=f0=<1;\nw=f1;\na=f2;\ntel\n",
     );
 }
 
-// operands against SPEC 5.4, and a last equation against SPEC 5.5,
+// operands against SPEC 5.4,
 fn wrong_operands() {
     reads(
         b"wrong sort",
-        b"let\nf0=0->pre(f0);\nf1=not f0;\na=f1;\ntel\n",
+        b"let\nf0=0->pre(f0);\nf1=b;\nf2=not f0;\nw=f1;\na=f2;\ntel\n",
     );
-    reads(b"not earlier", b"let\nf0=not f0;\na=f0;\ntel\n");
-    reads(b"later", b"let\nf0=not f1;\nf1=b;\na=f1;\ntel\n");
+    reads(
+        b"not earlier",
+        b"let\nf0=b;\nf1=not f1;\nw=f0;\na=f1;\ntel\n",
+    );
+    reads(b"later", b"let\nf0=not f1;\nf1=b;\nw=f0;\na=f1;\ntel\n");
     reads(
         b"no such equation",
-        b"let\nf0=false->pre(f4096);\na=f0;\ntel\n",
+        b"let\nf0=false->pre(f4096);\nf1=b;\nw=f0;\na=f1;\ntel\n",
     );
-    reads(b"last a count", b"let\nf0=0->pre(f0);\na=f0;\ntel\n");
+}
+
+// one of the last two equations against SPEC 5.5,
+fn wrong_closing() {
+    reads(
+        b"last a count",
+        b"let\nf0=b;\nf1=0->pre(f1);\nw=f0;\na=f1;\ntel\n",
+    );
+    reads(
+        b"last but one a count",
+        b"let\nf0=0->pre(f0);\nf1=b;\nw=f0;\na=f1;\ntel\n",
+    );
 }
 
 // numbers above the ranges of SPEC 5.3.
 fn wrong_ranges() {
-    reads(b"signal 64", b"let\nf0=s64;\na=f0;\ntel\n");
+    reads(b"signal 64", b"let\nf0=s64;\nf1=b;\nw=f0;\na=f1;\ntel\n");
     reads(
         b"parameter 8",
-        b"let\nf0=0->pre(f0);\nf1=f0<k8;\na=f1;\ntel\n",
+        b"let\nf0=0->pre(f0);\nf1=b;\nf2=f0<k8;\nw=f1;\na=f2;\ntel\n",
     );
     reads(
         b"literal 1000000",
-        b"let\nf0=0->pre(f0);\nf1=f0<1000000;\na=f1;\ntel\n",
+        b"let\nf0=0->pre(f0);\nf1=b;\nf2=f0<1000000;\nw=f1;\na=f2;\ntel\n",
     );
     reads(
         b"number past 32 bits",
-        b"let\nf0=s4294967296;\na=f0;\ntel\n",
+        b"let\nf0=s4294967296;\nf1=b;\nw=f0;\na=f1;\ntel\n",
     );
 }
 
@@ -341,16 +460,21 @@ fn main() {
     leaves();
     connectives();
     memories();
+    compiled();
     literals();
     parameters();
     write_sizes();
     write_rules();
+    write_closing();
     write_room();
     read_room();
     needless_zeros();
     wrong_numbers();
     wrong_frames();
+    wrong_last_lines();
+    one_equation();
     wrong_spellings();
     wrong_operands();
+    wrong_closing();
     wrong_ranges();
 }
