@@ -2,6 +2,7 @@
 use mathlib.Core.Path.{_≡_, refl}
 use mathlib.Core.List.{[], _∷_, _++_}
 use Rattle.lists.specs.Text.{bytes}
+use Rattle.traces.specs.Trace.{idleVerdict}
 use Rattle.cards.specs.Lines.{cut}
 use Rattle.cards.specs.Says.{lineSays}
 use Rattle.player.specs.Card.{played, lined, owed, prints, printed}
@@ -32,6 +33,10 @@ verdict-0 = refl
 verdict-1 : outputBytes (O.Verdict 1) ≡ bytes "verdict=1" ++ (10 ∷ [])
 unfolding outputBytes
 verdict-1 = refl
+
+verdict-2 : outputBytes (O.Verdict idleVerdict) ≡ bytes "verdict=2" ++ (10 ∷ [])
+unfolding outputBytes
+verdict-2 = refl
 
 -- No bytes at all, a first line that is broken, and one with no line end: the first line fails (SPEC 10.7).
 empty : printed [] ≡ bytes "refused=17" ++ (10 ∷ [])
