@@ -76,7 +76,10 @@ module _ (t : List ℕ) (small : (i : ℕ) → numberAt t i < 4294967296) where
   -- The whole text.
   pub text-few : (n : ℕ) → n ≤ equationLimit → length (textOf t n) ≤ lengthLimit
   unfolding textOf foot
-  text-few n h = simp length-append (omega (arith, lines-few n h, digits-short (startedOf n) (omega arith), digits-short (verdictOf n) (omega arith)))
+  text-few n h =
+      let started = digits-short (startedOf n) (omega arith) in
+      let verdict = digits-short (verdictOf n) (omega arith) in
+      simp length-append (omega (arith, lines-few n h))
 
   -- What a call wrote.
   pub written-few : (n l : ℕ) (buffer : List ℕ) → writeEffect t n buffer .answer ≡ Length l → l ≤ lengthLimit

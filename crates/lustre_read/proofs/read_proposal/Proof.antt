@@ -95,13 +95,14 @@ bytes-after c =
     bytes-left (opened (first-told read)) (read .read-lines .ensures) (equationOf (number .result))
     (equationOf (found .0 .0)) (found .0 .1 .0) (number .ensures) (closed (c .before)) (c .if1 .taken)
 
--- They do not name the last two flows,
+-- The last lines name the last two flows.
 abbrev lastNamed : tie.After-known-told2 → Type 0
 lastNamed c =
     let e = c .before .tail .given .0 .0 in
     let n = lines (last c) .read-lines .result .n in
     (e .a + closingCount ≡ n) × (e .b + 1 ≡ n)
 
+-- If they do not, no table writes the text:
 others-named : (c : tie.After-known-told2) → (lastNamed c → ⊥)
     → (t : List ℕ) (m : ℕ) → Writes t m (entry (last c) .args .text .now) → ⊥
 others-named c h =
@@ -112,11 +113,11 @@ others-named c h =
     other-last (opened (first-told read)) (read .read-lines .ensures) (equationOf (number .result))
     (equationOf (found .0 .0)) (found .0 .1 .0) (number .ensures) (closed c) h
 
--- the started flow,
+-- they name another flow than the started one,
 other-started : tie.Need-returns-4
 other-started c = others-named (last-told (c .before .before)) (λ named. c .if2 .taken (named .0))
 
--- or the verdict.
+-- or another than the verdict.
 other-verdict : tie.Need-returns-5
 other-verdict c = others-named (last-told (ended (c .before .before))) (λ named. c .if3 .taken (named .1))
 
