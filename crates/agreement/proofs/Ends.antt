@@ -1,5 +1,5 @@
--- How an observer's table closes (SPEC 12.7): its last three equations are those of the closing rows. Over a number m of
--- signals that is left open (scheme, proofs/Parts.antt). Assumes nothing.
+-- How an observer's table closes (SPEC 12.7): its last three equations are those of the closing rows. Over a number m
+-- of signals that is left open (scheme, proofs/Parts.antt). Assumes nothing.
 use mathlib.Core.Bool.{true}
 use mathlib.Core.List.{List, _++_}
 use mathlib.Core.Path.{_≡_}

@@ -19,7 +19,7 @@ use Rattle.tables.specs.Table.{kindOf}
 use Rattle.limits.specs.Limits.{parameterCount}
 use Rattle.flows.specs.Lustre.{Lustre}
 use Rattle.scheme.specs.Scheme.{_⊕_}
-use Rattle.scheme.specs.Emit.{namedBy, startFlow, idleFlow, headerCount, numbersOf}
+use Rattle.scheme.specs.Emit.{namedBy, startFlow, negatedFlow, headerCount, numbersOf}
 use Rattle.scheme.proofs.Offsets.{zero-⊕}
 use Rattle.scheme.proofs.Places.{each-left, each-right}
 use Rattle.scheme.proofs.Parts.{headRows, flowAmong, bodyPlace, bodyBlock, wholePlace, wholeRows}
@@ -48,7 +48,7 @@ module _ (cap : ℕ) (trace : Trace) (flow : ℕ → ℕ → ℕ) where
     unfolding kindOf
     begins k = head .0 k
 
-    negated : (k : ℕ) → on flow idleFlow k ≡ not (on flow startFlow k)
+    negated : (k : ℕ) → on flow negatedFlow k ≡ not (on flow startFlow k)
     unfolding kindOf
     negated k = head .1 .0 k
 
@@ -76,7 +76,7 @@ module _ (cap : ℕ) (trace : Trace) (flow : ℕ → ℕ → ℕ) where
 
       body-agrees : Agrees cap trace flow startFlow (bodyBlock m f .out) f
       body-agrees =
-          agrees cap trace flow same small (flowAmong (namedBy f) m) f startFlow idleFlow (bodyPlace m f) (record {
+          agrees cap trace flow same small (flowAmong (namedBy f) m) f startFlow negatedFlow (bodyPlace m f) (record {
             led = led;
             bound = bound;
             signals = signals;

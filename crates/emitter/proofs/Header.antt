@@ -13,14 +13,14 @@ use Rattle.traces.specs.Trace.{nonzero}
 use Rattle.tables.specs.Kind.{SIGNAL, START, NOT}
 use Rattle.limits.specs.Limits.{signalCount}
 use Rattle.tables.specs.Table.{equation}
-use Rattle.scheme.specs.Emit.{placeAfter, signals-es, places, startFlow, idleFlow, headerCount, start-es}
+use Rattle.scheme.specs.Emit.{placeAfter, signals-es, places, startFlow, negatedFlow, headerCount, start-es}
 use Rattle.emitter.specs.Machine.{withEquations, Header, headerOf, withSignal, settle}
 use Rattle.emitter.specs.Contract.{Headed}
 use Rattle.emitter.proofs.Equations.{equations-append}
 
 -- The start flow and its negation, one after the other.
 pub starts-are : (t : List ℕ) {t₁ t₂ : List ℕ} → t₁ ≡ withEquations t startFlow (equation START 0 0 0 ∷ [])
-    → t₂ ≡ withEquations t₁ idleFlow (equation NOT startFlow 0 0 ∷ []) → t₂ ≡ withEquations t 0 start-es
+    → t₂ ≡ withEquations t₁ negatedFlow (equation NOT startFlow 0 0 ∷ []) → t₂ ≡ withEquations t 0 start-es
 starts-are t e₁ e₂ =
     rw (e₂, e₁, equations-append (equation START 0 0 0 ∷ []) (equation NOT startFlow 0 0 ∷ []) t startFlow)
 

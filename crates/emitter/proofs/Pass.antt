@@ -34,7 +34,7 @@ all s es n st = state (withEquations (s .table) (s .next) es) (placeAfter (s .ne
 
 -- A block's equations at the next place, its result on the stack.
 abbrev pub done : Block → State → State
-done x s = all s (x .es) (s .idle) (x .out ∷ s .stack)
+done x s = all s (x .es) (s .negated) (x .out ∷ s .stack)
 
 -- Equations after equations.
 joined : (s : State) (xs ys : List Equation) (m n : ℕ) (u st : List ℕ) →
@@ -68,34 +68,35 @@ module _ (places : List ℕ) where
   -- The equations of `not` after its operand's, of `and` and `or` after theirs, an atom's after its proposition's.
   not-done : (x : Block) (r : List ℕ) (s : State) →
       run places r
-      (all (done x s) (not-es (placeAfter (s .next) (x .es)) (x .out)) (s .idle)
+      (all (done x s) (not-es (placeAfter (s .next) (x .es)) (x .out)) (s .negated)
       (placeAfter (s .next) (x .es) ∷ s .stack))
       ≡ run places r (done (not-block (s .next) x) s)
   not-done x r s =
       let o : ℕ = placeAfter (s .next) (x .es) in
       ap (run places r)
-      (joined s (x .es) (not-es o (x .out)) (s .idle) (s .idle) (x .out ∷ s .stack) (o ∷ s .stack))
+      (joined s (x .es) (not-es o (x .out)) (s .negated) (s .negated) (x .out ∷ s .stack) (o ∷ s .stack))
 
   join-done : (join : ℕ → ℕ → ℕ → List Equation) (d : Node) (x y : Block) (r : List ℕ) (s : State) →
       (let o : ℕ = placeAfter (placeAfter (s .next) (x .es)) (y .es) in
-      run places r (all (done y (done x s)) (join o (x .out) (y .out)) (s .idle) (ownFlow o (d .result) ∷ s .stack))
+      run places r (all (done y (done x s)) (join o (x .out) (y .out)) (s .negated) (ownFlow o (d .result) ∷ s .stack))
       ≡ run places r (done (join-block join d (s .next) x y) s))
   join-done join d x y r s =
       let o : ℕ = placeAfter (placeAfter (s .next) (x .es)) (y .es) in
       let st : List ℕ = x .out ∷ s .stack in
       let st′ : List ℕ = ownFlow o (d .result) ∷ s .stack in
       ap (run places r)
-      (joined (done x s) (y .es) (join o (x .out) (y .out)) (s .idle) (s .idle) (y .out ∷ st) st′
-      ∙ joined s (x .es) (y .es ++ join o (x .out) (y .out)) (s .idle) (s .idle) st st′)
+      (joined (done x s) (y .es) (join o (x .out) (y .out)) (s .negated) (s .negated) (y .out ∷ st) st′
+      ∙ joined s (x .es) (y .es ++ join o (x .out) (y .out)) (s .negated) (s .negated) st st′)
 
   atom-done : (rest : ℕ → ℕ → List Equation) (d : Node) (x : Block) (r : List ℕ) (s : State) →
       (let o : ℕ = placeAfter (s .next) (x .es) in
-      run places r (all (done x s) (rest o (x .out)) (s .idle) (ownFlow o (d .result) ∷ s .stack))
+      run places r (all (done x s) (rest o (x .out)) (s .negated) (ownFlow o (d .result) ∷ s .stack))
       ≡ run places r (done (atom-block rest d (s .next) x) s))
   atom-done rest d x r s =
       let o : ℕ = placeAfter (s .next) (x .es) in
       ap (run places r)
-      (joined s (x .es) (rest o (x .out)) (s .idle) (s .idle) (x .out ∷ s .stack) (ownFlow o (d .result) ∷ s .stack))
+      (joined s (x .es) (rest o (x .out)) (s .negated) (s .negated) (x .out ∷ s .stack)
+      (ownFlow o (d .result) ∷ s .stack))
 
   -- ---- propositions
 
@@ -132,43 +133,46 @@ module _ (places : List ℕ) where
   -- ---- formulas: the start flow is the one before the negated one
 
   abbrev pub block : Formula → State → Block
-  block f s = emit flowOf f (before (s .idle)) (s .idle) (s .next)
+  block f s = emit flowOf f (before (s .negated)) (s .negated) (s .next)
 
   pub run-formula : (f : Formula) → Runs (flat (raw f)) (block f)
   unfolding nodeOf valuesAt applied step run
   run-formula (test begin p) r s =
-      of-test begin p r s ∙ atom-done (begin-es (before (s .idle)) (s .idle)) beginNode (blockP p s) r s
+      of-test begin p r s ∙ atom-done (begin-es (before (s .negated)) (s .negated)) beginNode (blockP p s) r s
   run-formula (test end p) r s =
       let x : Block = blockP p s in
       of-test end p r s ∙ ap (run places r) (rw (equations-none (done x s .table) (done x s .next)))
-  run-formula (test point p) r s = of-test point p r s ∙ atom-done (point-es (before (s .idle))) pointNode
-      (blockP p s) r s
+  run-formula (test point p) r s =
+      of-test point p r s ∙ atom-done (point-es (before (s .negated))) pointNode (blockP p s) r s
   run-formula (test held p) r s =
-      of-test held p r s ∙ atom-done (held-es (before (s .idle)) (s .idle)) heldNode (blockP p s) r s
-  run-formula (test kept p) r s = of-test kept p r s ∙ atom-done (kept-es (before (s .idle))) keptNode (blockP p s) r s
+      of-test held p r s ∙ atom-done (held-es (before (s .negated)) (s .negated)) heldNode (blockP p s) r s
+  run-formula (test kept p) r s =
+      of-test kept p r s ∙ atom-done (kept-es (before (s .negated))) keptNode (blockP p s) r s
   run-formula (len o n) r s = refl
-  run-formula (count sum p o n) r s = of-count sum p o n r s ∙ atom-done (sum-es (s .idle) o n) sumNode (blockP p s) r s
-  run-formula (count age p o n) r s = of-count age p o n r s ∙ atom-done (age-es (s .idle) o n) ageNode (blockP p s) r s
+  run-formula (count sum p o n) r s =
+      of-count sum p o n r s ∙ atom-done (sum-es (s .negated) o n) sumNode (blockP p s) r s
+  run-formula (count age p o n) r s =
+      of-count age p o n r s ∙ atom-done (age-es (s .negated) o n) ageNode (blockP p s) r s
   -- s₁ is the state after the rows of the run, with its flow on the stack.
   run-formula (lag p n q) r s =
       let x : Block = blockP p s in
       let o₁ : ℕ = placeAfter (s .next) (x .es) in
-      let ran-es : List Equation = run-es (s .idle) o₁ (x .out) in
-      let s₁ : State = all (done x s) ran-es (s .idle) ((o₁ ⊕ 1) ∷ s .stack) in
+      let ran-es : List Equation = run-es (s .negated) o₁ (x .out) in
+      let s₁ : State = all (done x s) ran-es (s .negated) ((o₁ ⊕ 1) ∷ s .stack) in
       let y : Block = blockP q s₁ in
       let o₂ : ℕ = placeAfter (afterRun o₁) (y .es) in
       let due-es : List Equation = fine-es n o₂ (o₁ ⊕ 1) (y .out) in
-      let last-es : List Equation = always-es (before (s .idle)) (afterFine o₂) (o₂ ⊕ 3) in
+      let last-es : List Equation = always-es (before (s .negated)) (afterFine o₂) (o₂ ⊕ 3) in
       let st : List ℕ = (o₂ ⊕ 6) ∷ s .stack in
       let closing : List ℕ = row FINE (opNumber lt) (numKind n) (numValue n) ++ row ALWAYS 0 0 0 in
       let rest : List ℕ = row RUN 0 0 0 ++ (flat (rawP q) ++ closing) in
       after (flat (rawP p)) rest (blockP p) (run-prop p) r s
       ∙ after (flat (rawP q)) closing (blockP q) (run-prop q) r s₁
       ∙ ap (run places r)
-      (joined (done y s₁) due-es last-es (s .idle) (s .idle) ((o₂ ⊕ 3) ∷ s .stack) st
-      ∙ joined s₁ (y .es) (due-es ++ last-es) (s .idle) (s .idle) (y .out ∷ s₁ .stack) st
-      ∙ joined (done x s) ran-es (y .es ++ (due-es ++ last-es)) (s .idle) (s .idle) (s₁ .stack) st
-      ∙ joined s (x .es) (ran-es ++ (y .es ++ (due-es ++ last-es))) (s .idle) (s .idle) (x .out ∷ s .stack) st)
+      (joined (done y s₁) due-es last-es (s .negated) (s .negated) ((o₂ ⊕ 3) ∷ s .stack) st
+      ∙ joined s₁ (y .es) (due-es ++ last-es) (s .negated) (s .negated) (y .out ∷ s₁ .stack) st
+      ∙ joined (done x s) ran-es (y .es ++ (due-es ++ last-es)) (s .negated) (s .negated) (s₁ .stack) st
+      ∙ joined s (x .es) (ran-es ++ (y .es ++ (due-es ++ last-es))) (s .negated) (s .negated) (x .out ∷ s .stack) st)
   run-formula (neg f) r s = one (flat (raw f)) (block f) (run-formula f) NOT 0 0 0 r s ∙ not-done (block f s) r s
   run-formula (and f g) r s =
       let x : Block = block f s in
@@ -182,16 +186,16 @@ module _ (places : List ℕ) where
   run-formula (then f g) r s =
       let x : Block = block f s in
       let o₁ : ℕ = placeAfter (s .next) (x .es) in
-      let end-es : List Equation = lead-end-es (s .idle) o₁ (x .out) in
-      let s₁ : State = all (done x s) end-es (o₁ ⊕ 4) (s .idle ∷ s .stack) in
+      let end-es : List Equation = lead-end-es (s .negated) o₁ (x .out) in
+      let s₁ : State = all (done x s) end-es (o₁ ⊕ 4) (s .negated ∷ s .stack) in
       let y : Block = block g s₁ in
       let o₂ : ℕ = placeAfter (o₁ ⊕ 5) (y .es) in
-      let rest-es : List Equation = then-es (s .idle) o₂ (o₁ ⊕ 3) (y .out) in
+      let rest-es : List Equation = then-es (s .negated) o₂ (o₁ ⊕ 3) (y .out) in
       let st : List ℕ = (o₂ ⊕ 3) ∷ s .stack in
       let rest : List ℕ = row LEAD-END 0 0 0 ++ (flat (raw g) ++ row THEN 0 0 0) in
       after (flat (raw f)) rest (block f) (run-formula f) r s
       ∙ one (flat (raw g)) (block g) (run-formula g) THEN 0 0 0 r s₁
       ∙ ap (run places r)
-      (joined s₁ (y .es) rest-es (o₁ ⊕ 4) (s .idle) (y .out ∷ s .idle ∷ s .stack) st
-      ∙ joined (done x s) end-es (y .es ++ rest-es) (o₁ ⊕ 4) (s .idle) (s .idle ∷ s .stack) st
-      ∙ joined s (x .es) (end-es ++ (y .es ++ rest-es)) (s .idle) (s .idle) (x .out ∷ s .stack) st)
+      (joined s₁ (y .es) rest-es (o₁ ⊕ 4) (s .negated) (y .out ∷ s .negated ∷ s .stack) st
+      ∙ joined (done x s) end-es (y .es ++ rest-es) (o₁ ⊕ 4) (s .negated) (s .negated ∷ s .stack) st
+      ∙ joined s (x .es) (end-es ++ (y .es ++ rest-es)) (s .negated) (s .negated) (x .out ∷ s .stack) st)

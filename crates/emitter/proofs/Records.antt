@@ -11,7 +11,7 @@ use lib.Seq.{drop-cons}
 use Rattle.lists.specs.Number.{numberAt}
 use Rattle.formulas.specs.Arena.{SIGNAL}
 use Rattle.scheme.specs.Scheme.{widest}
-use Rattle.scheme.specs.Emit.{idleFlow}
+use Rattle.scheme.specs.Emit.{negatedFlow}
 use Rattle.emitter.specs.Machine.{stackSize, State, state, step, run, ran, stacked}
 use Rattle.emitter.specs.Machine.{recordAt, whole, recordFrom, marked, marks}
 use Rattle.emitter.specs.Contract.{Entered, Ran, stateOf}
@@ -61,12 +61,12 @@ pub record Entering (arena places t₀ : List ℕ) (o : ℕ) (t stack : List ℕ
   pub passed : i ≤ length arena
   pub same : length t ≡ length t₀
   pub room : length stack ≡ stackSize
-  pub left : run places (drop i arena) (stateOf t stack m) ≡ run places arena (state t₀ o idleFlow [])
+  pub left : run places (drop i arena) (stateOf t stack m) ≡ run places arena (state t₀ o negatedFlow [])
   pub near : 4 * m .next ≤ 4 * o + widest * i
   pub low : 4 * m .height ≤ i
 
 pub entering-none : {arena places t : List ℕ} {o : ℕ} {stack : List ℕ} → length stack ≡ stackSize
-    → Entering arena places t o t stack (record { next = o; idle = idleFlow; height = 0 }) 0
+    → Entering arena places t o t stack (record { next = o; negated = negatedFlow; height = 0 }) 0
 unfolding stacked
 entering-none h =
     record { passed = omega arith; same = refl; room = h; left = refl; near = omega arith; low = omega arith }
@@ -96,7 +96,7 @@ pub entering-all : {arena places t₀ : List ℕ} {o : ℕ} {t stack : List ℕ}
 entering-all {arena} {places} {t₀} {o} {t} {stack} {m} {i} {t′} {stack′} {x} {m′} e h e-x d =
     let is-whole : x ≡ whole = rw (lt-leb (i + 4) (length arena) h) at e-x in
     let s : State = stateOf t stack m in
-    let done : s ≡ run places arena (state t₀ o idleFlow []) =
+    let done : s ≡ run places arena (state t₀ o negatedFlow []) =
     sym (run-short places (drop i arena) s (short arena i h)) ∙ e .left in
     let all : stateOf t′ stack′ m′ ≡ ran arena places t₀ o =
     rw is-whole at (d .stands) ∙ ap (step places whole) done in

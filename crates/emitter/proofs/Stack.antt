@@ -83,20 +83,20 @@ added {vs} {t} {stack} {m} {d} {t′} k v e-d e-vs h =
     let e-t = h .rows in
     let e-h = h .result in
     let e-next = h .next in
-    let e-idle = h .idle in
+    let e-negated = h .negated in
     let few = rows-few k in
     let count : d .count ≡ length (nodeOf k .rows) = ap (λ (x : CodeNode). x .count) e-d in
     let takes : d .takes ≡ nodeOf k .takes = ap (λ (x : CodeNode). x .takes) e-d in
     let result : d .result ≡ nameNumber (nodeOf k .result) = ap (λ (x : CodeNode). x .result) e-d in
-    let idle : d .idle ≡ nameNumber (nodeOf k .idle) = ap (λ (x : CodeNode). x .idle) e-d in
+    let negated : d .negated ≡ nameNumber (nodeOf k .negated) = ap (λ (x : CodeNode). x .negated) e-d in
     let rows : take (d .count) (map (lookedUp vs) (d .rows)) ≡ filled v (nodeOf k .rows) =
     ap₂ (λ (x : CodeNode) (l : List ℕ). take (x .count) (map (lookedUp l) (x .rows))) e-d e-vs ∙ own-rows v k in
     let table : t′ ≡ withEquations t (m .next) (filled v (nodeOf k .rows)) = e-t ∙ ap (withEquations t (m .next))
     rows in
     let pushed-out : numberAt vs (d .result) ≡ valueNamed v (nodeOf k .result) =
     ap₂ numberAt e-vs result ∙ named v (nodeOf k .result) in
-    let idle-out : numberAt vs (d .idle) ≡ valueNamed v (nodeOf k .idle) =
-    ap₂ numberAt e-vs idle ∙ named v (nodeOf k .idle) in
+    let negated-out : numberAt vs (d .negated) ≡ valueNamed v (nodeOf k .negated) =
+    ap₂ numberAt e-vs negated ∙ named v (nodeOf k .negated) in
     record {
       stands = cc (⊕-add (m .next) (length (nodeOf k .rows)), e-h .holds);
       near = omega arith;
@@ -106,9 +106,9 @@ added {vs} {t} {stack} {m} {d} {t′} k v e-d e-vs h =
 -- One record, whose node was added.
 pub entered : {places : List ℕ} {x : Record} {t stack : List ℕ} {m : Place} {d : CodeNode} {vs t′ stack′ : List ℕ}
     {m′ : Place} → d ≡ asNode (nodeOf (x .kind))
-    → vs ≡ valueList (valuesAt places (m .next) (m .idle) (stacked stack (m .height)) x)
+    → vs ≡ valueList (valuesAt places (m .next) (m .negated) (stacked stack (m .height)) x)
     → AddedBy d vs t stack m t′ stack′ m′ → Entered places x t stack m t′ stack′ m′
 unfolding step
 entered {places} {x} {stack = stack} {m = m} e-d e-v h =
-    let a = added (x .kind) (valuesAt places (m .next) (m .idle) (stacked stack (m .height)) x) e-d e-v h in
+    let a = added (x .kind) (valuesAt places (m .next) (m .negated) (stacked stack (m .height)) x) e-d e-v h in
     record { stands = a .stands; near = a .near; low = a .low }

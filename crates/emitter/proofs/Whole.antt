@@ -14,7 +14,7 @@ use Rattle.tables.specs.Table.{Equation}
 use Rattle.limits.specs.Limits.{arenaLimit, signalCount}
 use Rattle.scheme.specs.Scheme.{_⊕_, nodeOf}
 use Rattle.scheme.specs.Emit.{Block, placeAfter, emit, namedBy, signals-es, places, whole-es}
-use Rattle.scheme.specs.Emit.{startFlow, idleFlow, headerCount, start-es}
+use Rattle.scheme.specs.Emit.{startFlow, negatedFlow, headerCount, start-es}
 use Rattle.emitter.specs.Machine.{withEquations, State, state, recordOf, valuesAt}
 use Rattle.emitter.specs.Machine.{applied, step, run, ran, marks, Header, headerOf, settle, headed}
 use Rattle.emitter.specs.Contract.{Emitted, Ran, Headed}
@@ -46,17 +46,17 @@ header-is f m t =
 
 ran-is : (f : Formula) (ps t : List ℕ) (o : ℕ) →
     ran (flat (raw f)) ps t o
-    ≡ step ps (recordOf WHOLE 0 0 0) (done (emit (numberAt ps) f startFlow idleFlow o) (state t o idleFlow []))
+    ≡ step ps (recordOf WHOLE 0 0 0) (done (emit (numberAt ps) f startFlow negatedFlow o) (state t o negatedFlow []))
 unfolding run
 ran-is f ps t o =
     ap (λ (l : List ℕ). ran l ps t o) (sym (append-nil (flat (raw f))))
-    ∙ ap (step ps (recordOf WHOLE 0 0 0)) (run-formula ps f [] (state t o idleFlow []))
+    ∙ ap (step ps (recordOf WHOLE 0 0 0)) (run-formula ps f [] (state t o negatedFlow []))
 
 whole-is : (x : Block) (ps t : List ℕ) (o : ℕ) →
     (let o′ : ℕ = placeAfter o (x .es) in
-    step ps (recordOf WHOLE 0 0 0) (done x (state t o idleFlow []))
+    step ps (recordOf WHOLE 0 0 0) (done x (state t o negatedFlow []))
     ≡ state (withEquations (withEquations t o (x .es)) o′ (whole-es startFlow o′ (x .out)))
-    (placeAfter o′ (whole-es startFlow o′ (x .out))) idleFlow
+    (placeAfter o′ (whole-es startFlow o′ (x .out))) negatedFlow
     ((o′ ⊕ 2) ∷ []))
 unfolding nodeOf valuesAt applied step
 whole-is x ps t o = refl
@@ -72,7 +72,7 @@ module _ (f : Formula) (m : ℕ) (t : List ℕ) where
   flows = places (namedBy f) 0 headerCount m
 
   abbrev pub middle : Block
-  middle = emit (numberAt flows) f startFlow idleFlow (placeAfter 0 head)
+  middle = emit (numberAt flows) f startFlow negatedFlow (placeAfter 0 head)
 
   abbrev pub last : List Equation
   last = whole-es startFlow (placeAfter (placeAfter 0 head) (middle .es)) (middle .out)

@@ -34,7 +34,7 @@ pub record PassRoom (m : Place) (stack : List ℕ) : Type 0 where
 
 -- Where the pass stands, as the machine's state.
 abbrev pub stateOf : List ℕ → List ℕ → Place → State
-stateOf t stack m = state t (m .next) (m .idle) (stacked stack (m .height))
+stateOf t stack m = state t (m .next) (m .negated) (stacked stack (m .height))
 
 -- Operands came off the stack, and v went on.
 pub record Restacked (stack : List ℕ) (height takes v : ℕ) (stack′ : List ℕ) (height′ : ℕ) : Type 0 where
@@ -51,7 +51,7 @@ pub record Added (d : Node) (v : Values) (t stack : List ℕ) (m : Place) (t′ 
 pub record AddedBy (d : CodeNode) (vs t stack : List ℕ) (m : Place) (t′ stack′ : List ℕ) (m′ : Place) : Type 0 where
   pub rows : t′ ≡ withEquations t (m .next) (take (d .count) (map (lookedUp vs) (d .rows)))
   pub next : m′ .next ≡ m .next + d .count
-  pub idle : m′ .idle ≡ numberAt vs (d .idle)
+  pub negated : m′ .negated ≡ numberAt vs (d .negated)
   pub result : Restacked stack (m .height) (d .takes) (numberAt vs (d .result)) stack′ (m′ .height)
 
 -- One record was entered.

@@ -16,7 +16,7 @@ use Rattle.tables.specs.Table.{Equation}
 use Rattle.limits.specs.Limits.{recordLimit, signalCount}
 use Rattle.scheme.specs.Scheme.{_⊕_, Node, nodeOf, Values, valueNamed, comparisonOf, filled}
 use Rattle.tables.specs.Table.{equation}
-use Rattle.scheme.specs.Emit.{idleFlow, headerCount, start-es, numbersOf}
+use Rattle.scheme.specs.Emit.{negatedFlow, headerCount, start-es, numbersOf}
 use Rattle.emitter.specs.declared.Record.{Record}
 
 -- Operands that wait on the stack: at most one for each record, and room for one more.
@@ -35,11 +35,11 @@ withEquations t o es = sets t (4 * o) (numbersOf es)
 pub record State : Type 0 where
   pub table : List ℕ
   pub next : ℕ
-  pub idle : ℕ
+  pub negated : ℕ
   pub stack : List ℕ
 
 abbrev pub state : List ℕ → ℕ → ℕ → List ℕ → State
-state t o n st = record { table = t; next = o; idle = n; stack = st }
+state t o n st = record { table = t; next = o; negated = n; stack = st }
 
 -- A start flow stands right before its negation.
 abbrev pub before : ℕ → ℕ
@@ -65,7 +65,7 @@ unfoldable pub valuesAt : List ℕ → ℕ → ℕ → List ℕ → Record → V
 valuesAt places o n st r =
     record {
       place = o;
-      idle = n;
+      negated = n;
       start = before n;
       last = numberAt st 0;
       previous = numberAt st 1;
@@ -79,10 +79,10 @@ valuesAt places o n st r =
 unfoldable pub applied : Node → Values → State → State
 applied d v s =
     state (withEquations (s .table) (s .next) (filled v (d .rows))) (s .next ⊕ length (d .rows))
-    (valueNamed v (d .idle)) (valueNamed v (d .result) ∷ drop (d .takes) (s .stack))
+    (valueNamed v (d .negated)) (valueNamed v (d .result) ∷ drop (d .takes) (s .stack))
 
 unfoldable pub step : List ℕ → Record → State → State
-step places r s = applied (nodeOf (r .kind)) (valuesAt places (s .next) (s .idle) (s .stack) r) s
+step places r s = applied (nodeOf (r .kind)) (valuesAt places (s .next) (s .negated) (s .stack) r) s
 
 -- ---- all records
 
@@ -101,7 +101,7 @@ stacked l (suc h) = numberAt l h ∷ stacked l h
 
 -- The records of an arena and then the whole rule's node, where the table's header ends at o.
 abbrev pub ran : List ℕ → List ℕ → List ℕ → ℕ → State
-ran l places t o = step places whole (run places l (state t o idleFlow []))
+ran l places t o = step places whole (run places l (state t o negatedFlow []))
 
 -- ---- the named signals
 

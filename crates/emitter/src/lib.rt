@@ -22,7 +22,7 @@ ghost use Rattle.emitter.specs.Contract.{Emitted, PassRoom, Restacked, A
 // The start flow and its negation, and how many these are: the header's equations before the named signals'.
 const START_FLOW: u32 = 0;
 
-const IDLE_FLOW: u32 = 1;
+const NEGATED_FLOW: u32 = 1;
 
 const HEADER: u32 = 2;
 
@@ -155,17 +155,17 @@ fn record_at(arena: &[u32], i: usize) -> Record
 // Where the pass stands: the place of the next equation, the negated start flow, the height of the stack.
 struct Place {
     pub next: u32,
-    pub idle: u32,
+    pub negated: u32,
     pub height: usize,
 }
 
 // The values for a record, in the order of their names.
 fn values_at(stack: &[u32], places: &[u32], m: Place, x: Record) -> [u32; VALUES]
     requires { ⌜ m .next ≤ equationLimit ⌝ }
-    ensures { λ r. ⌜ r ≡ valueList (valuesAt (now (places .entry)) (m .next) (m .idle)
+    ensures { λ r. ⌜ r ≡ valueList (valuesAt (now (places .entry)) (m .next) (m .negated)
         (stacked (now (stack .entry)) (m .height)) x) ⌝ }
 {
-    let start = before(m.idle);
+    let start = before(m.negated);
     let last = operand(stack, m.height, 0);
     let previous = operand(stack, m.height, 1);
     let signal = lists::number_at(places, x.a as usize);
@@ -173,7 +173,7 @@ fn values_at(stack: &[u32], places: &[u32], m: Place, x: Record) -> [u32; VALUES
     let o = m.next;
     [
         0,
-        m.idle,
+        m.negated,
         start,
         last,
         previous,
@@ -198,11 +198,11 @@ fn add_node(table: &mut [u32], stack: &mut [u32], m: Place, vs: &[u32; VALUES], 
 {
     fill(table, m.next, vs, d);
     let out = vs[d.result as usize];
-    let idle = vs[d.idle as usize];
+    let negated = vs[d.negated as usize];
     let height = push(stack, m.height, d.takes, out);
     Place {
         next: m.next + d.count,
-        idle,
+        negated,
         height,
     }
 }
@@ -250,7 +250,7 @@ fn enter_all(arena: &[u32], places: &[u32], table: &mut [u32], next: u32) -> u32
     let mut stack = [0u32; STACK];
     let mut m = Place {
         next,
-        idle: IDLE_FLOW,
+        negated: NEGATED_FLOW,
         height: 0,
     };
     let mut i = 0;
@@ -307,7 +307,7 @@ fn settle_all(table: &mut [u32], named: &mut [u32]) -> u32
     ensures { λ r. ⌜ Headed (now (table .entry)) (now (named .entry)) (now (table .exit)) (now (named .exit)) r ⌝ }
 {
     put(table, START_FLOW, tables::START, 0, 0, 0);
-    put(table, IDLE_FLOW, tables::NOT, START_FLOW, 0, 0);
+    put(table, NEGATED_FLOW, tables::NOT, START_FLOW, 0, 0);
     let mut next = HEADER;
     let mut j = 0;
     while j < SIGNALS {

@@ -69,8 +69,8 @@ fresh-short = refl
 step-rows : told
     (call 1 32 1 12 ∷ call 1 32 1 11 ∷ call 0 32 1 13 ∷ call 0 0 1000000 12 ∷ call 0 0 1 12 ∷ [])
     ≡ gives 2 ∷ refused 12 ∷ gives 0 ∷ refused 13 ∷ gives 0 ∷ []
-unfolding steps stepped stepChecked lengthFits equationsFit closes all shapeFits shapeOf kindOf operandFits isFlow sameSort
-    memoriesSet isMemory afterTick answerOf flows valueOf increased parameterFits cellFits inRange
+unfolding steps stepped stepChecked lengthFits equationsFit closes all shapeFits shapeOf kindOf operandFits isFlow
+    sameSort memoriesSet isMemory afterTick answerOf flows valueOf increased parameterFits cellFits inRange
 step-rows = refl
 
 -- The second of these ticks whole.

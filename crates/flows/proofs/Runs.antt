@@ -11,7 +11,8 @@ use Rattle.traces.specs.declared.Tick.{Tick}
 use Rattle.traces.specs.Trace.{Trace}
 use Rattle.lists.specs.Number.{numberAt}
 use Rattle.tables.specs.Table.{all, Equation, equationAt, Kind, kindAt, shapeOf}
-use Rattle.tables.specs.Table.{isFlow, operandFits, shapeFits, equationFits, closingCount, startedOf, verdictOf, checked}
+use Rattle.tables.specs.Table.{isFlow, operandFits, shapeFits, equationFits, checked}
+use Rattle.tables.specs.Table.{closingCount, startedOf, verdictOf}
 use Rattle.tables.specs.Table.Kind.{signal, start, constant, negation, conjunction, disjunction, booleanPre}
 use Rattle.tables.specs.Table.Kind.{countPre, capped, ifElse, compareLiteral, compareParameter, unknown}
 use Rattle.flows.specs.Flow.{valueOf, flows, answerOf, initialAt, operandAt, freshState, nextState}

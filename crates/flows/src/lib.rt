@@ -306,7 +306,8 @@ fn answer_of(flows: &[u32], n: usize) -> u32
 
 // A step that is not refused: its answer.
 fn run(cap: u32, table: &[u32], n: usize, state: &mut [u32], values: &mut [u32], tick: Tick) -> u32
-    requires { ⌜ (closingCount ≤ n) × (4 * n ≤ length (now table)) × (n ≤ length (now state)) × (n ≤ length (now values)) ⌝ }
+    requires { ⌜ (closingCount ≤ n) × (4 * n ≤ length (now table)) × (n ≤ length (now state))
+        × (n ≤ length (now values)) ⌝ }
     ensures { λ r. ⌜ afterStep (Stepped.Verdict r) (now (state .exit)) (now (values .exit))
         ≡ afterTick cap (now (table .entry)) n (now (state .entry)) (now (values .entry)) tick ⌝ }
 {

@@ -12,7 +12,7 @@ use Rattle.tables.specs.Table.{all}
 use Rattle.tables.proofs.Tests.{all-at}
 use Rattle.scheme.specs.Scheme.{widest, Name, RowKind, Row as SchemeRow, Node as SchemeNode, noRow, rowAt, nodeList}
 use Rattle.scheme.specs.Scheme.{noNode, nodeCount, nodeOf, Values, valueNamed, kindFor, resolved}
-use Rattle.scheme.specs.Scheme.Name.{Nought, Idle, Start, Last, Previous, Signal, A, C}
+use Rattle.scheme.specs.Scheme.Name.{Nought, Negated, Start, Last, Previous, Signal, A, C}
 use Rattle.scheme.specs.Scheme.Name.{First, Second, Third, Fourth, Fifth}
 use Rattle.scheme.specs.Scheme.RowKind.{OfKind, Comparison}
 use Rattle.scheme.proofs.ByKind.{rows-few}
@@ -55,7 +55,7 @@ node-found t k i x e-t e-i = elim (decLt k nodeCount) [
 
 named-low : (x : Name) → nameNumber x < nameCount
 named-low Nought = omega arith
-named-low Idle = omega arith
+named-low Negated = omega arith
 named-low Start = omega arith
 named-low Last = omega arith
 named-low Previous = omega arith
@@ -91,14 +91,14 @@ node-sized k =
       room = padded-length widest (nodeOf k .rows);
       known = padded-known widest (nodeOf k .rows);
       result = named-low (nodeOf k .result);
-      idle = named-low (nodeOf k .idle);
+      negated = named-low (nodeOf k .negated);
     }
 
 -- ---- looking up
 
 pub named : (v : Values) (x : Name) → numberAt (valueList v) (nameNumber x) ≡ valueNamed v x
 named v Nought = refl
-named v Idle = refl
+named v Negated = refl
 named v Start = refl
 named v Last = refl
 named v Previous = refl

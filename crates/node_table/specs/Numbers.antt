@@ -12,7 +12,7 @@ use Rattle.tables.specs.Table.{Equation}
 use Rattle.scheme.specs.Scheme.{Name, RowKind, Row as SchemeRow, Node as SchemeNode, noRow, Values}
 use Rattle.scheme.specs.Scheme.{widest, nodeList, noNode}
 use Rattle.tables.specs.Table.{equation}
-use Rattle.scheme.specs.Scheme.Name.{Nought, Idle, Start, Last, Previous, Signal, A, C}
+use Rattle.scheme.specs.Scheme.Name.{Nought, Negated, Start, Last, Previous, Signal, A, C}
 use Rattle.scheme.specs.Scheme.Name.{First, Second, Third, Fourth, Fifth}
 use Rattle.scheme.specs.Scheme.RowKind.{OfKind, Comparison}
 use Rattle.node_table.specs.declared.Row.{Row}
@@ -20,7 +20,7 @@ use Rattle.node_table.specs.declared.Node.{Node}
 
 abbrev pub nameNumber : Name → ℕ
 nameNumber Nought = 0
-nameNumber Idle = 1
+nameNumber Negated = 1
 nameNumber Start = 2
 nameNumber Last = 3
 nameNumber Previous = 4
@@ -44,7 +44,7 @@ flowsFrom o (suc n) = o ∷ flowsFrom (suc o) n
 
 abbrev pub valueList : Values → List ℕ
 valueList v =
-    0 ∷ v .idle ∷ v .start ∷ v .last ∷ v .previous ∷ v .signal ∷ v .a ∷ v .c
+    0 ∷ v .negated ∷ v .start ∷ v .last ∷ v .previous ∷ v .signal ∷ v .a ∷ v .c
     ∷ (flowsFrom (v .place) widest ++ (v .comparison ∷ []))
 
 -- The number of the comparison that a record asks for: the first that is of no kind of equation.
@@ -74,7 +74,7 @@ asNode d =
       rows = paddedRows widest (d .rows);
       takes = d .takes;
       result = nameNumber (d .result);
-      idle = nameNumber (d .idle);
+      negated = nameNumber (d .negated);
     }
 
 -- Every node, and none past the last kind.
@@ -92,7 +92,7 @@ pub record Sized (d : Node) : Type 0 where
   pub room : length (d .rows) ≡ widest
   pub known : (i : ℕ) → Known (getD (d .rows) i (asRow noRow))
   pub result : d .result < nameCount
-  pub idle : d .idle < nameCount
+  pub negated : d .negated < nameCount
 
 -- A row of numbers with its names looked up in a list of values.
 abbrev pub lookedUp : List ℕ → Row → Equation

@@ -11,7 +11,7 @@ ghost use Rattle.node_table.specs.Numbers.{nodeTable, kindBy};
 const NOUGHT: u8 = 0;
 
 // The negated start flow, and the start flow.
-const IDLE: u8 = 1;
+const NEGATED: u8 = 1;
 
 const START: u8 = 2;
 
@@ -60,7 +60,7 @@ pub struct Node {
     pub rows: [Row; WIDEST],
     pub takes: u32,
     pub result: u8,
-    pub idle: u8,
+    pub negated: u8,
 }
 
 // Past a node's last row.
@@ -76,7 +76,7 @@ const KEPT_3: Row = Row(tables::AND as u8, SECOND, LAST, NOUGHT);
 // The rows that `age` and `lag` share.
 const RUN_1: Row = Row(tables::COUNT_PRE as u8, FOURTH, NOUGHT, NOUGHT);
 
-const RUN_2: Row = Row(tables::IF as u8, IDLE, FIRST, NOUGHT);
+const RUN_2: Row = Row(tables::IF as u8, NEGATED, FIRST, NOUGHT);
 
 const RUN_3: Row = Row(tables::CAPPED as u8, SECOND, LAST, NOUGHT);
 
@@ -96,7 +96,7 @@ const CONSTANT_NODE: Node = Node {
     ],
     takes: 0,
     result: FIRST,
-    idle: IDLE,
+    negated: NEGATED,
 };
 
 // A signal.
@@ -105,7 +105,7 @@ const SIGNAL_NODE: Node = Node {
     rows: [NO_ROW; WIDEST],
     takes: 0,
     result: SIGNAL,
-    idle: IDLE,
+    negated: NEGATED,
 };
 
 // `!`.
@@ -120,7 +120,7 @@ const NOT_NODE: Node = Node {
     ],
     takes: 1,
     result: FIRST,
-    idle: IDLE,
+    negated: NEGATED,
 };
 
 // `&`.
@@ -135,7 +135,7 @@ const AND_NODE: Node = Node {
     ],
     takes: 2,
     result: FIRST,
-    idle: IDLE,
+    negated: NEGATED,
 };
 
 // `|`.
@@ -150,7 +150,7 @@ const OR_NODE: Node = Node {
     ],
     takes: 2,
     result: FIRST,
-    idle: IDLE,
+    negated: NEGATED,
 };
 
 // `begin`: v = (s and P) or (n and m), m = false -> pre v.
@@ -159,13 +159,13 @@ const BEGIN_NODE: Node = Node {
     rows: [
         Row(tables::BOOLEAN_PRE as u8, FOURTH, NOUGHT, NOUGHT),
         Row(tables::AND as u8, START, LAST, NOUGHT),
-        Row(tables::AND as u8, IDLE, FIRST, NOUGHT),
+        Row(tables::AND as u8, NEGATED, FIRST, NOUGHT),
         Row(tables::OR as u8, SECOND, THIRD, NOUGHT),
         NO_ROW,
     ],
     takes: 1,
     result: FOURTH,
-    idle: IDLE,
+    negated: NEGATED,
 };
 
 // `end`.
@@ -174,7 +174,7 @@ const END_NODE: Node = Node {
     rows: [NO_ROW; WIDEST],
     takes: 1,
     result: LAST,
-    idle: IDLE,
+    negated: NEGATED,
 };
 
 // `point`: s and P.
@@ -189,7 +189,7 @@ const POINT_NODE: Node = Node {
     ],
     takes: 1,
     result: FIRST,
-    idle: IDLE,
+    negated: NEGATED,
 };
 
 // `held`: the rows of `kept`, and n and m.
@@ -199,12 +199,12 @@ const HELD_NODE: Node = Node {
         KEPT_1,
         KEPT_2,
         KEPT_3,
-        Row(tables::AND as u8, IDLE, FIRST, NOUGHT),
+        Row(tables::AND as u8, NEGATED, FIRST, NOUGHT),
         NO_ROW,
     ],
     takes: 1,
     result: FOURTH,
-    idle: IDLE,
+    negated: NEGATED,
 };
 
 // `kept`: k = s or m, m = false -> pre (k and P).
@@ -213,7 +213,7 @@ const KEPT_NODE: Node = Node {
     rows: [KEPT_1, KEPT_2, KEPT_3, NO_ROW, NO_ROW],
     takes: 1,
     result: SECOND,
-    idle: IDLE,
+    negated: NEGATED,
 };
 
 // `len`: c = if n then cap(m, n) else 0, m = 0 -> pre c.
@@ -221,14 +221,14 @@ const LEN_NODE: Node = Node {
     count: 4,
     rows: [
         Row(tables::COUNT_PRE as u8, THIRD, NOUGHT, NOUGHT),
-        Row(tables::CAPPED as u8, FIRST, IDLE, NOUGHT),
-        Row(tables::IF as u8, IDLE, SECOND, NOUGHT),
+        Row(tables::CAPPED as u8, FIRST, NEGATED, NOUGHT),
+        Row(tables::IF as u8, NEGATED, SECOND, NOUGHT),
         Row(COMPARISON, THIRD, A, C),
         NO_ROW,
     ],
     takes: 0,
     result: FOURTH,
-    idle: IDLE,
+    negated: NEGATED,
 };
 
 // `sum`: c = if n then m else 0, m = 0 -> pre cap(c, P).
@@ -236,14 +236,14 @@ const SUM_NODE: Node = Node {
     count: 4,
     rows: [
         Row(tables::COUNT_PRE as u8, THIRD, NOUGHT, NOUGHT),
-        Row(tables::IF as u8, IDLE, FIRST, NOUGHT),
+        Row(tables::IF as u8, NEGATED, FIRST, NOUGHT),
         Row(tables::CAPPED as u8, SECOND, LAST, NOUGHT),
         Row(COMPARISON, SECOND, A, C),
         NO_ROW,
     ],
     takes: 1,
     result: FOURTH,
-    idle: IDLE,
+    negated: NEGATED,
 };
 
 // `age`: c = if P then cap(r, P) else 0, r = if n then m else 0, m = 0 -> pre c.
@@ -252,7 +252,7 @@ const AGE_NODE: Node = Node {
     rows: [RUN_1, RUN_2, RUN_3, RUN_4, Row(COMPARISON, FOURTH, A, C)],
     takes: 1,
     result: FIFTH,
-    idle: IDLE,
+    negated: NEGATED,
 };
 
 // The run of the P of a `lag` up to one tick ago: r of `age`.
@@ -261,7 +261,7 @@ const RUN_NODE: Node = Node {
     rows: [RUN_1, RUN_2, RUN_3, RUN_4, NO_ROW],
     takes: 1,
     result: SECOND,
-    idle: IDLE,
+    negated: NEGATED,
 };
 
 // That the Q of a `lag`, P here, holds if it is due; k is the number of the `lag`, r the operand before: (r < k or
@@ -277,7 +277,7 @@ const FINE_NODE: Node = Node {
     ],
     takes: 2,
     result: FOURTH,
-    idle: IDLE,
+    negated: NEGATED,
 };
 
 // That this was so at each tick, the present one too: the rows of `kept`, of which the third is the result.
@@ -286,7 +286,7 @@ const ALWAYS_NODE: Node = Node {
     rows: [KEPT_1, KEPT_2, KEPT_3, NO_ROW, NO_ROW],
     takes: 1,
     result: THIRD,
-    idle: IDLE,
+    negated: NEGATED,
 };
 
 // The end of a lead P: n and pre(P) and not P, and its negation. The present start waits on the stack.
@@ -295,13 +295,13 @@ const LEAD_END_NODE: Node = Node {
     rows: [
         Row(tables::BOOLEAN_PRE as u8, LAST, NOUGHT, NOUGHT),
         Row(tables::NOT as u8, LAST, NOUGHT, NOUGHT),
-        Row(tables::AND as u8, IDLE, FIRST, NOUGHT),
+        Row(tables::AND as u8, NEGATED, FIRST, NOUGHT),
         Row(tables::AND as u8, THIRD, SECOND, NOUGHT),
         Row(tables::NOT as u8, FOURTH, NOUGHT, NOUGHT),
     ],
     takes: 1,
-    result: IDLE,
-    idle: FIFTH,
+    result: NEGATED,
+    negated: FIFTH,
 };
 
 // `then`: running r = n and (s' or pre r); r and P. The start that waited is back.
@@ -316,7 +316,7 @@ const THEN_NODE: Node = Node {
     ],
     takes: 2,
     result: FOURTH,
-    idle: PREVIOUS,
+    negated: PREVIOUS,
 };
 
 // The whole rule: started = s or pre started; verdict = started and P.
@@ -331,7 +331,7 @@ const WHOLE_NODE: Node = Node {
     ],
     takes: 1,
     result: THIRD,
-    idle: IDLE,
+    negated: NEGATED,
 };
 
 // Past the last kind.
@@ -340,7 +340,7 @@ const NO_NODE: Node = Node {
     rows: [NO_ROW; WIDEST],
     takes: 0,
     result: NOUGHT,
-    idle: NOUGHT,
+    negated: NOUGHT,
 };
 
 // The place past the last kind's, and how many places there are.

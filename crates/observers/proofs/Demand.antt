@@ -80,7 +80,8 @@ module _ {t : Tree} (k : Known t) where
       (observes standardCap (omega arith) f led-raw bound-raw small-raw junk)
 
   -- So they close.
-  pub closes-rule : (junk : List ℕ) → Closing (numbersOf (observer (k .formula)) ++ junk) (length (observer (k .formula)))
+  pub closes-rule : (junk : List ℕ)
+      → Closing (numbersOf (observer (k .formula)) ++ junk) (length (observer (k .formula)))
   closes-rule junk = closing standardCap (omega arith) (k .formula) bound-raw junk
 
 -- ---- the effect of compiling

@@ -86,7 +86,8 @@ observed-rule : {text before after : List ℕ} {r : Compiled} {n : ℕ} {t : Tre
     → (rest : List ℕ) → Observes standardCap (take (4 * n) after ++ rest) n f (nodes t)
 observed-rule (not-read e) q h is rest = absurd (not-refused h e)
 observed-rule (no-room e l) q h is rest = absurd (refused-equations q)
-observed-rule {after = after} {n = n} {t} {f} (observed {n = m} {t = u} {f = g} e is-g l few same kept o ends) q h is rest =
+observed-rule {after = after} {n = n} {t} {f} (observed {n = m} {t = u} {f = g} e is-g l few same kept o ends) q h
+    is rest =
     let number : m ≡ n = cc in
     let tree : u ≡ t = same-tree e h in
     let formula : g ≡ f = one-formula is-g is (ap formulaOf tree) in

@@ -23,8 +23,8 @@ use Rattle.scheme.specs.Scheme.{Node, constantNode, signalNode, notNode,
 use Rattle.scheme.specs.Scheme.{endNode, pointNode, heldNode, keptNode, lenNode, sumNode, ageNode, runNode}
 use Rattle.scheme.specs.Scheme.{fineNode, alwaysNode, leadEndNode, thenNode, wholeNode}
 use Rattle.scheme.specs.Emit.{placeAfter, emitP, emit, namedByP, namedBy, flowIn, signals-es, header, body}
-use Rattle.scheme.specs.Emit.{observer, startFlow, idleFlow, headerCount, start-es, whole-es}
-use Rattle.scheme.specs.Emit.{afterRun, secondStart, secondIdle, secondPlace}
+use Rattle.scheme.specs.Emit.{observer, startFlow, negatedFlow, headerCount, start-es, whole-es}
+use Rattle.scheme.specs.Emit.{afterRun, secondStart, secondNegated, secondPlace}
 
 -- ---- the count
 
@@ -164,7 +164,7 @@ module _ (flowOf : ℕ → ℕ) (m j : ℕ) where
         arith,
         both-named (namedBy l) (namedBy f) m j,
         formula-count l s n o,
-        formula-count f (secondStart o′) (secondIdle o′) (secondPlace o′),
+        formula-count f (secondStart o′) (secondNegated o′) (secondPlace o′),
       ))
 
 -- ---- the observer
@@ -181,4 +181,4 @@ observer-count f =
     let o : ℕ = placeAfter 0 (header named) in
     parts-count named signalCount (body f .es) (whole-es startFlow (placeAfter o (body f .es)) (body f .out))
     (equationCount (raw f))
-    (formula-count (flowIn named) signalCount 0 f startFlow idleFlow o)
+    (formula-count (flowIn named) signalCount 0 f startFlow negatedFlow o)

@@ -17,7 +17,7 @@ use Rattle.tables.specs.declared.Checked.the-variants.{Passed}
 use Rattle.tables.proofs.Tests.{all-of}
 use Rattle.tables.proofs.Checks.{closing-by, long-enough}
 use Rattle.scheme.specs.Scheme.{_⊕_}
-use Rattle.scheme.specs.Emit.{namedBy, signals-es, startFlow, idleFlow, headerCount, numbersOf}
+use Rattle.scheme.specs.Emit.{namedBy, signals-es, startFlow, negatedFlow, headerCount, numbersOf}
 use Rattle.scheme.proofs.Offsets.{zero-⊕}
 use Rattle.scheme.proofs.Places.{after-later, Each, each-left, each-right, each-at, each-from}
 use Rattle.scheme.proofs.Places.{equation-at, length-numbers}
@@ -57,9 +57,9 @@ module _ (cap : ℕ) (low : cap ≤ literalCount) (m : ℕ) (few : m ≤ signalC
   unfolding kindOf shapeOf sameSort
   start = here t n 0 startFlow START (head-kinds .0) refl
 
-  negation : Before t headerCount Boolean idleFlow
+  negation : Before t headerCount Boolean negatedFlow
   unfolding kindOf shapeOf sameSort
-  negation = here t n 0 idleFlow NOT (head-kinds .1 .0) refl
+  negation = here t n 0 negatedFlow NOT (head-kinds .1 .0) refl
 
   -- and every named signal before the formula's equations.
   named : (j : ℕ) → namedBy f j ≡ true → Before t (bodyPlace m f) Boolean (flowAmong (namedBy f) m j)
@@ -74,7 +74,7 @@ module _ (cap : ℕ) (low : cap ≤ literalCount) (m : ℕ) (few : m ≤ signalC
 
   body-fine : AllFine t n (bodyPlace m f) (bodyBlock m f .es) (bodyBlock m f .out)
   body-fine =
-      fine t n (flowAmong (namedBy f) m) cap low f startFlow idleFlow (bodyPlace m f) (record {
+      fine t n (flowAmong (namedBy f) m) cap low f startFlow negatedFlow (bodyPlace m f) (record {
         bound = bound;
         named = named;
         start = later start (omega (arith, far));
@@ -86,7 +86,7 @@ module _ (cap : ℕ) (low : cap ≤ literalCount) (m : ℕ) (few : m ≤ signalC
   head-fits : Each (Fits t n) 0 (headRows (namedBy f) m)
   unfolding kindOf shapeOf shapeFits operandFits
   head-fits =
-      let negation-fits = not-fine t n idleFlow start (omega arith) (head-kinds .1 .0, tt) .0 in
+      let negation-fits = not-fine t n negatedFlow start (omega arith) (head-kinds .1 .0, tt) .0 in
       (record { fits = refl }, (negation-fits .0, signals-fit (namedBy f) t n m 0 headerCount (omega arith)))
 
   all-fine : AllFine t n 0 (observerOver m f) (wholePlace m f ⊕ 2)

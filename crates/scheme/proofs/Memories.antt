@@ -21,7 +21,7 @@ use Rattle.tables.specs.Table.{Equation, kindOf, kindAt, isMemory}
 use Rattle.scheme.specs.Scheme.{_⊕_, comparisonOf}
 use Rattle.tables.specs.Table.{equation}
 use Rattle.scheme.specs.Emit.{placeAfter, emitP, emit, namedBy, flowIn, signals-es, header, whole-es, body}
-use Rattle.scheme.specs.Emit.{observer, startFlow, idleFlow, start-es, numbersOf, afterRun}
+use Rattle.scheme.specs.Emit.{observer, startFlow, negatedFlow, start-es, numbersOf, afterRun}
 use Rattle.tables.specs.Table.{memories}
 use Rattle.scheme.proofs.Places.{four-more}
 
@@ -166,7 +166,7 @@ counted-observer f =
     let o : ℕ = placeAfter 0 (header (namedBy f)) in
     counted-three (header (namedBy f)) (body f .es) (whole-es startFlow (placeAfter o (body f .es)) (body f .out))
     (memoriesOf f) (counted-header (namedBy f) signalCount)
-    (counted-formula (flowIn (namedBy f)) f startFlow idleFlow o) refl
+    (counted-formula (flowIn (namedBy f)) f startFlow negatedFlow o) refl
 
 -- ---- counted over the table
 

@@ -12,7 +12,7 @@ use Rattle.limits.specs.Limits.{signalCount}
 use Rattle.tables.specs.Table.{Equation, startedOf, verdictOf}
 use Rattle.scheme.specs.Scheme.{_⊕_}
 use Rattle.scheme.specs.Emit.{Block, placeAfter, emit, namedBy, signals-es, places, whole-es, observer}
-use Rattle.scheme.specs.Emit.{startFlow, idleFlow, headerCount, start-es}
+use Rattle.scheme.specs.Emit.{startFlow, negatedFlow, headerCount, start-es}
 use Rattle.scheme.proofs.Places.{after-append, after-length}
 
 -- The start flow, its negation, and the named signals among the first m.
@@ -29,7 +29,7 @@ module _ (m : ℕ) (f : Formula) where
   bodyPlace = placeAfter 0 (headRows (namedBy f) m)
 
   abbrev pub bodyBlock : Block
-  bodyBlock = emit (flowAmong (namedBy f) m) f startFlow idleFlow bodyPlace
+  bodyBlock = emit (flowAmong (namedBy f) m) f startFlow negatedFlow bodyPlace
 
   -- where the closing equations begin, and they.
   abbrev pub wholePlace : ℕ

@@ -18,7 +18,7 @@ use Rattle.tables.specs.declared.Shape.{Shape}
 use Rattle.tables.proofs.Tests.{all-at}
 use Rattle.scheme.specs.Scheme.{_⊕_, rowAt, valueNamed, kindFor, resolved, filled}
 use Rattle.scheme.specs.Scheme.{Name}
-use Rattle.scheme.specs.Scheme.Name.{Nought, Idle, Start, Last, Previous, Signal, A, C}
+use Rattle.scheme.specs.Scheme.Name.{Nought, Negated, Start, Last, Previous, Signal, A, C}
 use Rattle.scheme.specs.Scheme.Name.{First, Second, Third, Fourth, Fifth}
 use Rattle.scheme.specs.Scheme.{Row}
 use Rattle.scheme.specs.Scheme.{Values}
@@ -35,9 +35,9 @@ pub data Role : Type 0 where
   below own : ℕ → Role
 
 -- The roles of the names, with those of the start flows and the operands, and where A and C are below these bounds.
-abbrev pub rolesOf : (idle start last previous : Role) (a c : ℕ) → Name → Role
+abbrev pub rolesOf : (negated start last previous : Role) (a c : ℕ) → Name → Role
 rolesOf n s p q a c Nought = nought
-rolesOf n s p q a c Idle = n
+rolesOf n s p q a c Negated = n
 rolesOf n s p q a c Start = s
 rolesOf n s p q a c Last = p
 rolesOf n s p q a c Previous = q

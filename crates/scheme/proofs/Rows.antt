@@ -24,7 +24,7 @@ use Rattle.scheme.specs.Scheme.{_⊕_, constantRows, notRows, andRows, o
 use Rattle.scheme.specs.Scheme.{heldRows, lenRows, sumRows, runRows, ageRows, fineRows, leadEndRows, thenRows}
 use Rattle.scheme.specs.Scheme.{wholeRows, valueNamed, comparisonOf, filled}
 use Rattle.scheme.specs.Scheme.{Name}
-use Rattle.scheme.specs.Scheme.Name.{Nought, Idle, Start, Last, Previous, Signal, A, C}
+use Rattle.scheme.specs.Scheme.Name.{Nought, Negated, Start, Last, Previous, Signal, A, C}
 use Rattle.scheme.specs.Scheme.Name.{First, Second, Third, Fourth, Fifth}
 use Rattle.scheme.specs.Scheme.{Row}
 use Rattle.scheme.specs.Scheme.{Values}
@@ -76,7 +76,7 @@ module _ (t : List ℕ) (N o : ℕ) where
   plays (used b) = b
 
   -- Rows at o, where A is below ba and C below bc.
-  module _ (v : Values) (placed : v .place ≡ o) {rn rs rp rq : Role} (gn : Given rn (v .idle))
+  module _ (v : Values) (placed : v .place ≡ o) {rn rs rp rq : Role} (gn : Given rn (v .negated))
       (gs : Given rs (v .start))
       (gp : Given rp (v .last)) (gq : Given rq (v .previous)) where
     numbers-fit : (ba bc : ℕ) (rows : List Row) → v .a < ba → v .c < bc → o ⊕ length rows ≤ N
@@ -85,7 +85,7 @@ module _ (t : List ℕ) (N o : ℕ) where
       where
         play : (x : Name) → Plays t N o (rolesOf rn rs rp rq ba bc x) (valueNamed v x)
         play Nought = refl
-        play Idle = plays gn
+        play Negated = plays gn
         play Start = plays gs
         play Last = plays gp
         play Previous = plays gq

@@ -18,7 +18,7 @@ use Rattle.tables.specs.Table.{Equation}
 use Rattle.limits.specs.Limits.{recordLimit, arenaLimit, equationLimit, signalCount}
 use Rattle.scheme.specs.Scheme.{_⊕_, widest}
 use Rattle.scheme.specs.Emit.{placeAfter, emitP, emit, namedBy, flowIn, signals-es, header, whole-es, body}
-use Rattle.scheme.specs.Emit.{observer, startFlow, idleFlow, headerCount, start-es, afterRun}
+use Rattle.scheme.specs.Emit.{observer, startFlow, negatedFlow, headerCount, start-es, afterRun}
 use Rattle.scheme.proofs.Header.{signals-length}
 
 module _ (flowOf : ℕ → ℕ) where
@@ -71,7 +71,7 @@ body-size k m g h = omega arith
 pub observer-size : (f : Formula) → length (flat (raw f)) ≤ arenaLimit → length (observer f) ≤ equationLimit
 observer-size f h =
     let o : ℕ = placeAfter 0 (header (namedBy f)) in
-    let own = size (flowIn (namedBy f)) f startFlow idleFlow o in
+    let own = size (flowIn (namedBy f)) f startFlow negatedFlow o in
     let few = body-size (length (body f .es)) (length (flat (raw f))) own h in
     let end : List Equation = whole-es startFlow (placeAfter o (body f .es)) (body f .out) in
     let all = three-size (header (namedBy f)) (body f .es) end

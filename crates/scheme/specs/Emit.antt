@@ -40,16 +40,16 @@ placeAfter o (e ∷ es) = placeAfter (suc o) es
 -- ---- the rows of each node, from place o on
 
 -- The values at a node: its place, the negated start flow, the start flow, the last operand and the one before it.
-abbrev pub flowsAt : (place idle start last previous : ℕ) → Values
+abbrev pub flowsAt : (place negated start last previous : ℕ) → Values
 flowsAt o n s p q =
-    record { place = o; idle = n; start = s; last = p; previous = q; signal = 0; a = 0; comparison = 0; c = 0 }
+    record { place = o; negated = n; start = s; last = p; previous = q; signal = 0; a = 0; comparison = 0; c = 0 }
 
 -- The values at a comparison of a count with x.
-abbrev pub comparing : (place idle last previous : ℕ) → Op → Num → Values
+abbrev pub comparing : (place negated last previous : ℕ) → Op → Num → Values
 comparing o n p q op x =
     record {
       place = o;
-      idle = n;
+      negated = n;
       start = 0;
       last = p;
       previous = q;
@@ -62,12 +62,12 @@ comparing o n p q op x =
 -- The value at a constant.
 abbrev pub constantAt : ℕ → Bool → Values
 constantAt o c =
-    record { place = o; idle = 0; start = 0; last = 0; previous = 0; signal = 0; a = truth c; comparison = 0; c = 0 }
+    record { place = o; negated = 0; start = 0; last = 0; previous = 0; signal = 0; a = truth c; comparison = 0; c = 0 }
 
 -- The value at a signal, whose flow is x.
 abbrev pub signalling : ℕ → Values
 signalling x =
-    record { place = 0; idle = 0; start = 0; last = 0; previous = 0; signal = x; a = 0; comparison = 0; c = 0 }
+    record { place = 0; negated = 0; start = 0; last = 0; previous = 0; signal = x; a = 0; comparison = 0; c = 0 }
 
 -- s and n are the start flow and its negation, p the flow of the node's proposition or operand, q that of the operand
 -- before it.
@@ -181,8 +181,8 @@ lag-block s n v o′ x y =
 abbrev pub secondStart : ℕ → ℕ
 secondStart o = ownFlow o Fourth
 
-abbrev pub secondIdle : ℕ → ℕ
-secondIdle o = ownFlow o (leadEndNode .idle)
+abbrev pub secondNegated : ℕ → ℕ
+secondNegated o = ownFlow o (leadEndNode .negated)
 
 abbrev pub secondPlace : ℕ → ℕ
 secondPlace o = o ⊕ length (leadEndNode .rows)
@@ -222,7 +222,7 @@ module _ (flowOf : ℕ → ℕ) where
   emit (or f g) s n o = join-block or-es orNode o (emit f s n o) (emit g s n (placeAfter o (emit f s n o .es)))
   emit (then l f) s n o =
       let o′ : ℕ = placeAfter o (emit l s n o .es) in
-      then-block n o′ (emit l s n o) (emit f (secondStart o′) (secondIdle o′) (secondPlace o′))
+      then-block n o′ (emit l s n o) (emit f (secondStart o′) (secondNegated o′) (secondPlace o′))
 
 -- ---- the named signals
 
@@ -261,8 +261,8 @@ places named j o (suc m) = o ∷ places named (suc j) (cond (named j) (suc o) o)
 abbrev pub startFlow : ℕ
 startFlow = 0
 
-abbrev pub idleFlow : ℕ
-idleFlow = 1
+abbrev pub negatedFlow : ℕ
+negatedFlow = 1
 
 abbrev pub headerCount : ℕ
 headerCount = 2
@@ -281,7 +281,7 @@ flowIn named j = numberAt (places named 0 headerCount signalCount) j
 -- ---- the observer
 
 abbrev pub body : Formula → Block
-body f = emit (flowIn (namedBy f)) f startFlow idleFlow (placeAfter 0 (header (namedBy f)))
+body f = emit (flowIn (namedBy f)) f startFlow negatedFlow (placeAfter 0 (header (namedBy f)))
 
 abbrev pub observer : Formula → List Equation
 observer f =

@@ -23,7 +23,7 @@ o ⊕ suc k = suc (o ⊕ k)
 -- of the one before it; the flow of the signal that the record names; the record's first and last number; the node's
 -- own flows.
 pub data Name : Type 0 where
-  Nought Idle Start Last Previous Signal A C First Second Third Fourth Fifth : Name
+  Nought Negated Start Last Previous Signal A C First Second Third Fourth Fifth : Name
 
 -- The kind of a row's equation: always that one, or the comparison that the record asks for.
 pub data RowKind : Type 0 where
@@ -66,7 +66,7 @@ orRows = two OR Previous Last ∷ []
 
 -- v = (s and P) or (n and m), m = false -> pre v
 abbrev pub beginRows : List Row
-beginRows = one BOOLEAN-PRE Fourth ∷ two AND Start Last ∷ two AND Idle First ∷ two OR Second Third ∷ []
+beginRows = one BOOLEAN-PRE Fourth ∷ two AND Start Last ∷ two AND Negated First ∷ two OR Second Third ∷ []
 
 -- s and P
 abbrev pub pointRows : List Row
@@ -78,20 +78,20 @@ keptRows = one BOOLEAN-PRE Third ∷ two OR Start First ∷ two AND Second Last 
 
 -- and n and m
 abbrev pub heldRows : List Row
-heldRows = keptRows ++ (two AND Idle First ∷ [])
+heldRows = keptRows ++ (two AND Negated First ∷ [])
 
 -- c = if n then cap(m, n) else 0, m = 0 -> pre c
 abbrev pub lenRows : List Row
-lenRows = one COUNT-PRE Third ∷ two CAPPED First Idle ∷ two IF Idle Second ∷ comparisonRow Third ∷ []
+lenRows = one COUNT-PRE Third ∷ two CAPPED First Negated ∷ two IF Negated Second ∷ comparisonRow Third ∷ []
 
 -- c = if n then m else 0, m = 0 -> pre cap(c, P)
 abbrev pub sumRows : List Row
-sumRows = one COUNT-PRE Third ∷ two IF Idle First ∷ two CAPPED Second Last ∷ comparisonRow Second ∷ []
+sumRows = one COUNT-PRE Third ∷ two IF Negated First ∷ two CAPPED Second Last ∷ comparisonRow Second ∷ []
 
 -- c = if P then cap(r, P) else 0, r = if n then m else 0, m = 0 -> pre c: c is P's run up to now, r its run up to one
 -- tick ago
 abbrev pub runRows : List Row
-runRows = one COUNT-PRE Fourth ∷ two IF Idle First ∷ two CAPPED Second Last ∷ two IF Last Third ∷ []
+runRows = one COUNT-PRE Fourth ∷ two IF Negated First ∷ two CAPPED Second Last ∷ two IF Last Third ∷ []
 
 -- and c compared
 abbrev pub ageRows : List Row
@@ -107,7 +107,7 @@ fineRows =
 -- the end of the lead P: n and pre(P) and not P; the last is its negation
 abbrev pub leadEndRows : List Row
 leadEndRows =
-    one BOOLEAN-PRE Last ∷ one NOT Last ∷ two AND Idle First ∷ two AND Third Second ∷ one NOT Fourth ∷ []
+    one BOOLEAN-PRE Last ∷ one NOT Last ∷ two AND Negated First ∷ two AND Third Second ∷ one NOT Fourth ∷ []
 
 -- running r = n and (s′ or pre r); r and P. The start is the second part's, n waited on the stack.
 abbrev pub thenRows : List Row
@@ -129,71 +129,71 @@ pub record Node : Type 0 where
   pub rows : List Row
   pub takes : ℕ
   pub result : Name
-  pub idle : Name
+  pub negated : Name
 
 abbrev pub node : List Row → ℕ → Name → Name → Node
-node rows takes result idle = record { rows = rows; takes = takes; result = result; idle = idle }
+node rows takes result negated = record { rows = rows; takes = takes; result = result; negated = negated }
 
 abbrev pub constantNode : Node
-constantNode = node constantRows 0 First Idle
+constantNode = node constantRows 0 First Negated
 
 abbrev pub signalNode : Node
-signalNode = node [] 0 Signal Idle
+signalNode = node [] 0 Signal Negated
 
 abbrev pub notNode : Node
-notNode = node notRows 1 First Idle
+notNode = node notRows 1 First Negated
 
 abbrev pub andNode : Node
-andNode = node andRows 2 First Idle
+andNode = node andRows 2 First Negated
 
 abbrev pub orNode : Node
-orNode = node orRows 2 First Idle
+orNode = node orRows 2 First Negated
 
 abbrev pub beginNode : Node
-beginNode = node beginRows 1 Fourth Idle
+beginNode = node beginRows 1 Fourth Negated
 
 abbrev pub endNode : Node
-endNode = node [] 1 Last Idle
+endNode = node [] 1 Last Negated
 
 abbrev pub pointNode : Node
-pointNode = node pointRows 1 First Idle
+pointNode = node pointRows 1 First Negated
 
 abbrev pub heldNode : Node
-heldNode = node heldRows 1 Fourth Idle
+heldNode = node heldRows 1 Fourth Negated
 
 abbrev pub keptNode : Node
-keptNode = node keptRows 1 Second Idle
+keptNode = node keptRows 1 Second Negated
 
 abbrev pub lenNode : Node
-lenNode = node lenRows 0 Fourth Idle
+lenNode = node lenRows 0 Fourth Negated
 
 abbrev pub sumNode : Node
-sumNode = node sumRows 1 Fourth Idle
+sumNode = node sumRows 1 Fourth Negated
 
 abbrev pub ageNode : Node
-ageNode = node ageRows 1 Fifth Idle
+ageNode = node ageRows 1 Fifth Negated
 
 -- The three nodes of a `lag`. Its P's run up to one tick ago,
 abbrev pub runNode : Node
-runNode = node runRows 1 Second Idle
+runNode = node runRows 1 Second Negated
 
 -- that Q holds if it is due,
 abbrev pub fineNode : Node
-fineNode = node fineRows 2 Fourth Idle
+fineNode = node fineRows 2 Fourth Negated
 
 -- and that this was so at each tick, the present one too: the rows of `kept`, of which the third is the result.
 abbrev pub alwaysNode : Node
-alwaysNode = node keptRows 1 Third Idle
+alwaysNode = node keptRows 1 Third Negated
 
 -- The end of a lead is the start of the second part: the present start waits on the stack until `then` takes it back.
 abbrev pub leadEndNode : Node
-leadEndNode = node leadEndRows 1 Idle Fifth
+leadEndNode = node leadEndRows 1 Negated Fifth
 
 abbrev pub thenNode : Node
 thenNode = node thenRows 2 Fourth Previous
 
 abbrev pub wholeNode : Node
-wholeNode = node wholeRows 1 Third Idle
+wholeNode = node wholeRows 1 Third Negated
 
 -- In the order of the kinds of records (formulas, specs/Arena.antt), the whole rule's last.
 abbrev pub nodeList : List Node
@@ -217,7 +217,7 @@ nodeOf k = getD nodeList k noNode
 -- What the names stand for at a node: the place of its first equation, flows, and numbers of its record.
 pub record Values : Type 0 where
   pub place : ℕ
-  pub idle : ℕ
+  pub negated : ℕ
   pub start : ℕ
   pub last : ℕ
   pub previous : ℕ
@@ -228,7 +228,7 @@ pub record Values : Type 0 where
 
 abbrev pub valueNamed : Values → Name → ℕ
 valueNamed v Nought = 0
-valueNamed v Idle = v .idle
+valueNamed v Negated = v .negated
 valueNamed v Start = v .start
 valueNamed v Last = v .last
 valueNamed v Previous = v .previous

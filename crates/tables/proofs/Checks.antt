@@ -82,11 +82,12 @@ module _ (t : List ℕ) (n : ℕ) where
   fitting e f =
       let p = and-true (ltb 0 n) _ e in
       let q = and-true (leb n equationLimit) _ (p .1) in
+      let both = and-true (all (equationFits t n) n) _ f in
       record {
-        closed = leb-true closingCount n (and-true (leb closingCount n) _ (and-true (all (equationFits t n) n) _ f .1) .0);
+        closed = leb-true closingCount n (and-true (leb closingCount n) _ (both .1) .0);
         few = leb-true n equationLimit (q .0);
         whole = leb-true (4 * n) (length t) (q .1);
-        equations = and-true (all (equationFits t n) n) _ f .0;
+        equations = both .0;
       }
 
   -- A call whose tests pass has a fitting table, and passes what comes after the table's tests.

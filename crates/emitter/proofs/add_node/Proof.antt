@@ -9,8 +9,8 @@ use Rattle.emitter.proofs.add_node.Tie as tie
 abbrev pushed : tie.After-struct-known4 → tie.After-push
 pushed c = c .before .before .before .before
 
-abbrev idled : tie.After-push → tie.After-struct-known2
-idled c = c .before .before .before
+abbrev negated : tie.After-push → tie.After-struct-known2
+negated c = c .before .before .before
 
 abbrev valued : tie.After-struct-known2 → tie.After-struct-known
 valued c = c .before .before
@@ -23,13 +23,14 @@ start c = c .before .before .before .before
 
 add-next : tie.Need-add-t16
 add-next c =
-    let entry = start (filled (valued (idled (pushed c)))) in
+    let entry = start (filled (valued (negated (pushed c)))) in
     omega (arith, entry .pre .0 .near, entry .pre .1 .few)
 
 returns : tie.Need-returns
 returns c =
     let at = pushed c in
-    record { rows = filled (valued (idled at)) .fill .ensures; next = refl; idle = refl; result = at .push .ensures }
+    let rows = filled (valued (negated at)) .fill .ensures in
+    record { rows = rows; next = refl; negated = refl; result = at .push .ensures }
 
 pub add-node-spec : {M : Type 1} → statement M
 add-node-spec =
@@ -41,7 +42,7 @@ add-node-spec =
     (λ c. omega (arith, start (filled c) .pre .1 .result))
     (λ c. search needs)
     (λ c. search needs)
-    (λ c. omega (arith, start (filled (valued c)) .pre .1 .idle))
+    (λ c. omega (arith, start (filled (valued c)) .pre .1 .negated))
     (λ c κs. search needs)
     add-next
     (λ c. search needs)
