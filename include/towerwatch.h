@@ -24,10 +24,12 @@ extern "C" {
 
 /* The version of this face. The major number rises where a caller's code may have to change: a function means
  * something else, takes other arguments, or a number below has another value. A function that means something else
- * also takes another number of arguments, so that a caller written for the old one does not compile. The minor
- * number rises where something is added. The archive has no version: take header and archive from one state of
- * the repository. */
-#define TOWERWATCH_VERSION_MAJOR 2
+ * also takes another number of arguments where it can, so that a caller written for the old one does not compile. It
+ * could not in 3.0, where a step answers TOWERWATCH_IDLE before the first start and a table of one equation is refused:
+ * ask for the major number that your code was written for. The minor number rises where something is added. The
+ * archive has no version: take header and archive from one state of the repository, and compile stored tables again
+ * where the major number has risen (docs/FIRMWARE.md, "Versions"). */
+#define TOWERWATCH_VERSION_MAJOR 3
 #define TOWERWATCH_VERSION_MINOR 0
 
 /* Limits of a rule text: its bytes, its words, how many round brackets are open at a time, and how often `!`, `then`,
@@ -49,10 +51,13 @@ extern "C" {
  * and the most equations of a compiled rule. */
 #define TOWERWATCH_EQUATIONS 4096
 #define TOWERWATCH_TABLE_NUMBERS 16384
-#define TOWERWATCH_RULE_EQUATIONS 620
+#define TOWERWATCH_RULE_EQUATIONS 619
 
 /* Bytes that are enough for every table's Lustre text. */
 #define TOWERWATCH_LUSTRE_BYTES 409700
+
+/* What a step answers in place of a verdict while nothing has been started: idle. */
+#define TOWERWATCH_IDLE 2
 
 /* The refusals, each with its cause. 1 to 8 are of a rule text, */
 #define TOWERWATCH_REFUSED_TEXT_LENGTH 1    /* it is empty or has over TOWERWATCH_TEXT_BYTES bytes */
@@ -66,7 +71,7 @@ extern "C" {
 /* 9 to 15 of lent buffers, */
 #define TOWERWATCH_REFUSED_TABLE_ROOM 9     /* a table to be filled has under TOWERWATCH_TABLE_NUMBERS numbers */
 #define TOWERWATCH_REFUSED_TABLE_LENGTH 10  /* n is 0 or above TOWERWATCH_EQUATIONS, or above the table's equations */
-#define TOWERWATCH_REFUSED_TABLE 11         /* an equation is ill-formed, or the last one is no boolean */
+#define TOWERWATCH_REFUSED_TABLE 11         /* n is 1, an equation is ill-formed, or one of the last two no boolean */
 #define TOWERWATCH_REFUSED_STATE_LENGTH 12  /* the state, or the values of a step, have under n numbers */
 #define TOWERWATCH_REFUSED_PARAMETER 13     /* a parameter is above TOWERWATCH_LAST_NUMBER */
 #define TOWERWATCH_REFUSED_STATE 14         /* a memory's cell is out of its range */
@@ -106,8 +111,9 @@ struct towerwatch_answer towerwatch_fresh_state(const uint32_t *table, size_t ta
  * not matter.
  * start: any number but 0 starts the watched interval at this tick. signals: bit j is signal j. parameters:
  * TOWERWATCH_PARAMETERS numbers up to TOWERWATCH_LAST_NUMBER, the same at every tick of a run.
- * Result: the verdict, 0 or 1; that of a compiled table is 1 before the first start. Refused: 10, 11, 12, 13, 14. A
- * refused step is no tick. */
+ * Result: TOWERWATCH_IDLE where the table's last flow but one, the started flow, is 0 at this tick; else the last flow,
+ * the verdict, 0 or 1. A compiled table is idle up to its first start and never after it; one that was made by hand may
+ * be idle again later. Refused: 10, 11, 12, 13, 14. A refused step is no tick. */
 struct towerwatch_answer towerwatch_step(const uint32_t *table, size_t table_len, size_t n, uint32_t *state,
                                          size_t state_len, uint32_t *values, size_t values_len, uint32_t start,
                                          uint64_t signals, const uint32_t parameters[TOWERWATCH_PARAMETERS]);
