@@ -1,11 +1,12 @@
 /* A tower controller's loop in small: it compiles rules, makes their states, steps them once a tick, prints each
- * verdict and keeps a latch for each. How long a 0 has to stand before it is a fault is decided for each rule, since
- * many rules are 0 at first and a verdict may return to 1. */
+ * verdict, or 2 while a watch is idle, and keeps a latch for each. How long a 0 has to stand before it is a fault is
+ * decided for each rule, since many rules are 0 at first and a verdict may return to 1. */
 #include <stdio.h>
 #include <string.h>
 
 #include "towerwatch.h"
 
+_Static_assert(TOWERWATCH_VERSION_MAJOR == 3, "written for steps that answer 0, 1 or TOWERWATCH_IDLE");
 _Static_assert(TOWERWATCH_TABLE_NUMBERS == 4 * TOWERWATCH_EQUATIONS, "an equation has four numbers");
 _Static_assert(TOWERWATCH_RULE_EQUATIONS <= TOWERWATCH_EQUATIONS, "a rule's table is a table");
 
@@ -39,11 +40,12 @@ static uint32_t prepare(struct watch *w) {
     return towerwatch_fresh_state(w->table, 4 * w->n, w->n, w->state, w->n).refusal;
 }
 
-/* One tick of a watch. A refused step is no tick: the state, the latch and the count stay as they are. */
+/* One tick of a watch. A refused step is no tick: the state, the latch and the count stay as they are. An idle watch
+ * has no verdict: it is neither in order nor at fault, so that a latch that is set stays set. */
 static struct towerwatch_answer tick(struct watch *w, uint32_t start, uint64_t signals, int last) {
     struct towerwatch_answer a =
         towerwatch_step(w->table, 4 * w->n, w->n, w->state, w->n, values, w->n, start, signals, parameters);
-    if (a.refusal != 0) return a;
+    if (a.refusal != 0 || a.result == TOWERWATCH_IDLE) return a;
     w->low = a.result == 0 ? w->low + 1 : 0;
     if (w->policy == AT_ONCE) w->fault |= a.result == 0;
     if (w->policy == STANDING) w->fault |= w->low > w->further;
@@ -93,6 +95,14 @@ static void show_refused_step(struct watch *w) {
     printf("the next step: refused=%u verdict=%u\n", (unsigned)a.refusal, (unsigned)a.result);
 }
 
+/* A state that is made fresh, as after a restart of the controller, is idle until the next start. */
+static void show_fresh_state(struct watch *w) {
+    towerwatch_fresh_state(w->table, 4 * w->n, w->n, w->state, w->n);
+    struct towerwatch_answer before = tick(w, 0, 0, 1), at = tick(w, 1, 0, 0);
+    printf("after a fresh state: verdict=%u, with a start: verdict=%u, the latch is %s\n", (unsigned)before.result,
+           (unsigned)at.result, w->fault ? "kept" : "cleared");
+}
+
 int main(void) {
     for (int w = 0; w < WATCHES; w++) {
         uint32_t refusal = prepare(&watches[w]);
@@ -101,6 +111,7 @@ int main(void) {
     }
     run_pieces();
     show_refused_step(&watches[1]);
+    show_fresh_state(&watches[1]);
     struct watch broken = {.rule = "kept[s0] then"};
     printf("%s: refused=%u\n", broken.rule, (unsigned)prepare(&broken));
     return 0;

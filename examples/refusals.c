@@ -1,19 +1,21 @@
-/* The header's numbers beside the archive's answers: each refusal provoked, empty buffers that are null, and each limit
- * reached and passed. A line has the header's number and what the archive answered, and ends in WRONG where they do not
- * agree or a refused call changed a buffer; the exit status is then 1. */
+/* The header's numbers beside the archive's answers: each refusal provoked, tables that do not close with a started
+ * flow and a verdict, empty buffers that are null, each limit reached and passed, and idle steps. A line has the
+ * header's number and what the archive answered, and ends in WRONG where they do not agree or a refused call changed a
+ * buffer; the exit status is then 1. */
 #include <stdio.h>
 #include <string.h>
 
 #include "towerwatch.h"
 
-static uint32_t table[TOWERWATCH_TABLE_NUMBERS + 4], state[TOWERWATCH_EQUATIONS + 1], values[2];
+static uint32_t table[TOWERWATCH_TABLE_NUMBERS + 4], state[TOWERWATCH_EQUATIONS + 1], values[3];
 static uint32_t parameters[TOWERWATCH_PARAMETERS];
 static uint8_t lustre[TOWERWATCH_LUSTRE_BYTES];
 static int wrong;
 
-/* A table of one equation, the start flow, and its Lustre text. */
-static const uint32_t start_flow[4] = {1, 0, 0, 0};
-static const char start_text[] = "let\nf0=b;\na=f0;\ntel\n";
+/* The shortest table: two equations, both the start flow; and its Lustre text. */
+enum { SHORTEST = 2 };
+static const uint32_t start_flows[4 * SHORTEST] = {1, 0, 0, 0, 1, 0, 0, 0};
+static const char start_text[] = "let\nf0=b;\nf1=b;\nw=f0;\na=f1;\ntel\n";
 
 /* Every buffer that a call can write is filled with one byte before a refusal is provoked, and looked at after it. */
 enum { FILL = 0x5a };
@@ -50,14 +52,14 @@ static struct towerwatch_answer read_text(const char *text) {
     return towerwatch_read_rule((const uint8_t *)text, strlen(text));
 }
 
-/* A step of n equations of a table of four numbers, with the first parameter. */
+/* A step of n equations of a table of eight numbers, with the first parameter. */
 static struct towerwatch_answer step(const uint32_t *equations, size_t n, size_t state_len, uint32_t parameter) {
     parameters[0] = parameter;
-    return towerwatch_step(equations, 4, n, state, state_len, values, 1, 1, 0, parameters);
+    return towerwatch_step(equations, 8, n, state, state_len, values, SHORTEST, 1, 0, parameters);
 }
 
 static void refusals(void) {
-    static const uint32_t ill[4] = {12, 0, 0, 0}, memory[4] = {6, 0, 0, 0};
+    static const uint32_t ill[8] = {12, 0, 0, 0, 1, 0, 0, 0}, memory[8] = {6, 0, 0, 0, 1, 0, 0, 0};
     static char words[TOWERWATCH_TEXT_BYTES];
     memset(words, '!', TOWERWATCH_WORDS + 1);
     REFUSED(TEXT_LENGTH, read_text(""));
@@ -70,13 +72,43 @@ static void refusals(void) {
     REFUSED(CHOP_OR_EXISTS, read_text("kept[s0] chop end[s1]"));
     REFUSED(LEAD, read_text("age[s0] <= 2 then end[1]"));
     REFUSED(TABLE_ROOM, towerwatch_compile(TEXT("end[s0]"), table, TOWERWATCH_TABLE_NUMBERS - 1));
-    REFUSED(TABLE_LENGTH, step(start_flow, 2, 2, 0));
-    REFUSED(TABLE, step(ill, 1, 1, 0));
-    REFUSED(STATE_LENGTH, step(start_flow, 1, 0, 0));
-    REFUSED(PARAMETER, step(start_flow, 1, 1, TOWERWATCH_LAST_NUMBER + 1));
-    REFUSED(STATE, step(memory, 1, 1, 0));
-    REFUSED(LUSTRE_ROOM, towerwatch_write_lustre(start_flow, 4, 1, lustre, sizeof start_text - 2));
+    REFUSED(TABLE_LENGTH, step(start_flows, 3, 3, 0));
+    REFUSED(TABLE, step(ill, 2, 2, 0));
+    REFUSED(STATE_LENGTH, step(start_flows, 2, 1, 0));
+    REFUSED(PARAMETER, step(start_flows, 2, 2, TOWERWATCH_LAST_NUMBER + 1));
+    REFUSED(STATE, step(memory, 2, 2, 0));
+    REFUSED(LUSTRE_ROOM, towerwatch_write_lustre(start_flows, 8, 2, lustre, sizeof start_text - 2));
     REFUSED(LUSTRE, towerwatch_read_lustre(TEXT("let\ntel\n"), table, TOWERWATCH_TABLE_NUMBERS));
+}
+
+/* SPEC 5.5: a table closes with two booleans, the started flow and the verdict. Each function that checks a table
+ * refuses n equations that do not; 0 equations are no table at all. */
+static void not_closed(const uint32_t *equations, size_t n) {
+    REFUSED(TABLE, towerwatch_fresh_state(equations, 8, n, state, 2));
+    REFUSED(TABLE, step(equations, n, 2, 0));
+    REFUSED(TABLE, towerwatch_write_lustre(equations, 8, n, lustre, sizeof lustre));
+}
+
+static void closing(void) {
+    static const uint32_t count_first[8] = {7, 0, 0, 0, 1, 0, 0, 0}, count_last[8] = {1, 0, 0, 0, 7, 1, 0, 0};
+    REFUSED(TABLE_LENGTH, towerwatch_fresh_state(start_flows, 8, 0, state, 2));
+    REFUSED(TABLE_LENGTH, step(start_flows, 0, 2, 0));
+    REFUSED(TABLE_LENGTH, towerwatch_write_lustre(start_flows, 8, 0, lustre, sizeof lustre));
+    not_closed(start_flows, 1);
+    not_closed(count_first, 2);
+    not_closed(count_last, 2);
+    static const char *const texts[] = {
+        "let\nf0=b;\na=f0;\ntel\n",                                /* one equation, */
+        "let\nf0=b;\nw=f0;\na=f0;\ntel\n",                         /* also with a line `w=`; */
+        "let\nf0=b;\nf1=b;\na=f1;\ntel\n",                         /* no line `w=`, */
+        "let\nf0=b;\nf1=b;\na=f1;\nw=f0;\ntel\n",                  /* one at the wrong place, */
+        "let\nf0=b;\nf1=b;\nw=f1;\na=f1;\ntel\n",                  /* one with the wrong flow; */
+        "let\nf0=0->pre(f0);\nf1=b;\nw=f0;\na=f1;\ntel\n",         /* a count as the started flow, */
+        "let\nf0=b;\nf1=0->pre(f1);\nw=f0;\na=f1;\ntel\n",         /* a count as the verdict */
+    };
+    for (size_t i = 0; i < sizeof texts / sizeof *texts; i++)
+        REFUSED(LUSTRE, towerwatch_read_lustre((const uint8_t *)texts[i], strlen(texts[i]), table,
+                                               TOWERWATCH_TABLE_NUMBERS));
 }
 
 /* An empty buffer may be null: the answers are those of any other empty buffer. */
@@ -87,12 +119,12 @@ static void nulls(void) {
     REFUSED(TEXT_LENGTH, towerwatch_same_rule(NULL, 0, NULL, 0));
     REFUSED(TEXT_LENGTH, towerwatch_same_rule(TEXT("end[s0]"), NULL, 0));
     REFUSED(TABLE_LENGTH, towerwatch_fresh_state(NULL, 0, 1, NULL, 0));
-    REFUSED(STATE_LENGTH, towerwatch_fresh_state(start_flow, 4, 1, NULL, 0));
+    REFUSED(STATE_LENGTH, towerwatch_fresh_state(start_flows, 8, 2, NULL, 0));
     REFUSED(TABLE_LENGTH, towerwatch_step(NULL, 0, 1, NULL, 0, NULL, 0, 1, 0, parameters));
-    REFUSED(STATE_LENGTH, towerwatch_step(start_flow, 4, 1, NULL, 0, values, 1, 1, 0, parameters));
-    REFUSED(STATE_LENGTH, towerwatch_step(start_flow, 4, 1, state, 1, NULL, 0, 1, 0, parameters));
+    REFUSED(STATE_LENGTH, towerwatch_step(start_flows, 8, 2, NULL, 0, values, 2, 1, 0, parameters));
+    REFUSED(STATE_LENGTH, towerwatch_step(start_flows, 8, 2, state, 2, NULL, 0, 1, 0, parameters));
     REFUSED(TABLE_LENGTH, towerwatch_write_lustre(NULL, 0, 1, NULL, 0));
-    REFUSED(LUSTRE_ROOM, towerwatch_write_lustre(start_flow, 4, 1, NULL, 0));
+    REFUSED(LUSTRE_ROOM, towerwatch_write_lustre(start_flows, 8, 2, NULL, 0));
     REFUSED(LUSTRE, towerwatch_read_lustre(NULL, 0, NULL, 0));
     REFUSED(TABLE_ROOM, towerwatch_read_lustre(TEXT(start_text), NULL, 0));
 }
@@ -152,18 +184,18 @@ static struct towerwatch_answer literal(uint32_t number) {
     return sprintf(text, "len<%u", (unsigned)number), read_text(text);
 }
 
-static struct towerwatch_answer parameter(uint32_t number) { return step(start_flow, 1, 1, number); }
+static struct towerwatch_answer parameter(uint32_t number) { return step(start_flows, 2, 2, number); }
 
-/* A count's memory that holds a number, and a comparison of it. */
+/* A count's memory that holds a number, and two comparisons of it, which close the table. */
 static struct towerwatch_answer count_cell(uint32_t number) {
-    static const uint32_t equations[8] = {7, 0, 0, 0, 10, 0, 0, 1};
-    uint32_t cells[2] = {number, 0};
+    static const uint32_t equations[12] = {7, 0, 0, 0, 10, 0, 0, 1, 10, 0, 0, 1};
+    uint32_t cells[3] = {number, 0, 0};
     parameters[0] = 0;
-    return towerwatch_step(equations, 8, 2, cells, 2, values, 2, 1, 0, parameters);
+    return towerwatch_step(equations, 12, 3, cells, 3, values, 3, 1, 0, parameters);
 }
 
 static struct towerwatch_answer equations(size_t n) {
-    for (size_t i = 0; i < n; i++) memcpy(table + 4 * i, start_flow, sizeof start_flow);
+    for (size_t i = 0; i < n; i++) memcpy(table + 4 * i, start_flows, 4 * sizeof *start_flows);
     return towerwatch_fresh_state(table, 4 * n, n, state, sizeof state / sizeof *state);
 }
 
@@ -193,12 +225,35 @@ static void widest(void) {
     wrong |= !fine;
 }
 
+/* ---- answers */
+
+/* SPEC 8.5: a table made by hand whose started flow is signal 0 and whose verdict is signal 1. It is idle where the
+ * first is off, whatever the second is, and again after it was on; a start changes nothing in it. */
+static void idle(void) {
+    static const uint32_t by_hand[8] = {0, 0, 0, 0, 0, 1, 0, 0};
+    static const uint64_t signals[6] = {0, 2, 1, 3, 2, 1};
+    static const uint32_t wanted[6] = {TOWERWATCH_IDLE, TOWERWATCH_IDLE, 0, 1, TOWERWATCH_IDLE, 0};
+    parameters[0] = 0;
+    for (int i = 0; i < 6; i++) {
+        struct towerwatch_answer a =
+            towerwatch_step(by_hand, 8, 2, state, 2, values, 2, (uint32_t)i % 2, signals[i], parameters);
+        int fine = a.refusal == 0 && a.result == wanted[i];
+        printf("%-24s %7u result=%u%s\n", wanted[i] == TOWERWATCH_IDLE ? "IDLE" : "a verdict", (unsigned)wanted[i],
+               (unsigned)a.result, fine ? "" : " WRONG");
+        wrong |= !fine;
+    }
+}
+
 int main(void) {
     refusals();
+    printf("not closed by two booleans\n");
+    closing();
     printf("null and 0\n");
     nulls();
     printf("limits\n");
     limits();
     widest();
+    printf("idle\n");
+    idle();
     return wrong;
 }

@@ -5,11 +5,11 @@
 #   start       one bit a tick; without this row the first tick is the only start
 #   k0 to k7    a number up to 999999; a setting without a row is 0
 #   tick        the numbers of the ticks, 0 1 2 and so on, for the eye
-#   verdict     one bit a tick: what is expected
+#   verdict     what is expected, for each tick 0, 1, or 2 for idle: before the first start
 #   rule        the rule's text
 # Each function that can fail returns what is wrong, or nothing.
 
-# begins a waveform: `wave` has the rows by name (bits without blanks), `wave_name` the names in their order
+# begins a waveform: `wave` has the rows by name (digits without blanks), `wave_name` the names in their order
 function wave_forget() {
     split("", wave)
     split("", wave_name)
@@ -61,20 +61,21 @@ function wave_take_setting(name, number) {
 }
 
 # a row of columns: all rows of a waveform have the same number of them
-function wave_take_columns(name, rest,   column, count, i, bits, first) {
+function wave_take_columns(name, rest,   column, count, i, digits) {
     count = split(rest, column, /[ \t]+/)
-    bits = ""
+    digits = ""
     for (i = 1; i <= count; i++) {
         if (name == "tick" && column[i] != i - 1 "") return "`" column[i] "` is not the tick " (i - 1)
-        if (name != "tick" && column[i] != "0" && column[i] != "1")
+        if (name == "verdict" && column[i] !~ /^[012]$/) return "`" column[i] "` in column " i " is none of 0, 1 and 2"
+        if (name != "tick" && name != "verdict" && column[i] !~ /^[01]$/)
             return "`" column[i] "` in column " i " is neither 0 nor 1"
-        bits = bits (name == "tick" ? "" : column[i])
+        digits = digits (name == "tick" ? "" : column[i])
     }
     if (count == 0) return "the row `" name "` has no column"
     if (wave_ticks > 0 && count != wave_ticks)
         return "the row `" name "` has " count " columns, the rows before it have " wave_ticks
     wave_ticks = count
-    wave[name] = bits
+    wave[name] = digits
     wave_name[++wave_names] = name
     return ""
 }
