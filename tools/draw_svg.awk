@@ -1,6 +1,6 @@
 # Draws a waveform with its verdicts as an SVG picture; goes with waveform.awk and read.awk. `printed` is the file with
 # what the program printed. Exit status 1 where a row `verdict` was given and differs. A verdict 0 is hatched, so that
-# it can be told from 1 in print without colour.
+# it can be told from 1 in print without colour; 2, idle, has no box but a dashed line.
 
 # the picture's lines wait until its height is known
 function emit(text) { out[++lines] = text }
@@ -65,14 +65,15 @@ function starts(y,   i) {
         if (wave_start(i)) line("M" left_of(i) " " (y + 6) "V" (y + 24) "L" (left_of(i) + 13) " " (y + 15) "Z", "start")
 }
 
-# a row of verdicts as boxes; those that differ have a thick frame
-function boxes(title, bits, y,   i, bit) {
+# a row of verdicts: boxes, and a line through the ticks that are idle; those that differ have a thick frame
+function boxes(title, digits, y,   i, digit) {
     label(margin, y + 20, "name", title)
     for (i = low; i <= high; i++) {
-        bit = substr(bits, i, 1)
-        rect(left_of(i) + 1, y + 3, column - 2, 24, bit == "1" ? "yes" : "no")
-        if (bit == "0") rect(left_of(i) + 7, y + 7, column - 14, 16, "plate")
-        label(left_of(i) + column / 2, y + 20, "bit", bit)
+        digit = substr(digits, i, 1)
+        if (digit == "2") line("M" left_of(i) " " (y + 15) "H" left_of(i + 1), "idle")
+        else rect(left_of(i) + 1, y + 3, column - 2, 24, digit == "1" ? "yes" : "no")
+        if (digit != "1") rect(left_of(i) + 7, y + 7, column - 14, 16, "plate")
+        label(left_of(i) + column / 2, y + 20, "bit", digit)
     }
     for (i = low; i <= high; i++) if (differs(i)) rect(left_of(i) + 1, y + 3, column - 2, 24, "frame")
 }
@@ -119,6 +120,7 @@ function style() {
     print ".grid { stroke: #ddd } .begin { stroke: #555; stroke-dasharray: 4 3 } .start { fill: #222 }"
     print ".on { fill: #dfe6f2 } .line { stroke: #123a7a; stroke-width: 2; fill: none }"
     print ".yes { fill: #d4f0d4; stroke: #2c7a2c } .no { fill: url(#hatch); stroke: #a03028 } .plate { fill: #fff }"
+    print ".idle { stroke: #555; stroke-width: 2; stroke-dasharray: 2 3 }"
     print ".frame { fill: none; stroke: #000; stroke-width: 3 }"
     print "</style>"
 }

@@ -2,10 +2,10 @@
 # what the program printed. Exit status 1 where a row `verdict` was given and differs.
 
 # a row's columns from tick `low` to tick `high`, counted from 1
-function columns(title, bits, low, high,   line, i, column) {
+function columns(title, digits, low, high,   line, i, column) {
     line = sprintf("%-" wide "s", title)
     for (i = low; i <= high; i++) {
-        column = bits == "" ? i - 1 "" : substr(bits, i, 1)
+        column = digits == "" ? i - 1 "" : substr(digits, i, 1)
         while (length(column) < width) column = " " column
         line = line column
     }
@@ -39,6 +39,12 @@ function unnamed(   rest, row, seen) {
     }
 }
 
+# what a verdict 2 is, where there is one
+function idle() {
+    if (verdicts ~ /^2+$/) print "note: 2 is idle: no tick is a start, so there is nothing to judge"
+    else if (verdicts ~ /2/) print "note: 2 is idle: there was no start up to that tick"
+}
+
 # compares the drawn verdicts with the printed ones
 function compare(   i) {
     differing = 0
@@ -63,6 +69,7 @@ END {
     for (low = 1; low <= wave_ticks; low += per) block(low, low + per - 1 < wave_ticks ? low + per - 1 : wave_ticks)
     print ""
     unnamed()
+    idle()
     if (!("verdict" in wave)) exit 0
     if (!differing) { print "the verdicts are as drawn"; exit 0 }
     print "the verdicts differ from those drawn at " differing " of " wave_ticks " ticks, first at tick " first
