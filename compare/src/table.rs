@@ -45,9 +45,15 @@ pub enum Flaw {
     Size,
     /// 11 (SPEC 7.11): the first equation that is not fine has this kind (12 for any kind that there is not).
     Equation(u32),
-    /// 11: the last equation is a count (SPEC 5.5).
-    LastIsCount,
+    /// 11: there is one equation, and a table closes with two (SPEC 5.5).
+    One,
+    /// 11: the started flow is a count, or else the verdict is.
+    StartedIsCount,
+    VerdictIsCount,
 }
+
+/// The flaws of how a table closes.
+pub const CLOSING: [Flaw; 3] = [Flaw::One, Flaw::StartedIsCount, Flaw::VerdictIsCount];
 
 impl Flaw {
     pub fn refusal(self) -> u32 {
@@ -55,7 +61,7 @@ impl Flaw {
     }
 }
 
-/// What is wrong with a table, if anything: its length (SPEC 5.6), an equation, the sort of the last one.
+/// What is wrong with a table, if anything: its length (SPEC 5.6), an equation, the two that close it.
 pub fn flaw(table: &[u32], n: usize) -> Option<Flaw> {
     if n == 0 || n > 4096 || table.len() < 4 * n {
         return Some(Flaw::Size);
@@ -63,7 +69,12 @@ pub fn flaw(table: &[u32], n: usize) -> Option<Flaw> {
     if let Some(i) = (0..n).find(|i| !is_fine(table, n, *i)) {
         return Some(Flaw::Equation(table[4 * i].min(12)));
     }
-    is_count(table[4 * (n - 1)]).then_some(Flaw::LastIsCount)
+    match table[..4 * n] {
+        [_, _, _, _] => Some(Flaw::One),
+        [.., started, _, _, _, _, _, _, _] if is_count(started) => Some(Flaw::StartedIsCount),
+        [.., verdict, _, _, _] if is_count(verdict) => Some(Flaw::VerdictIsCount),
+        _ => None,
+    }
 }
 
 /// All refusals of a fresh state that apply, in the order of SPEC 8.4.
@@ -126,7 +137,8 @@ fn flow(table: &[u32], i: usize, flows: &[u32], cell: u32, tick: &Tick) -> u32 {
     }
 }
 
-/// SPEC 8.5: one step. It fills the values (SPEC 5.9), and each memory's cell with what that gives next (SPEC 5.8).
+/// SPEC 8.5: one step. It fills the values (SPEC 5.9), and each memory's cell with what that gives next (SPEC 5.8). Its
+/// answer is 2 while the started flow, the last but one, is 0, and then the last flow, the verdict.
 pub fn step(table: &[u32], n: usize, state: &mut [u32], values: &mut [u32], tick: &Tick) -> Answer {
     if let Some(refusal) = step_refusals(table, n, state, values, tick).first() {
         return Answer::refused(*refusal);
@@ -141,5 +153,9 @@ pub fn step(table: &[u32], n: usize, state: &mut [u32], values: &mut [u32], tick
         }
     }
     values[..n].copy_from_slice(&flows);
-    Answer::given(flows[n - 1])
+    match flows[..] {
+        [.., 0, _] => Answer::given(2),
+        [.., verdict] => Answer::given(verdict),
+        [] => unreachable!("a table of no equations"),
+    }
 }

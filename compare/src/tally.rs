@@ -1,8 +1,10 @@
 //! How often each outcome came up, and how often it has to.
 
 use crate::card::{End, Place, Why};
+use crate::rule::meaning::IDLE;
 use crate::rule::{Around, Delay, Limit, Root, AROUND, DELAYS, OPS, TESTS};
-use crate::table::Flaw;
+use crate::table::lustre::WRONG_ENDS;
+use crate::table::{Flaw, CLOSING};
 use std::collections::BTreeMap;
 
 /// Something that a run of the comparison has to have seen. A number that is not said to be another is a refusal's, 0
@@ -28,12 +30,16 @@ pub enum Outcome {
     RuleStep(u32),
     /// A refused step with start set, which is no start (SPEC 6.2).
     RefusedStart,
-    /// The verdict of a rule with this root at a tick after a start.
+    /// The verdict of a rule with this root at a tick: 0 or 1 after a start, 2 before any.
     Verdict(Root, u32),
+    /// A rule that is run over ticks of which none is a start.
+    NeverStarted,
     /// A `lag` of a rule that is run.
     Lag(Around, Delay),
-    /// The verdict of a random table.
-    TableVerdict(u32),
+    /// The answer of a random table.
+    TableAnswer(u32),
+    /// Two answers of a random table, one after the other. It may go back to 2, which a rule's table does not.
+    TableTurn(u32, u32),
     /// The value of an equation of this kind in a step: 0, 1, or 2 for any count above 1.
     Flow(u32, u32),
     /// A fresh state of 4,096 equations, and a Lustre text of 4,096 that is read.
@@ -43,6 +49,11 @@ pub enum Outcome {
     AtCap,
     /// Why a table is refused by 10 or 11.
     Flawed(Flaw),
+    /// The same, where it is to be written as Lustre text.
+    WriteFlawed(Flaw),
+    /// A Lustre text with one of the wrong ends; and a text of one equation.
+    WrongEnd(usize),
+    TextOfOne,
     WriteLustre(u32),
     ReadLustre(u32),
     /// An equation of this kind in a Lustre text that is read, with its operator where it compares.
@@ -83,6 +94,10 @@ pub struct Tally {
 impl Tally {
     pub fn add(&mut self, outcome: Outcome) {
         *self.counts.entry(outcome).or_default() += 1;
+    }
+    /// Adds each of some outcomes.
+    pub fn extend(&mut self, outcomes: impl IntoIterator<Item = Outcome>) {
+        outcomes.into_iter().for_each(|outcome| self.add(outcome));
     }
     /// Takes over the counts of another.
     pub fn join(&mut self, other: Tally) {
@@ -158,13 +173,19 @@ fn wanted() -> Vec<(Outcome, u64)> {
     want(20_000, &mut [0, 12, 13].into_iter().map(Outcome::RuleStep));
     want(10_000, &mut std::iter::once(Outcome::RefusedStart));
     want(300, &mut roots().into_iter().flat_map(|r| [Outcome::Verdict(r, 0), Outcome::Verdict(r, 1)]));
+    want(10, &mut roots().into_iter().map(|r| Outcome::Verdict(r, IDLE)));
+    want(1000, &mut std::iter::once(Outcome::NeverStarted));
     want(200, &mut AROUND.into_iter().flat_map(|a| DELAYS.map(|d| Outcome::Lag(a, d))));
-    want(50_000, &mut [0, 1].into_iter().map(Outcome::TableVerdict));
+    want(50_000, &mut (0..3).map(Outcome::TableAnswer));
+    want(2000, &mut (0..3).flat_map(|from| (0..3).map(move |to| Outcome::TableTurn(from, to))));
     want(2000, &mut flows());
     want(500, &mut std::iter::once(Outcome::AtCap));
     want(5, &mut [Outcome::LargestTable, Outcome::LargestText].into_iter());
     want(500, &mut (0..=12).map(|k| Outcome::Flawed(Flaw::Equation(k))));
-    want(500, &mut [Flaw::Size, Flaw::LastIsCount].into_iter().map(Outcome::Flawed));
+    want(500, &mut [Flaw::Size].into_iter().chain(CLOSING).map(Outcome::Flawed));
+    want(100, &mut CLOSING.into_iter().map(Outcome::WriteFlawed));
+    want(100, &mut (0..WRONG_ENDS).map(Outcome::WrongEnd));
+    want(500, &mut std::iter::once(Outcome::TextOfOne));
     want(500, &mut [0, 10, 11, 15].into_iter().map(Outcome::WriteLustre));
     want(500, &mut [0, 9, 16].into_iter().map(Outcome::ReadLustre));
     want(200, &mut (0..10).map(|k| Outcome::Line(k, 0)));
@@ -172,6 +193,7 @@ fn wanted() -> Vec<(Outcome, u64)> {
     want(50, &mut orders());
     want(5, &mut card_ends());
     want(5000, &mut [0, 1].into_iter().map(Outcome::CardVerdict));
+    want(1000, &mut std::iter::once(Outcome::CardVerdict(IDLE)));
     want(5, &mut [true, false].into_iter().map(Outcome::LongCard));
     all
 }

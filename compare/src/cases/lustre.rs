@@ -3,20 +3,40 @@
 use super::{same, show, Run};
 use crate::archive::{self, Answer};
 use crate::random::Random;
-use crate::table::lustre::{lustre, read_lustre};
+use crate::table::lustre::{lustre, read_lustre, wrongly_ended, WRONG_ENDS};
 use crate::table::{flaw, make};
 use crate::tally::{Operation, Outcome, Tally};
 
 pub fn lustre_case(run: &mut Run, number: u64) {
     let n = make::random_size(&mut run.random, 16, 500);
     let mut table = make::random_table(&mut run.random, n);
-    read_case(run, lustre(&table, n), number);
+    let text = text(run, &table, n);
+    read_case(run, text, number);
     let more = run.random.below(4);
     table.extend(run.random.numbers(more));
     if run.random.once_in(8) {
         make::damage(&mut run.random, &mut table);
     }
+    if run.random.once_in(24) {
+        make::unclose(&mut run.random, &mut table, n);
+    }
     write_case(run, &table, n, number);
+}
+
+/// The table's text, or one with a wrong end, or one that is damaged anywhere. One equation is no table and has no text
+/// but those with a wrong end.
+fn text(run: &mut Run, table: &[u32], n: usize) -> Vec<u8> {
+    let random = &mut run.random;
+    if n == 1 || random.once_in(8) {
+        let way = random.below(WRONG_ENDS);
+        run.tally.add(if n == 1 { Outcome::TextOfOne } else { Outcome::WrongEnd(way) });
+        return wrongly_ended(table, n, way);
+    }
+    let mut text = lustre(table, n);
+    if random.once_in(2) {
+        damage(random, &mut text);
+    }
+    text
 }
 
 /// Writing, now and then with a number of equations that the table has no room for, or that no table has.
@@ -24,6 +44,7 @@ fn write_case(run: &mut Run, table: &[u32], n: usize, number: u64) {
     let random = &mut run.random;
     let said = if random.once_in(16) { random.pick(&[0, 4097, table.len() / 4 + 1]) } else { n };
     let flaw = flaw(table, said);
+    run.tally.extend(flaw.map(Outcome::WriteFlawed));
     let text = if flaw.is_none() { lustre(table, said) } else { Vec::new() };
     let short = random.once_in(4);
     let room = if short { text.len().saturating_sub(1 + random.below(3)) } else { text.len() + random.below(5) };
@@ -47,7 +68,7 @@ fn write_case(run: &mut Run, table: &[u32], n: usize, number: u64) {
 fn damage(random: &mut Random, text: &mut Vec<u8>) {
     let at = random.below(text.len());
     match random.below(5) {
-        0 => text[at] = random.pick(b"0123456789fskab(),;=<> \ntruel"),
+        0 => text[at] = random.pick(b"0123456789fskabw(),;=<> \ntruel"),
         1 => {
             text.remove(at);
         }
@@ -57,10 +78,7 @@ fn damage(random: &mut Random, text: &mut Vec<u8>) {
     }
 }
 
-fn read_case(run: &mut Run, mut text: Vec<u8>, number: u64) {
-    if run.random.once_in(2) {
-        damage(&mut run.random, &mut text);
-    }
+fn read_case(run: &mut Run, text: Vec<u8>, number: u64) {
     let length = run.random.pick(&[0, 16383, 16384, 16384, 16390]);
     let mut loaded = run.junk[..length].to_vec();
     let mut wanted = loaded.clone();

@@ -5,17 +5,16 @@ use super::{same, show, Run};
 use crate::archive::{self, Answer, Tick};
 use crate::random::Random;
 use crate::rule::make::{random_parameters, random_rule, random_ticks};
-use crate::rule::meaning::{started, verdict, Moment};
+use crate::rule::meaning::{verdict, Moment};
 use crate::rule::{self, Around, Rule};
 use crate::table;
 use crate::tally::{Outcome, Share};
 
-/// What the rules' ticks were: before any start or not; and how many rules never changed their verdict after it.
+/// How many ticks of the rules have 0, 1, and 2, which is before any start; and how many rules had a start and never
+/// changed their verdict after it.
 #[derive(Default)]
 struct Ticks {
-    before: u64,
-    after: u64,
-    ones: u64,
+    of: [u64; 3],
     steady: u64,
 }
 
@@ -36,6 +35,10 @@ impl Plan {
         let trace = random_ticks(random, count);
         let verdicts = (0..count).map(|e| verdict(&rule, &trace, &parameters, e)).collect();
         Plan { rule, parameters, trace, verdicts }
+    }
+    /// Whether there are ticks and none of them is a start.
+    fn never_starts(&self) -> bool {
+        !self.trace.is_empty() && self.trace.iter().all(|m| !m.start)
     }
     /// Whether the verdict changes after the first start.
     fn changes(&self) -> bool {
@@ -64,13 +67,14 @@ struct Bench {
 }
 
 impl Bench {
-    /// Reads and compiles the rule, counts its memories (SPEC 12.3), and makes the fresh state over numbers that stood
-    /// there.
+    /// Compiles the rule, counts its equations (SPEC 12.6) and its memories (SPEC 12.3), and makes the fresh state over
+    /// numbers that stood there.
     fn new(run: &mut Run, text: &[u8], nodes: u32, name: String) -> Bench {
         let mut table = run.junk.clone();
         let answer = archive::compile(text, &mut table);
         same(answer.refusal, 0, || format!("compiling {name}"));
         let n = answer.result as usize;
+        same(n <= 619, true, || format!("the equations of {name}"));
         same(table::flaw(&table, n), None, || format!("the table of {name}"));
         same(table[4 * n..] == run.junk[4 * n..], true, || format!("what stands after the table of {name}"));
         let memories = (0..n).filter(|i| matches!(table[4 * i], 6 | 7)).count();
@@ -149,15 +153,14 @@ fn rule_case(run: &mut Run, ticks: &mut Ticks, number: u64) {
             bench.refused_call(run, &plan.parameters);
         }
         bench.tick(run, &plan, e);
-        if started(&plan.trace, e).is_none() {
-            ticks.before += 1;
-            continue;
-        }
-        ticks.after += 1;
-        ticks.ones += u64::from(plan.verdicts[e]);
+        ticks.of[plan.verdicts[e] as usize] += 1;
         run.tally.add(Outcome::Verdict(root, plan.verdicts[e]));
     }
-    ticks.steady += u64::from(!plan.changes());
+    if plan.never_starts() {
+        run.tally.add(Outcome::NeverStarted);
+    } else {
+        ticks.steady += u64::from(!plan.changes());
+    }
 }
 
 pub fn run(run: &mut Run, rules: u64) {
@@ -165,7 +168,8 @@ pub fn run(run: &mut Run, rules: u64) {
     for number in 0..rules {
         rule_case(run, &mut ticks, number);
     }
-    let Ticks { before, after, ones, steady } = ticks;
+    let Ticks { of: [zeros, ones, before], steady } = ticks;
+    let after = zeros + ones;
     let share = |name, part, whole, least, most| Share { name, part, whole, least, most };
     run.tally.share(share("ticks before any start", before, before + after, 1.0, 5.0));
     run.tally.share(share("verdicts 1 after a start", ones, after, 25.0, 75.0));

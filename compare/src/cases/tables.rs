@@ -23,9 +23,8 @@ impl Case {
         if random.once_in(3) {
             table::make::damage(random, &mut table);
         }
-        if random.once_in(60) {
-            // a last equation that is a count
-            table[4 * n - 4..4 * n].copy_from_slice(&[7, n as u32 - 1, 0, 0]);
+        if random.once_in(30) {
+            table::make::unclose(random, &mut table, n);
         }
         let mut said = n;
         if random.once_in(12) {
@@ -83,16 +82,22 @@ pub fn table_case(run: &mut Run, number: u64) {
         run.tally.add(Outcome::LargestTable);
     }
     let parameters = random_parameters(&mut run.random);
+    let mut before = None;
     for _ in 0..4 {
-        if run.random.once_in(10) && !state.is_empty() {
+        if run.random.once_in(8) && !state.is_empty() {
             let at = run.random.below(state.len());
-            state[at] = run.random.pick(&[0, 1, 2, 1_000_000, 1_000_001]);
+            state[at] = run.random.pick(&[0, 1, 2, 1_000_000, 1_000_000, 1_000_001]);
         }
-        step_case(run, &case, &mut state, &parameters, number);
+        let answer = step_case(run, &case, &mut state, &parameters, number);
+        if let (Some(before), Some(answer)) = (before, answer) {
+            run.tally.add(Outcome::TableTurn(before, answer));
+        }
+        before = answer.or(before);
     }
 }
 
-fn step_case(run: &mut Run, case: &Case, state: &mut Vec<u32>, parameters: &[u32; 8], number: u64) {
+/// One step; its answer, if it is not refused.
+fn step_case(run: &mut Run, case: &Case, state: &mut Vec<u32>, parameters: &[u32; 8], number: u64) -> Option<u32> {
     let tick = case.tick(&mut run.random, parameters);
     let mut values = case.buffer(&mut run.random);
     let (mut wanted_state, mut wanted_values) = (state.clone(), values.clone());
@@ -104,8 +109,10 @@ fn step_case(run: &mut Run, case: &Case, state: &mut Vec<u32>, parameters: &[u32
     same(&*state, &wanted_state, || format!("the state after a step of {}", case.name(number)));
     same(&values, &wanted_values, || format!("the values after a step of {}", case.name(number)));
     run.tally.add(Outcome::Step(answer.refusal));
-    if answer.refusal == 0 {
-        run.tally.add(Outcome::TableVerdict(answer.result));
-        count_flows(&mut run.tally, case, &values);
+    if answer.refusal != 0 {
+        return None;
     }
+    run.tally.add(Outcome::TableAnswer(answer.result));
+    count_flows(&mut run.tally, case, &values);
+    Some(answer.result)
 }

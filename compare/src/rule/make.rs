@@ -75,15 +75,27 @@ pub fn random_parameters(random: &mut Random) -> [u32; 8] {
     std::array::from_fn(|_| random.below(limit) as u32)
 }
 
+/// When the first start of some ticks comes.
+#[derive(Clone, Copy, PartialEq)]
+enum First {
+    AtOnce,
+    Late,
+    Never,
+}
+
 /// So many ticks. Tick 0 mostly starts; a signal mostly stays for some ticks.
 pub fn random_ticks(random: &mut Random, count: usize) -> Vec<Moment> {
     let mut signals = random.next();
-    let mut begun = false;
-    let late = random.once_in(10);
+    let first = match random.below(40) {
+        0 => First::Never,
+        1..=4 => First::Late,
+        _ => First::AtOnce,
+    };
     let mut ticks = Vec::with_capacity(count);
     for i in 0..count {
-        let start = if begun || late { random.once_in(12) } else { i == 0 };
-        begun |= start;
+        let at_once = i == 0 && first == First::AtOnce;
+        let later = i > 0 || first == First::Late;
+        let start = at_once || later && first != First::Never && random.once_in(12);
         signals = match random.below(12) {
             0 => random.next(),
             1 => u64::MAX,

@@ -60,14 +60,17 @@ pub fn meaning(r: &Rule, trace: &[Moment], parameters: &[u32; 8], b: usize, e: u
 }
 
 /// SPEC 4.9: where the interval of tick e begins.
-pub fn started(trace: &[Moment], e: usize) -> Option<usize> {
+fn started(trace: &[Moment], e: usize) -> Option<usize> {
     (0..=e).rev().find(|i| trace[*i].start)
 }
+
+/// SPEC 4.10: what stands in place of a verdict where there is no start yet.
+pub const IDLE: u32 = 2;
 
 /// SPEC 4.10: the verdict at tick e.
 pub fn verdict(r: &Rule, trace: &[Moment], parameters: &[u32; 8], e: usize) -> u32 {
     match started(trace, e) {
-        None => 1,
+        None => IDLE,
         Some(b) => u32::from(meaning(r, trace, parameters, b, e)),
     }
 }

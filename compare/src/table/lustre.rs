@@ -3,14 +3,39 @@
 use super::{equation as numbers_of, flaw};
 use crate::rule::OPS;
 
-/// SPEC 9.1, with the lines of SPEC 9.2: the Lustre text of a well-formed table.
+/// SPEC 9.1: the Lustre text of a well-formed table: the equations, then which flow is the started one and which the
+/// verdict.
 pub fn lustre(table: &[u32], n: usize) -> Vec<u8> {
+    ended(table, n, &format!("w=f{};\na=f{};\ntel\n", n - 2, n - 1))
+}
+
+/// The line `let`, the lines of the equations (SPEC 9.2), and an end.
+fn ended(table: &[u32], n: usize, end: &str) -> Vec<u8> {
     let mut text = String::from("let\n");
     for i in 0..n {
         text.push_str(&format!("f{i}={};\n", right_side(numbers_of(table, i))));
     }
-    text.push_str(&format!("a=f{};\ntel\n", n - 1));
+    text.push_str(end);
     text.into_bytes()
+}
+
+/// How many wrong ends there are.
+pub const WRONG_ENDS: usize = 8;
+
+/// A text of which nothing but the end is wrong, in one of so many ways. With one equation every end is wrong.
+pub fn wrongly_ended(table: &[u32], n: usize, way: usize) -> Vec<u8> {
+    let (started, verdict) = (n.saturating_sub(2), n - 1);
+    let end = match way {
+        0 => format!("a=f{verdict};\n"),
+        1 => format!("w=f{started};\n"),
+        2 => format!("a=f{verdict};\nw=f{started};\n"),
+        3 => format!("w=f{verdict};\na=f{verdict};\n"),
+        4 => format!("w=f{started};\na=f{started};\n"),
+        5 => format!("w=f{verdict};\na=f{started};\n"),
+        6 => format!("w=f{started};\nw=f{started};\na=f{verdict};\n"),
+        _ => format!("w=f{n};\na=f{verdict};\n"),
+    };
+    ended(table, n, &format!("{end}tel\n"))
 }
 
 /// The texts of SPEC 5.3, with the constants of SPEC 9.3 and numbers and comparisons by SPEC 9.4.
@@ -96,7 +121,7 @@ pub fn read_lustre(text: &[u8]) -> Option<Vec<u32>> {
     let mut table = Vec::new();
     for line in std::str::from_utf8(text).ok()?.split('\n') {
         let Some((name, right)) = line.split_once('=') else { continue };
-        if name == "a" {
+        if name == "w" || name == "a" {
             break;
         }
         table.extend(equation(right.strip_suffix(';')?)?);

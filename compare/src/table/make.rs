@@ -17,19 +17,19 @@ impl Flows {
     fn count(&self, random: &mut Random) -> u32 {
         random.pick(&self.counts)
     }
-    /// The kinds that the next equation can have, counts only where it is not the last.
-    fn kinds(&self, last: bool) -> Vec<u32> {
+    /// The kinds that the next equation can have, counts only where it is none of the two that close the table.
+    fn kinds(&self, closing: bool) -> Vec<u32> {
         let mut kinds = vec![0, 1, 2, 6];
         if !self.booleans.is_empty() {
             kinds.extend([3, 3, 4, 4, 5, 5]);
         }
-        if !last {
+        if !closing {
             kinds.push(7);
         }
         if !self.counts.is_empty() {
             kinds.extend([10, 10, 11, 11]);
         }
-        if !last && !self.counts.is_empty() && !self.booleans.is_empty() {
+        if !closing && !self.counts.is_empty() && !self.booleans.is_empty() {
             kinds.extend([8, 8, 9]);
         }
         kinds
@@ -61,12 +61,12 @@ pub fn random_size(random: &mut Random, small: usize, rare: usize) -> usize {
     1 + random.below(most)
 }
 
-/// A random table of n equations, well formed if n is at most 4,096.
+/// A random table of n equations, well formed if n is 2 to 4,096.
 pub fn random_table(random: &mut Random, n: usize) -> Vec<u32> {
     let mut table = vec![0u32; 4 * n];
     let mut flows = Flows::default();
     for i in 0..n {
-        let kind = random.pick(&flows.kinds(i + 1 == n));
+        let kind = random.pick(&flows.kinds(i + 2 >= n));
         table[4 * i] = kind;
         table[4 * i + 1..4 * i + 4].copy_from_slice(&flows.numbers(random, kind));
         if is_count(kind) { &mut flows.counts } else { &mut flows.booleans }.push(i as u32);
@@ -79,6 +79,12 @@ pub fn random_table(random: &mut Random, n: usize) -> Vec<u32> {
         }
     }
     table
+}
+
+/// Puts a count at the place of the started flow or of the verdict.
+pub fn unclose(random: &mut Random, table: &mut [u32], n: usize) {
+    let at = if n > 1 && random.once_in(2) { n - 2 } else { n - 1 };
+    table[4 * at..4 * at + 4].copy_from_slice(&[7, at as u32, 0, 0]);
 }
 
 /// Changes one or two of the numbers.
