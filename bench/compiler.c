@@ -254,10 +254,9 @@ struct towerwatch_answer compiler_compile(const uint8_t *text, size_t length, ui
     if (refused) return (struct towerwatch_answer){refused, 0};
     static uint32_t own[16384];
     t = own, at = n = broken = no_lead = 0;
-    uint32_t s = put(1, 0, 0, 0), not_s = put(3, s, 0, 0), m = memory(6), started = put(5, s, m, 0);
-    moves_to(m, started);
-    uint32_t not_started = put(3, started, 0, 0), f = formula(s, not_s).flow;
-    put(5, not_started, f, 0);
+    uint32_t s = put(1, 0, 0, 0), not_s = put(3, s, 0, 0), f = formula(s, not_s).flow;
+    uint32_t m = memory(6), started = put(5, s, m, 0);
+    moves_to(m, started), put(4, started, f, 0);
     if (broken || at != count) return (struct towerwatch_answer){6, 0};
     for (uint32_t i = 0; i < count; i++)
         if (words[i].kind == CHOP || words[i].kind == EXISTS) return (struct towerwatch_answer){7, 0};

@@ -60,7 +60,7 @@ static inline uint32_t refusal(const uint32_t *table, size_t table_len, size_t n
         if (!fits(table, n, i, s[0], e[1]) || !fits(table, n, i, s[1], e[2]) || !fits(table, n, i, s[2], e[3]))
             return 11;
     }
-    if (gives[table[4 * (n - 1)]] != BOOL) return 11;
+    if (n < 2 || gives[table[4 * (n - 2)]] != BOOL || gives[table[4 * (n - 1)]] != BOOL) return 11;
     if (state_len < n || values_len < n) return 12;
     for (int j = 0; j < 8; j++)
         if (parameters[j] > 999999) return 13;
@@ -94,7 +94,7 @@ uint32_t interpreter_tick(const uint32_t *table, size_t n, uint32_t *state, uint
     }
     for (size_t i = 0; i < n; i++)
         if (table[4 * i] == 6 || table[4 * i] == 7) state[i] = values[table[4 * i + 1]];
-    return values[n - 1];
+    return values[n - 2] ? values[n - 1] : TOWERWATCH_IDLE;
 }
 
 struct towerwatch_answer interpreter_step(const uint32_t *table, size_t table_len, size_t n, uint32_t *state,

@@ -9,7 +9,8 @@ struct towerwatch_answer interpreter_step(const uint32_t *table, size_t table_le
                                           size_t state_len, uint32_t *values, size_t values_len, uint32_t start,
                                           uint64_t signals, const uint32_t parameters[8]);
 
-/* The tick alone, for a table that is known to be well-formed and a state that was made for it. */
+/* The tick alone, for a table that is known to be well-formed and a state that was made for it: 0, 1 or
+ * TOWERWATCH_IDLE. */
 uint32_t interpreter_tick(const uint32_t *table, size_t n, uint32_t *state, uint32_t *values, uint32_t start,
                           uint64_t signals, const uint32_t parameters[8]);
 

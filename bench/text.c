@@ -42,13 +42,14 @@ int main(void) {
     TIME("read and compile a rule of 9 words", 5000, towerwatch_compile(brief, 21, table, 16384));
     TIME("read and compile a rule of 9 words, C", 5000, compiler_compile(brief, 21, table, 16384));
 
-    /* a table of 4,096 equations with long lines: a signal, a count, then comparisons and gates */
+    /* a table of 4,096 equations with long lines: a signal, a count, then gates and comparisons, and two comparisons to
+       close it */
     memset(table, 0, sizeof table);
     table[4] = 7, table[5] = 1;
     for (uint32_t i = 2; i < 4096; i++) {
         uint32_t *e = table + 4 * i;
-        if (i % 2 == 0) e[0] = 9, e[1] = i == 2 ? 0 : i - 1, e[2] = i == 2 ? 1 : i - 2;
-        else e[0] = 10, e[1] = i - 1, e[2] = 4, e[3] = 999999;
+        if (i % 2 == 0 && i < 4094) e[0] = 9, e[1] = i == 2 ? 0 : i - 1, e[2] = i == 2 ? 1 : i - 2;
+        else e[0] = 10, e[1] = i < 4094 ? i - 1 : 4092, e[2] = 4, e[3] = 999999;
     }
     uint32_t bytes_written = towerwatch_write_lustre(table, 16384, 4096, text, sizeof text).result;
     TIME("write Lustre text of 4,096 equations", 5, towerwatch_write_lustre(table, 16384, 4096, text, sizeof text));
