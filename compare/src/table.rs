@@ -77,6 +77,21 @@ pub fn flaw(table: &[u32], n: usize) -> Option<Flaw> {
     }
 }
 
+/// SPEC 12.7: whether a table of n equations has the start in front and closes as compiled ones do: the started flow's
+/// memory, the started flow, the verdict.
+pub fn closes_as_compiled(table: &[u32], n: usize) -> bool {
+    if n < 4 {
+        return false;
+    }
+    let (memory, started) = (n as u32 - 3, n as u32 - 2);
+    let [verdict_kind, of_started, and_flow, unused] = equation(table, n - 1);
+    equation(table, 0) == [1, 0, 0, 0]
+        && equation(table, n - 3) == [6, started, 0, 0]
+        && equation(table, n - 2) == [5, 0, memory, 0]
+        && [verdict_kind, of_started, unused] == [4, started, 0]
+        && and_flow < memory
+}
+
 /// All refusals of a fresh state that apply, in the order of SPEC 8.4.
 pub fn fresh_refusals(table: &[u32], n: usize, state: &[u32]) -> Vec<u32> {
     let mut refusals: Vec<u32> = flaw(table, n).into_iter().map(Flaw::refusal).collect();

@@ -34,6 +34,8 @@ pub enum Outcome {
     Verdict(Root, u32),
     /// A rule that is run over ticks of which none is a start.
     NeverStarted,
+    /// The answer of a rule's table in a run in which the parameters change.
+    OtherParameters(u32),
     /// A `lag` of a rule that is run.
     Lag(Around, Delay),
     /// The answer of a random table.
@@ -175,6 +177,7 @@ fn wanted() -> Vec<(Outcome, u64)> {
     want(300, &mut roots().into_iter().flat_map(|r| [Outcome::Verdict(r, 0), Outcome::Verdict(r, 1)]));
     want(10, &mut roots().into_iter().map(|r| Outcome::Verdict(r, IDLE)));
     want(1000, &mut std::iter::once(Outcome::NeverStarted));
+    want(1000, &mut (0..3).map(Outcome::OtherParameters));
     want(200, &mut AROUND.into_iter().flat_map(|a| DELAYS.map(|d| Outcome::Lag(a, d))));
     want(50_000, &mut (0..3).map(Outcome::TableAnswer));
     want(2000, &mut (0..3).flat_map(|from| (0..3).map(move |to| Outcome::TableTurn(from, to))));

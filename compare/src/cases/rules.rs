@@ -5,7 +5,7 @@ use super::{same, show, Run};
 use crate::archive::{self, Answer, Tick};
 use crate::random::Random;
 use crate::rule::make::{random_parameters, random_rule, random_ticks};
-use crate::rule::meaning::{verdict, Moment};
+use crate::rule::meaning::{verdict, Moment, IDLE};
 use crate::rule::{self, Around, Rule};
 use crate::table;
 use crate::tally::{Outcome, Share};
@@ -76,6 +76,7 @@ impl Bench {
         let n = answer.result as usize;
         same(n <= 619, true, || format!("the equations of {name}"));
         same(table::flaw(&table, n), None, || format!("the table of {name}"));
+        same(table::closes_as_compiled(&table, n), true, || format!("how the table of {name} closes"));
         same(table[4 * n..] == run.junk[4 * n..], true, || format!("what stands after the table of {name}"));
         let memories = (0..n).filter(|i| matches!(table[4 * i], 6 | 7)).count();
         same(memories <= 2 * nodes as usize + 1, true, || format!("the memories of {name}"));
@@ -128,6 +129,22 @@ impl Bench {
         same(&self.values, &flows, || format!("the flows of {} at tick {e}", self.name));
         run.tally.add(Outcome::RuleStep(0));
     }
+    /// The ticks once more from a fresh state, with other parameters at each: the same ticks are idle (SPEC 12.3), and
+    /// all answers are the table's.
+    fn with_changing_parameters(&mut self, run: &mut Run, plan: &Plan) {
+        archive::fresh_state(&self.table, self.n, &mut self.state);
+        for (moment, planned) in plan.trace.iter().zip(&plan.verdicts) {
+            let parameters = random_parameters(&mut run.random);
+            let tick = Tick { start: u32::from(moment.start), signals: moment.signals, parameters };
+            let (mut cells, mut flows) = (self.state.clone(), self.values.clone());
+            let wanted = table::step(&self.table, self.n, &mut cells, &mut flows, &tick);
+            let answer = archive::step(&self.table, self.n, &mut self.state, &mut self.values, &tick);
+            let case = || format!("{} with changing parameters", self.name);
+            same(answer, wanted, case);
+            same(answer.result == IDLE, *planned == IDLE, case);
+            run.tally.add(Outcome::OtherParameters(answer.result));
+        }
+    }
 }
 
 fn rule_case(run: &mut Run, ticks: &mut Ticks, number: u64) {
@@ -155,6 +172,9 @@ fn rule_case(run: &mut Run, ticks: &mut Ticks, number: u64) {
         bench.tick(run, &plan, e);
         ticks.of[plan.verdicts[e] as usize] += 1;
         run.tally.add(Outcome::Verdict(root, plan.verdicts[e]));
+    }
+    if run.random.once_in(8) {
+        bench.with_changing_parameters(run, &plan);
     }
     if plan.never_starts() {
         run.tally.add(Outcome::NeverStarted);
