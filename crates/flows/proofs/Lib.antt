@@ -5,5 +5,6 @@ pub mod Checks
 pub mod Ranges
 pub mod Runs
 pub mod Lists
+pub mod Answers
 pub mod Expected
 mod Rows
