@@ -56,7 +56,7 @@ extern "C" {
 /* Bytes that are enough for every table's Lustre text. */
 #define TOWERWATCH_LUSTRE_BYTES 409700
 
-/* What a step answers in place of a verdict while nothing has been started: idle. */
+/* The verdict before the first start: idle. */
 #define TOWERWATCH_IDLE 2
 
 /* The refusals, each with its cause. 1 to 8 are of a rule text, */
@@ -112,8 +112,8 @@ struct towerwatch_answer towerwatch_fresh_state(const uint32_t *table, size_t ta
  * start: any number but 0 starts the watched interval at this tick. signals: bit j is signal j. parameters:
  * TOWERWATCH_PARAMETERS numbers up to TOWERWATCH_LAST_NUMBER, the same at every tick of a run.
  * Result: TOWERWATCH_IDLE where the table's last flow but one, the started flow, is 0 at this tick; else the last flow,
- * the verdict, 0 or 1. A compiled table is idle up to its first start and never after it; one that was made by hand may
- * be idle again later. Refused: 10, 11, 12, 13, 14. A refused step is no tick. */
+ * the verdict's, 0 or 1. A compiled table is idle before its first start and never from it on; one that was made by
+ * hand may be idle again later. Refused: 10, 11, 12, 13, 14. A refused step is no tick. */
 struct towerwatch_answer towerwatch_step(const uint32_t *table, size_t table_len, size_t n, uint32_t *state,
                                          size_t state_len, uint32_t *values, size_t values_len, uint32_t start,
                                          uint64_t signals, const uint32_t parameters[TOWERWATCH_PARAMETERS]);

@@ -64,6 +64,19 @@ fresh-short : freshReply (freshened table 12 (replicate 11 9) .answer) ≡ refus
 unfolding freshened freshChecked lengthFits equationsFit closes all shapeFits shapeOf kindOf operandFits isFlow sameSort
 fresh-short = refl
 
+-- One equation alone, and a count last but one: 11, before all that a fresh state and a step refuse by 12 and 13.
+fresh-unclosed : map freshReply (freshened table 1 [] .answer ∷ freshened table 11 [] .answer ∷ [])
+    ≡ refused 11 ∷ refused 11 ∷ []
+unfolding freshened freshChecked lengthFits equationsFit closes all shapeFits shapeOf kindOf operandFits isFlow sameSort
+fresh-unclosed = refl
+
+step-unclosed : map stepReply
+    (stepped standardCap table 1 [] [] (tick 1 32 1000000) .answer
+    ∷ stepped standardCap table 11 [] [] (tick 1 32 1000000) .answer ∷ [])
+    ≡ refused 11 ∷ refused 11 ∷ []
+unfolding stepped stepChecked lengthFits equationsFit closes all shapeFits shapeOf kindOf operandFits isFlow sameSort
+step-unclosed = refl
+
 -- Three ticks, with refused calls among them: too few values (SPEC 7.12), and too high a parameter (SPEC 7.13). The
 -- started flow, f10, is 0 at the first tick.
 step-rows : told
@@ -84,8 +97,8 @@ step-row = refl
 -- f0=s5; f1=s6; a started flow that does not last: the answer is idle again where it is 0.
 falls-back : map stepReply
     (answered (steps standardCap (0 ∷ 5 ∷ 0 ∷ 0 ∷ 0 ∷ 6 ∷ 0 ∷ 0 ∷ []) 2 (replicate 2 9)
-    (call 0 32 0 2 ∷ call 0 64 0 2 ∷ call 0 96 0 2 ∷ [])))
-    ≡ gives 0 ∷ gives 2 ∷ gives 1 ∷ []
+    (call 0 32 0 2 ∷ call 0 64 0 2 ∷ call 0 96 0 2 ∷ call 1 0 0 2 ∷ [])))
+    ≡ gives 0 ∷ gives 2 ∷ gives 1 ∷ gives 2 ∷ []
 unfolding steps stepped stepChecked lengthFits equationsFit closes all shapeFits shapeOf kindOf operandFits isFlow
     sameSort memoriesSet isMemory afterTick answerOf flows valueOf increased parameterFits cellFits inRange
 falls-back = refl

@@ -53,6 +53,11 @@ whole : textOf (1 ∷ 0 ∷ 0 ∷ 0 ∷ 3 ∷ 0 ∷ 0 ∷ 0 ∷ []) 2 ≡ bytes 
 unfolding textOf lines lineText lineRest foot valueText kindOf digits numberText
 whole = refl
 
+-- The last lines of a longer table.
+twelve : foot 12 ≡ bytes "w=f10;\na=f11;\ntel\n"
+unfolding foot digits numberText
+twelve = refl
+
 -- SPEC 8.6, whatever buffer is lent: no equation is refused by 10 (SPEC 7.10), one alone by 11 (SPEC 7.11), and so are
 -- two of which the started flow's, or the verdict's, is a count.
 abbrev refuses : ℕ → List ℕ → ℕ → Type 0

@@ -1,4 +1,4 @@
--- The closing rows: started since the latest start and not before any, so that the last two flows answer the verdict.
+-- The closing rows: started from the first start on and not before it, so that the last two flows answer the verdict.
 -- Assumes nothing.
 use mathlib.Core.Bool.{Bool, true, false, _&&_, cond}
 use mathlib.Core.Option.{Option}
@@ -17,7 +17,7 @@ use Rattle.scheme.proofs.Starts.{Never, Latest, latest-is}
 
 module _ (cap : ℕ) (trace : Trace) (flow : ℕ → ℕ → ℕ) where
   module _ (s o v : ℕ) (h : Stand cap trace flow o (whole-es s o v)) where
-    -- Started since the latest start,
+    -- Started at each tick since a start,
     started : (b d : ℕ) → Since (on flow s) b d → on flow (o ⊕ 1) (b ⊕ d) ≡ true
     unfolding kindOf
     started b zero begun = rw (h .1 .0 b, begun)

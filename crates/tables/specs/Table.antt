@@ -131,7 +131,8 @@ shapeFits t n i s e =
 abbrev pub equationFits : List ℕ → ℕ → ℕ → Bool
 equationFits t n i = shapeFits t n i (shapeOf (kindAt t i)) (equationAt t i)
 
--- The test of refusal 10 (SPEC 7.10): a table can have n equations (SPEC 5.6), and this one has their numbers.
+-- The test of refusal 10 (SPEC 7.10): n is neither 0 nor above the limit (SPEC 5.6), and the table has n equations'
+-- numbers.
 unfoldable pub lengthFits : List ℕ → ℕ → Bool
 lengthFits t n = ltb 0 n && (leb n equationLimit && leb (4 * n) (length t))
 
