@@ -29,9 +29,11 @@ function row(name,   i) {
 
 function ratios(ours, other,   i, r) {
     for (i = 1; i <= columns; i++)
-        for (r in rounds)
+        for (r in rounds) {
+            delete number[state[i], r, "    ratio"]
             if ((state[i], r, ours) in number)
                 number[state[i], r, "    ratio"] = number[state[i], r, ours] / number[state[i], r, other]
+        }
     row("    ratio")
 }
 
