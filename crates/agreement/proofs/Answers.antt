@@ -1,6 +1,7 @@
--- The answers of an observer, over every list of calls from the fresh state, are its formula's verdicts. This joins
--- what Formed (scheme) shows of the table's check, Verdicts of flows that satisfy their equations, and the laws of runs
--- of any table (flows). Over a number m of signals that is left open (scheme, proofs/Parts.antt). Assumes nothing.
+-- The answers of an observer, over every list of calls from the fresh state, are its formula's verdicts, and idle exactly
+-- before the first start. This joins what Formed (scheme) shows of the table's check, Verdicts of flows that satisfy
+-- their equations, and the laws of runs of any table (flows). Over a number m of signals that is left open (scheme,
+-- proofs/Parts.antt). Assumes nothing.
 use mathlib.Core.Bool.{true, cond}
 use mathlib.Core.List.{List, _++_}
 use mathlib.Core.Logic.{_↔_, Iff·trans}
@@ -81,7 +82,7 @@ module _ (cap : ℕ) (low : cap ≤ literalCount) (m : ℕ) (few : m ≤ signalC
         (Iff·trans (same-verdict _ idleVerdict) (idle-over cap trace flow m f junk run k))
 
   module _ (old : List ℕ) (room : n ≤ length old) (ps : List ℕ) where
-    -- and the formula's verdict, where the parameters are the same and below the cap:
+    -- and the formula's verdict, where the parameters are the same at all ticks and below the cap;
     verdicts : (ks : List Tick) → SameParameters ps ks → Small cap ps → (e : ℕ)
         → answerAt cap t n old (traceOfTicks ps ks) e ≡ verdict (traceOfTicks ps ks) f e
     verdicts ks same small e =
@@ -90,7 +91,7 @@ module _ (cap : ℕ) (low : cap ≤ literalCount) (m : ℕ) (few : m ≤ signalC
         ∙ verdict-over cap trace (flow old room trace) m f junk (run old room trace)
         (λ i j. same-at same i ∙ sym (same-at same j)) (λ k j h. rw (same-at same k) (small j h)) led bound below e
 
-    -- so the step of each tick, over any list of calls.
+    -- and so the step of each tick answers it, over any list of calls.
     module _ (ks : List Tick) (same : SameParameters ps ks) where
       tick-means : (k : ℕ) (s : Taken) → Ran cap t n passes old room (traceOfTicks ps ks) k s
           → AsMeant f (traceOfTicks ps ks) k s

@@ -1,5 +1,6 @@
 -- SPEC 12.3 (demand 3): the agreement of an observer's answers with the interval meaning, as one statement about a list
--- of calls (SPEC 6.1). Definitions only; the theorem is in proofs/Theorem.antt.
+-- of calls (SPEC 6.1). SPEC 12.7: how the table of a compiled rule closes. Definitions only; the theorems are in
+-- proofs/Theorem.antt.
 use mathlib.Core.List.{List, [], _∷_}
 use mathlib.Core.Logic.{_↔_}
 use mathlib.Core.Path.{_≡_}
@@ -19,14 +20,17 @@ use Rattle.flows.specs.declared.Fresh.the-variants.{Made}
 use Rattle.flows.specs.declared.Stepped.the-variants.{Verdict}
 use Rattle.tables.specs.Table.{memories}
 
--- SPEC 12.7: the last three of n equations. The memory of the started flow begins with 0; the started flow is 1 where
--- the tick is a start, which is equation 0, or the memory gives 1; the verdict is the started flow and a flow from
--- before the three.
+-- SPEC 12.7: the started flow's memory is the last equation but two,
+abbrev pub memoryOf : ℕ → ℕ
+memoryOf n = n - 3
+
+-- and begins with 0; the started flow is equation 0, the start, or that memory; the verdict is the started flow and a
+-- flow from before these three.
 pub record Closing (t : List ℕ) (n : ℕ) : Type 0 where
   pub start : equationAt t 0 ≡ equation START 0 0 0
-  pub memory : equationAt t (n - 3) ≡ equation BOOLEAN-PRE (startedOf n) 0 0
-  pub started : equationAt t (startedOf n) ≡ equation OR 0 (n - 3) 0
-  pub verdict : (x : ℕ) × (x < n - 3) × (equationAt t (verdictOf n) ≡ equation AND (startedOf n) x 0)
+  pub memory : equationAt t (memoryOf n) ≡ equation BOOLEAN-PRE (startedOf n) 0 0
+  pub started : equationAt t (startedOf n) ≡ equation OR 0 (memoryOf n) 0
+  pub verdict : (x : ℕ) × (x < memoryOf n) × (equationAt t (verdictOf n) ≡ equation AND (startedOf n) x 0)
 
 -- SPEC 12.3: all ticks have the same parameters, ps.
 pub data SameParameters (ps : List ℕ) : List Tick → Type 0 where
@@ -57,8 +61,8 @@ pub record Observes (cap : ℕ) (t : List ℕ) (n : ℕ) (f : Formula) (nodes : 
       → EachTick (AsMeant f (traceOfTicks ps (ticks (fromFresh cap t n old calls)))) 0 (fromFresh cap t n old calls)
   pub decides : (old : List ℕ) → n ≤ length old → (calls : List Call)
       → CallsDecide cap n calls (fromFresh cap t n old calls)
-  -- It answers idle exactly before the first start (SPEC 4.10), also where ticks have other parameters than others.
-  -- Past the last tick, where no step looks, the trace is as d.
+  -- It answers idle exactly before the first start (SPEC 4.10), whatever parameters the ticks have. Past the last tick,
+  -- where no step looks, the trace is as d.
   pub idle : (old : List ℕ) → n ≤ length old → (calls : List Call) (d : Tick)
       → EachTick (IdleUntilStart (traceOf d (ticks (fromFresh cap t n old calls)))) 0 (fromFresh cap t n old calls)
   -- Two memories (SPEC 5.7) for each node (SPEC 3.8) at the most, and one besides.
