@@ -1,7 +1,7 @@
--- The answers of an observer, over every list of calls from the fresh state, are its formula's verdicts, and idle exactly
--- before the first start. This joins what Formed (scheme) shows of the table's check, Verdicts of flows that satisfy
--- their equations, and the laws of runs of any table (flows). Over a number m of signals that is left open (scheme,
--- proofs/Parts.antt). Assumes nothing.
+-- The answers of an observer, over every list of calls from the fresh state, are its formula's verdicts, and idle
+-- exactly before the first start. This joins what Formed (scheme) shows of the table's check, Verdicts of flows that
+-- satisfy their equations, and the laws of runs of any table (flows). Over a number m of signals that is left open
+-- (scheme, proofs/Parts.antt). Assumes nothing.
 use mathlib.Core.Bool.{true, cond}
 use mathlib.Core.List.{List, _++_}
 use mathlib.Core.Logic.{_↔_, Iff·trans}
