@@ -28,12 +28,13 @@ use Rattle.flows.specs.declared.Stepped.{Stepped}
 use Rattle.flows.specs.declared.Stepped.the-variants.{Verdict}
 use Rattle.flows.proofs.Runs.{flowAt, answerAt, lustre}
 use Rattle.flows.proofs.Lists.{each-map, Ran, ran}
+use Rattle.flows.proofs.Answers.{verdict-boolean}
 use Rattle.flows.proofs.Expected.{admitted, expected, decided-ticks, each-expected}
 use Rattle.scheme.specs.Emit.{namedBy, numbersOf}
 use Rattle.agreement.specs.Agreement.{SameParameters, traceOfTicks, AsMeant, IdleUntilStart, Observes}
 use Rattle.scheme.specs.Scheme.{_⊕_}
 use Rattle.scheme.proofs.Parts.{wholePlace, observerOver, whole-last, started-last, verdict-last}
-use Rattle.scheme.proofs.Formed.{formed-over, verdict-boolean}
+use Rattle.scheme.proofs.Formed.{formed-over}
 use Rattle.scheme.proofs.Local.{on, boolean-number}
 use Rattle.agreement.proofs.Verdicts.{told, idle-over, verdict-over}
 use Rattle.agreement.proofs.Calls.{Small, same-at, admitted-small}
@@ -70,7 +71,7 @@ module _ (cap : ℕ) (low : cap ≤ literalCount) (m : ℕ) (few : m ≤ signalC
         rw (started-last m f, ← verdict-last m f)
         (ap (λ (x : ℕ). cond (on flow (wholePlace m f ⊕ 1) e) x idleVerdict)
         (boolean-number cap trace flow t n run (verdictOf n) (omega (arith, whole-last m f))
-        (verdict-boolean cap low m few f bound below junk) e))
+        (verdict-boolean t n passes) e))
 
     -- It is idle exactly before the first start,
     tick-idle : (k : ℕ) (s : Taken) → Ran cap t n passes old room trace k s → IdleUntilStart trace k s

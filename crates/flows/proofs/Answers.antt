@@ -25,14 +25,14 @@ use Rattle.flows.proofs.Checks.{step-passed, step-admitted}
 use Rattle.flows.proofs.Ranges.{flows-range}
 
 -- The verdict's flow of a table that passes its check is boolean.
-verdict-boolean : (t : List ℕ) (n : ℕ) → checked t n ≡ Passed → booleanAt t (verdictOf n) ≡ true
+pub verdict-boolean : (t : List ℕ) (n : ℕ) → checked t n ≡ Passed → booleanAt t (verdictOf n) ≡ true
 unfolding equationsFit closes
 verdict-boolean t n e =
     let last = and-true (all (equationFits t n) n) _ (passed-both t n e .1) .1 in
     and-true (booleanAt t (startedOf n)) _ (and-true (leb closingCount n) _ last .1) .1
 
 -- A boolean is 0 or 1,
-boolean-low : (cap : ℕ) (s : Sort) (x : ℕ) → sameSort s Boolean ≡ true → inRange cap s x ≡ true → x < truthCount
+pub boolean-low : (cap : ℕ) (s : Sort) (x : ℕ) → sameSort s Boolean ≡ true → inRange cap s x ≡ true → x < truthCount
 unfolding sameSort inRange
 boolean-low cap Boolean x e r = ltb-true x truthCount r
 boolean-low cap Count x e r = absurd (false≢true e)

@@ -107,13 +107,13 @@ module _ (cap : ℕ) (low : cap ≤ literalCount) (m : ℕ) (few : m ≤ signalC
       (rw zero-⊕ at (each-at (Fits t n) (observerOver m f) 0 i (all-fine .0) h) .fits))
 
   -- and the last two are boolean.
-  pub started-boolean : booleanAt t (startedOf n) ≡ true
+  started-boolean : booleanAt t (startedOf n) ≡ true
   unfolding kindOf shapeOf sameSort
   started-boolean =
       let sorted = here t n 0 (wholePlace m f ⊕ 1) OR (whole-kinds .1 .0) refl .sorted in
       subst (λ (x : ℕ). booleanAt t x ≡ true) (sym (started-last m f)) sorted
 
-  pub verdict-boolean : booleanAt t (verdictOf n) ≡ true
+  verdict-boolean : booleanAt t (verdictOf n) ≡ true
   verdict-boolean = subst (λ (x : ℕ). booleanAt t x ≡ true) (sym (verdict-last m f)) (all-fine .1 .sorted)
 
   closed : closingCount ≤ n

@@ -1,21 +1,20 @@
 -- What flows that satisfy their equations are, in the words of their kinds: now, and one tick ago. Assumes nothing.
-use mathlib.Core.Bool.{Bool, true, false≢true, not, _&&_, _||_, cond}
+use mathlib.Core.Bool.{Bool, true, not, _&&_, _||_, cond}
 use mathlib.Core.List.{List, _++_}
 use mathlib.Core.Path.{_≡_, sym}
 use Prim.Native.Nat.{ℕ, suc, _<_}
 use lib.ListN.{length}
 use native.Mathlib.Omega.{arith}
-use borrow.Author.Tests.{ltb-true}
 use Rattle.traces.specs.Trace.{Trace, truth, nonzero, signalAt, parameterAt, starts}
 use Rattle.traces.specs.Compare.{opOf, compares}
 use Rattle.traces.proofs.Laws.{nonzero-truth, truth-nonzero}
 use Rattle.tables.specs.Table.{Equation, equationAt, Kind, kindOf, kindAt, shapeOf, sortOf, sameSort}
 use Rattle.tables.specs.Table.Kind.{signal, start, constant, negation, conjunction, disjunction, booleanPre}
 use Rattle.tables.specs.Table.Kind.{countPre, capped, ifElse, compareLiteral, compareParameter, unknown}
-use Rattle.flows.specs.Flow.{increased, valueOf, initial, inRange}
-use Rattle.tables.specs.declared.Sort.{Sort}
-use Rattle.tables.specs.declared.Sort.the-variants.{Boolean, Count}
+use Rattle.flows.specs.Flow.{increased, valueOf, initial}
+use Rattle.tables.specs.declared.Sort.the-variants.{Boolean}
 use Rattle.flows.specs.Lustre.{arrowPre, Lustre}
+use Rattle.flows.proofs.Answers.{boolean-low}
 use Rattle.scheme.specs.Emit.{numbersOf}
 use Rattle.scheme.proofs.Offsets.{zero-⊕}
 use Rattle.scheme.proofs.Places.{Each, each-from, equation-at}
@@ -85,9 +84,6 @@ module _ (cap : ℕ) (trace : Trace) (flow : ℕ → ℕ → ℕ) where
   -- A boolean flow is the number of a truth value.
   pub boolean-number : (t : List ℕ) (n : ℕ) → Lustre cap t n trace flow → (i : ℕ) → i < n
       → sameSort (sortOf (kindAt t i)) Boolean ≡ true → (k : ℕ) → flow k i ≡ truth (on flow i k)
-  unfolding sameSort inRange
-  boolean-number t n lustre i h sorted k = go (sortOf (kindAt t i)) sorted (lustre i k h .range)
-    where
-      go : (s : Sort) → sameSort s Boolean ≡ true → inRange cap s (flow k i) ≡ true → flow k i ≡ truth (on flow i k)
-      go Boolean e r = sym (truth-nonzero (flow k i) (omega (arith, ltb-true (flow k i) 2 r)))
-      go Count e r = absurd (false≢true e)
+  boolean-number t n lustre i h sorted k =
+      let low = boolean-low cap (sortOf (kindAt t i)) (flow k i) sorted (lustre i k h .range) in
+      sym (truth-nonzero (flow k i) (omega (arith, low)))
