@@ -116,7 +116,7 @@ module _ (cap : ℕ) (low : cap ≤ literalCount) (m : ℕ) (few : m ≤ signalC
   answers-idle old room calls d = each-map (tick-idle old room _) (ran cap t n passes old room calls d)
 
 -- The answers as a list, of any table that observes a formula.
-pub answers-are : {cap : ℕ} {t : List ℕ} {n : ℕ} {f : Formula} {m : ℕ} → Observes cap t n f m
+pub answers-are : {cap : ℕ} {t : List ℕ} {n : ℕ} {f : Formula} → Observes cap t n f
     → (old : List ℕ) → n ≤ length old → (calls : List Call) (ps : List ℕ) → SameParameters ps (admitted cap n calls)
     → answered (fromFresh cap t n old calls)
     ≡ expected cap n (verdict (traceOfTicks ps (admitted cap n calls)) f) 0 calls

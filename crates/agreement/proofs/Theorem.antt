@@ -7,7 +7,7 @@ use Prim.Native.Nat.{ℕ, _≤_, _<_}
 use native.Mathlib.Omega.{arith}
 use lib.ListN.{length}
 use Rattle.formulas.specs.Formula.{Formula}
-use Rattle.formulas.specs.Tree.{nodes, leads}
+use Rattle.formulas.specs.Tree.{leads}
 use Rattle.formulas.specs.Bounds.{bounded}
 use Rattle.formulas.specs.Arena.{flat}
 use Rattle.formulas.specs.Raw.{raw}
@@ -16,11 +16,11 @@ use Rattle.tables.specs.Table.{checked}
 use Rattle.flows.specs.Step.{AfterFresh}
 use Rattle.tables.specs.declared.Checked.the-variants.{Passed}
 use Rattle.scheme.specs.Emit.{namedBy, observer, numbersOf}
-use Rattle.agreement.specs.Agreement.{Observes, Closing}
+use Rattle.agreement.specs.Agreement.{Observes, Closing, ExactMemories}
 use Rattle.flows.proofs.Lists.{made, calls-decide}
 use Rattle.scheme.proofs.Header.{names-below}
+use Rattle.scheme.proofs.Memories.{memories-exactly}
 use Rattle.scheme.proofs.Sizes.{observer-size}
-use Rattle.scheme.proofs.Memories.{memories-few}
 use Rattle.agreement.proofs.Answers.{passes, answers-mean, answers-idle}
 use Rattle.agreement.proofs.Ends.{closing-over}
 
@@ -37,7 +37,7 @@ few = omega arith
 -- observer in the table: the observer observes f.
 pub observes : (cap : ℕ) → cap ≤ literalCount → (f : Formula) → leads (raw f) ≡ true → bounded cap (raw f) ≡ true
     → length (flat (raw f)) ≤ arenaLimit → (junk : List ℕ)
-    → Observes cap (numbersOf (observer f) ++ junk) (length (observer f)) f (nodes (raw f))
+    → Observes cap (numbersOf (observer f) ++ junk) (length (observer f)) f
 observes cap low f led bound size junk =
     record {
       formed = formed;
@@ -45,7 +45,6 @@ observes cap low f led bound size junk =
       agrees = answers-mean cap low signalCount few f led bound (below cap f bound) junk short;
       decides = λ old room calls. calls-decide cap t n formed old room calls;
       idle = answers-idle cap low signalCount few f led bound (below cap f bound) junk short;
-      few = memories-few f junk;
     }
   where
     t : List ℕ
@@ -64,3 +63,8 @@ observes cap low f led bound size junk =
 pub closing : (cap : ℕ) → cap ≤ literalCount → (f : Formula) → bounded cap (raw f) ≡ true → (junk : List ℕ)
     → Closing (numbersOf (observer f) ++ junk) (length (observer f))
 closing cap low f bound junk = closing-over cap low signalCount few f bound (below cap f bound) junk
+
+-- SPEC 12.8: how many memories it has, of every formula.
+pub remembers : (f : Formula) (junk : List ℕ)
+    → ExactMemories (numbersOf (observer f) ++ junk) (length (observer f)) (raw f)
+remembers f junk = memories-exactly f junk

@@ -1,6 +1,6 @@
 -- SPEC 12.3 (demand 3): the agreement of an observer's answers with the interval meaning, as one statement about a list
--- of calls (SPEC 6.1). SPEC 12.7: how the table of a compiled rule closes. Definitions only; the theorems are in
--- proofs/Theorem.antt.
+-- of calls (SPEC 6.1). SPEC 12.7: how the table of a compiled rule closes. SPEC 12.8: how many memories it has. Definitions
+-- only; the theorems are in proofs/Theorem.antt.
 use mathlib.Core.List.{List, [], _∷_}
 use mathlib.Core.Logic.{_↔_}
 use mathlib.Core.Path.{_≡_}
@@ -9,6 +9,7 @@ use lib.ListN.{length}
 use Rattle.traces.specs.declared.Tick.{Tick}
 use Rattle.traces.specs.Trace.{Trace, traceOf, tickOf, idleVerdict}
 use Rattle.formulas.specs.Formula.{Formula}
+use Rattle.formulas.specs.Tree.{Tree, nodes, ruleMemories}
 use Rattle.formulas.specs.Meaning.{verdict}
 use Rattle.formulas.specs.Laws.{Starts}
 use Rattle.tables.specs.Kind.{START, AND, OR, BOOLEAN-PRE}
@@ -32,6 +33,14 @@ pub record Closing (t : List ℕ) (n : ℕ) : Type 0 where
   pub started : equationAt t (startedOf n) ≡ equation OR 0 (memoryOf n) 0
   pub verdict : (x : ℕ) × (x < memoryOf n) × (equationAt t (verdictOf n) ≡ equation AND (startedOf n) x 0)
 
+-- SPEC 12.8: of the n equations exactly so many are memories (SPEC 5.7) as the tree asks for,
+abbrev pub ExactMemories : List ℕ → ℕ → Tree → Type 0
+ExactMemories t n tree = memories t n ≡ ruleMemories tree
+
+-- and SPEC 12.3, which follows: two for each node (SPEC 3.8) at the most, and one besides.
+abbrev pub FewMemories : List ℕ → ℕ → Tree → Type 0
+FewMemories t n tree = memories t n ≤ 2 * nodes tree + 1
+
 -- SPEC 12.3: all ticks have the same parameters, ps.
 pub data SameParameters (ps : List ℕ) : List Tick → Type 0 where
   none : SameParameters ps []
@@ -49,8 +58,8 @@ AsMeant f trace k s = s .left .answer ≡ Verdict (verdict trace f k)
 abbrev pub IdleUntilStart : Trace → ℕ → Taken → Type 0
 IdleUntilStart trace k s = (s .left .answer ≡ Verdict idleVerdict) ↔ ((i : ℕ) → i ≤ k → ¬ Starts trace i)
 
--- The n equations of the table are an observer of the formula f, which has that many nodes.
-pub record Observes (cap : ℕ) (t : List ℕ) (n : ℕ) (f : Formula) (nodes : ℕ) : Type 0 where
+-- The n equations of the table are an observer of the formula f.
+pub record Observes (cap : ℕ) (t : List ℕ) (n : ℕ) (f : Formula) : Type 0 where
   -- They pass the tests of refusals 10 and 11, so that a fresh state is made where there are cells for it.
   pub formed : checked t n ≡ Passed
   pub fresh : (old : List ℕ) → n ≤ length old → freshened t n old .answer ≡ Made
@@ -65,5 +74,3 @@ pub record Observes (cap : ℕ) (t : List ℕ) (n : ℕ) (f : Formula) (nodes : 
   -- where no step looks, the trace is as d.
   pub idle : (old : List ℕ) → n ≤ length old → (calls : List Call) (d : Tick)
       → EachTick (IdleUntilStart (traceOf d (ticks (fromFresh cap t n old calls)))) 0 (fromFresh cap t n old calls)
-  -- Two memories (SPEC 5.7) for each node (SPEC 3.8) at the most, and one besides.
-  pub few : memories t n ≤ 2 * nodes + 1

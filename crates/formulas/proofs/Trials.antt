@@ -1,5 +1,5 @@
--- P1 to P13 and the further rows, by computation: of every row the formula has as many nodes as said, each `then` in it
--- has a lead on its left, and the interval meaning gives the verdicts. `row` and `through` take what is computed of all
+-- P1 to P13 and the further rows, by computation: of every row the formula has as many nodes and the rule as many
+-- memories as said, each `then` in it has a lead on its left, and the interval meaning gives the verdicts. `row` and `through` take what is computed of all
 -- rows to one of them, and to what is made of it. Assumes nothing.
 use mathlib.Core.Bool.{true}
 use mathlib.Core.Path.{_≡_, refl, ap₂}
@@ -7,12 +7,22 @@ use mathlib.Core.List.{List, [], _∷_, map}
 use Prim.Native.Nat.{ℕ, zero, suc, _<_}
 use native.Mathlib.Omega.{arith}
 use lib.ListN.{length, getD}
-use Rattle.formulas.specs.Tree.{nodes, leads}
+use Rattle.formulas.specs.Tree.{nodes, leads, ruleMemories}
 use Rattle.formulas.specs.Raw.{raw}
 use Rattle.formulas.specs.Trials.{Trial, trials, furtherTrials, meant}
 
 pub trials-counted : map (λ (r : Trial). nodes (raw (r .formula))) trials ≡ map (λ (r : Trial). r .nodes) trials
 trials-counted = refl
+
+-- SPEC 12.8: the number of memories that a rule's observer has, for each of these rows.
+abbrev AllRemember : List Trial → Type 0
+AllRemember rs = map (λ (r : Trial). ruleMemories (raw (r .formula))) rs ≡ map (λ (r : Trial). r .memories) rs
+
+pub trials-remember : AllRemember trials
+trials-remember = refl
+
+pub further-remember : AllRemember furtherTrials
+further-remember = refl
 
 trials-led : map (λ (r : Trial). leads (raw (r .formula))) trials ≡ map (λ (r : Trial). true) trials
 trials-led = refl

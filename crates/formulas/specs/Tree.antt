@@ -39,6 +39,33 @@ nodes (len o n) = 1
 nodes (count k p o n) = 1
 nodes (lag p n q) = 1
 
+-- SPEC 12.8: how many memories an observer has. Of the tests `begin`, `held` and `kept` have one each,
+abbrev pub testMemories : Test → ℕ
+testMemories begin = 1
+testMemories end = 0
+testMemories point = 0
+testMemories held = 1
+testMemories kept = 1
+
+-- and so have `len`, `sum` and `age`; `lag` and `then` have two each; other nodes have none of their own.
+abbrev pub memoriesOf : Tree → ℕ
+memoriesOf (constant c) = 0
+memoriesOf (signal j) = 0
+memoriesOf (neg t) = memoriesOf t
+memoriesOf (and a b) = memoriesOf a + memoriesOf b
+memoriesOf (or a b) = memoriesOf a + memoriesOf b
+memoriesOf (then a b) = memoriesOf a + memoriesOf b + 2
+memoriesOf (chop a b) = memoriesOf a + memoriesOf b
+memoriesOf (exists j t) = memoriesOf t
+memoriesOf (test k p) = testMemories k
+memoriesOf (len o n) = 1
+memoriesOf (count k p o n) = 1
+memoriesOf (lag p n q) = 2
+
+-- The whole rule has one more, for the started flow.
+abbrev pub ruleMemories : Tree → ℕ
+ruleMemories t = memoriesOf t + 1
+
 -- SPEC 3.9: the comparisons that a lead may have.
 abbrev pub upper : Op → Bool
 upper le = true

@@ -18,16 +18,18 @@ use Rattle.formulas.specs.Formula.Count.{sum, age}
 use Rattle.formulas.specs.Formula.Formula.{test, len, count, lag, neg, and, or, then}
 use Rattle.formulas.specs.Meaning.{verdict}
 
--- A rule's text, its formula and its node count, and the start and the verdict at each of the five ticks.
+-- A rule's text, its formula, how many nodes it has and how many memories its table, and the start and the verdict at
+-- each of the five ticks.
 pub record Trial : Type 0 where
   pub text : String
   pub formula : Formula
   pub nodes : ℕ
+  pub memories : ℕ
   pub starts : List ℕ
   pub verdicts : List ℕ
 
-abbrev pub trial : String → Formula → ℕ → List ℕ → List ℕ → Trial
-trial t f n ss vs = record { text = t; formula = f; nodes = n; starts = ss; verdicts = vs }
+abbrev pub trial : String → Formula → ℕ → ℕ → List ℕ → List ℕ → Trial
+trial t f n m ss vs = record { text = t; formula = f; nodes = n; memories = m; starts = ss; verdicts = vs }
 
 -- Five numbers, one for each tick.
 abbrev pub five : ℕ → ℕ → ℕ → ℕ → ℕ → List ℕ
@@ -46,20 +48,20 @@ s1 = signal 1
 -- SPEC 14.1: P1 to P13.
 abbrev pub trials : List Trial
 trials =
-    trial "kept[s0]" (test kept s0) 1 first (five 1 1 1 0 0)
-    ∷ trial "held[s0]" (test held s0) 1 first (five 0 1 1 0 0)
-    ∷ trial "point[s0]" (test point s0) 1 first (five 1 0 0 0 0)
-    ∷ trial "len <= 2" (len le (literal 2)) 1 first (five 1 1 1 0 0)
-    ∷ trial "sum[s0] <= 1" (count sum s0 le (literal 1)) 1 first (five 1 1 0 0 0)
-    ∷ trial "age[s0] >= 2" (count age s0 ge (literal 2)) 1 first (five 0 1 0 0 1)
-    ∷ trial "kept[s0] then end[s1]" (then (test kept s0) (test end s1)) 3 first (five 0 0 0 0 1)
-    ∷ trial "begin[s1] then end[1]" (then (test begin s1) (test end (constant true))) 3 first (five 0 0 0 0 0)
-    ∷ trial "len < 0 then len = 0" (then (len lt (literal 0)) (len eq (literal 0))) 3 first (five 0 0 0 0 0)
-    ∷ trial "!(len <= 1 then len <= 1)" (neg (then (len le (literal 1)) (len le (literal 1)))) 4 first
+    trial "kept[s0]" (test kept s0) 1 2 first (five 1 1 1 0 0)
+    ∷ trial "held[s0]" (test held s0) 1 2 first (five 0 1 1 0 0)
+    ∷ trial "point[s0]" (test point s0) 1 1 first (five 1 0 0 0 0)
+    ∷ trial "len <= 2" (len le (literal 2)) 1 2 first (five 1 1 1 0 0)
+    ∷ trial "sum[s0] <= 1" (count sum s0 le (literal 1)) 1 2 first (five 1 1 0 0 0)
+    ∷ trial "age[s0] >= 2" (count age s0 ge (literal 2)) 1 2 first (five 0 1 0 0 1)
+    ∷ trial "kept[s0] then end[s1]" (then (test kept s0) (test end s1)) 3 4 first (five 0 0 0 0 1)
+    ∷ trial "begin[s1] then end[1]" (then (test begin s1) (test end (constant true))) 3 4 first (five 0 0 0 0 0)
+    ∷ trial "len < 0 then len = 0" (then (len lt (literal 0)) (len eq (literal 0))) 3 5 first (five 0 0 0 0 0)
+    ∷ trial "!(len <= 1 then len <= 1)" (neg (then (len le (literal 1)) (len le (literal 1)))) 4 5 first
     (five 1 1 0 0 1)
-    ∷ trial "len >= 1" (len ge (literal 1)) 1 (five 0 1 0 1 0) (five 2 0 1 0 1)
-    ∷ trial "sum[s0] > k0" (count sum s0 gt (parameter 0)) 1 first (five 0 1 1 1 1)
-    ∷ trial "len <= 0 then end[1]" (then (len le (literal 0)) (test end (constant true))) 3 (five 1 0 0 1 0)
+    ∷ trial "len >= 1" (len ge (literal 1)) 1 2 (five 0 1 0 1 0) (five 2 0 1 0 1)
+    ∷ trial "sum[s0] > k0" (count sum s0 gt (parameter 0)) 1 2 first (five 0 1 1 1 1)
+    ∷ trial "len <= 0 then end[1]" (then (len le (literal 0)) (test end (constant true))) 3 4 (five 1 0 0 1 0)
     (five 0 1 1 0 1)
     ∷ []
 
@@ -72,49 +74,49 @@ trials =
 -- start at all, and a `!`, which leaves it as it is.
 abbrev pub furtherTrials : List Trial
 furtherTrials =
-    trial "end[!s0]" (test end (negP s0)) 1 first (five 0 0 1 0 0)
-    ∷ trial "end[s0 & s1]" (test end (andP s0 s1)) 1 first (five 0 0 0 0 1)
-    ∷ trial "end[s0 | s1]" (test end (orP s0 s1)) 1 first (five 1 1 1 1 1)
-    ∷ trial "end[0]" (test end (constant false)) 1 first (five 0 0 0 0 0)
-    ∷ trial "end[!(s0 & s1) | 0]" (test end (orP (negP (andP s0 s1)) (constant false))) 1 first (five 1 1 1 1 0)
-    ∷ trial "!kept[s0]" (neg (test kept s0)) 2 first (five 0 0 0 1 1)
-    ∷ trial "kept[s0] & end[s1]" (and (test kept s0) (test end s1)) 3 first (five 0 0 1 0 0)
-    ∷ trial "end[s1] | point[s0]" (or (test end s1) (test point s0)) 3 first (five 1 0 1 0 1)
-    ∷ trial "end[s0] | kept[s0] & end[s1]" (or (test end s0) (and (test kept s0) (test end s1))) 5 first
+    trial "end[!s0]" (test end (negP s0)) 1 1 first (five 0 0 1 0 0)
+    ∷ trial "end[s0 & s1]" (test end (andP s0 s1)) 1 1 first (five 0 0 0 0 1)
+    ∷ trial "end[s0 | s1]" (test end (orP s0 s1)) 1 1 first (five 1 1 1 1 1)
+    ∷ trial "end[0]" (test end (constant false)) 1 1 first (five 0 0 0 0 0)
+    ∷ trial "end[!(s0 & s1) | 0]" (test end (orP (negP (andP s0 s1)) (constant false))) 1 1 first (five 1 1 1 1 0)
+    ∷ trial "!kept[s0]" (neg (test kept s0)) 2 2 first (five 0 0 0 1 1)
+    ∷ trial "kept[s0] & end[s1]" (and (test kept s0) (test end s1)) 3 2 first (five 0 0 1 0 0)
+    ∷ trial "end[s1] | point[s0]" (or (test end s1) (test point s0)) 3 1 first (five 1 0 1 0 1)
+    ∷ trial "end[s0] | kept[s0] & end[s1]" (or (test end s0) (and (test kept s0) (test end s1))) 5 2 first
     (five 1 1 1 1 1)
-    ∷ trial "end[s0 | s1 & 0]" (test end (orP s0 (andP s1 (constant false)))) 1 first (five 1 1 0 1 1)
-    ∷ trial "begin[s1]" (test begin s1) 1 (five 1 0 1 0 0) (five 0 0 1 1 1)
-    ∷ trial "held[s0]" (test held s0) 1 (five 1 0 0 1 0) (five 0 1 1 0 1)
-    ∷ trial "len = 1" (len eq (literal 1)) 1 (five 0 0 1 0 0) (five 2 2 0 1 0)
-    ∷ trial "sum[!s0] >= 1" (count sum (negP s0) ge (literal 1)) 1 first (five 0 0 0 1 1)
-    ∷ trial "age[s0] = 1" (count age s0 eq (literal 1)) 1 first (five 1 0 0 1 0)
-    ∷ trial "age[s0] >= 2" (count age s0 ge (literal 2)) 1 (five 1 0 0 0 1) (five 0 1 0 0 0)
-    ∷ trial "kept[s0] then len = 0" (then (test kept s0) (len eq (literal 0))) 3 first (five 0 0 0 1 0)
+    ∷ trial "end[s0 | s1 & 0]" (test end (orP s0 (andP s1 (constant false)))) 1 1 first (five 1 1 0 1 1)
+    ∷ trial "begin[s1]" (test begin s1) 1 2 (five 1 0 1 0 0) (five 0 0 1 1 1)
+    ∷ trial "held[s0]" (test held s0) 1 2 (five 1 0 0 1 0) (five 0 1 1 0 1)
+    ∷ trial "len = 1" (len eq (literal 1)) 1 2 (five 0 0 1 0 0) (five 2 2 0 1 0)
+    ∷ trial "sum[!s0] >= 1" (count sum (negP s0) ge (literal 1)) 1 2 first (five 0 0 0 1 1)
+    ∷ trial "age[s0] = 1" (count age s0 eq (literal 1)) 1 2 first (five 1 0 0 1 0)
+    ∷ trial "age[s0] >= 2" (count age s0 ge (literal 2)) 1 2 (five 1 0 0 0 1) (five 0 1 0 0 0)
+    ∷ trial "kept[s0] then len = 0" (then (test kept s0) (len eq (literal 0))) 3 5 first (five 0 0 0 1 0)
     ∷ trial "len <= 0 then len <= 0 then end[1]"
-    (then (len le (literal 0)) (then (len le (literal 0)) (test end (constant true)))) 5 first (five 0 0 1 1 1)
-    ∷ trial "lag[s0,0,s1]" (lag s0 (literal 0) s1) 1 first (five 1 0 0 0 0)
-    ∷ trial "lag[s0,1,s1]" (lag s0 (literal 1) s1) 1 first (five 1 0 0 0 0)
-    ∷ trial "lag[s0,2,s1]" (lag s0 (literal 2) s1) 1 first (five 1 1 1 1 1)
-    ∷ trial "lag[s0,2,!s1]" (lag s0 (literal 2) (negP s1)) 1 first (five 1 1 0 0 0)
-    ∷ trial "lag[s0,2,!s1] then end[1]" (then (lag s0 (literal 2) (negP s1)) (test end (constant true))) 3 first
+    (then (len le (literal 0)) (then (len le (literal 0)) (test end (constant true)))) 5 7 first (five 0 0 1 1 1)
+    ∷ trial "lag[s0,0,s1]" (lag s0 (literal 0) s1) 1 3 first (five 1 0 0 0 0)
+    ∷ trial "lag[s0,1,s1]" (lag s0 (literal 1) s1) 1 3 first (five 1 0 0 0 0)
+    ∷ trial "lag[s0,2,s1]" (lag s0 (literal 2) s1) 1 3 first (five 1 1 1 1 1)
+    ∷ trial "lag[s0,2,!s1]" (lag s0 (literal 2) (negP s1)) 1 3 first (five 1 1 0 0 0)
+    ∷ trial "lag[s0,2,!s1] then end[1]" (then (lag s0 (literal 2) (negP s1)) (test end (constant true))) 3 5 first
     (five 0 0 1 1 1)
-    ∷ trial "lag[1,4,0]" (lag (constant true) (literal 4) (constant false)) 1 first (five 1 1 1 1 0)
-    ∷ trial "age[s0]<=2|end[!s1]" (or (count age s0 le (literal 2)) (test end (negP s1))) 3 first (five 1 1 1 1 1)
-    ∷ trial "lag[s1,1,!s0]" (lag s1 (literal 1) (negP s0)) 1 first (five 1 1 1 0 0)
-    ∷ trial "lag[s0,1,!s1]" (lag s0 (literal 1) (negP s1)) 1 first (five 1 1 0 0 0)
-    ∷ trial "lag[s0,1,s1]" (lag s0 (literal 1) s1) 1 (five 1 0 1 0 0) (five 1 0 1 1 1)
-    ∷ trial "lag[s0,2,0]" (lag s0 (literal 2) (constant false)) 1 (five 1 1 0 0 0) (five 1 1 1 1 1)
-    ∷ trial "lag[s0,k0,s1]" (lag s0 (parameter 0) s1) 1 first (five 1 0 0 0 0)
-    ∷ trial "!lag[s0,2,!s1]" (neg (lag s0 (literal 2) (negP s1))) 2 first (five 0 0 1 1 1)
-    ∷ trial "len <= 0 then lag[s0,1,!s1]" (then (len le (literal 0)) (lag s0 (literal 1) (negP s1))) 3 first
+    ∷ trial "lag[1,4,0]" (lag (constant true) (literal 4) (constant false)) 1 3 first (five 1 1 1 1 0)
+    ∷ trial "age[s0]<=2|end[!s1]" (or (count age s0 le (literal 2)) (test end (negP s1))) 3 2 first (five 1 1 1 1 1)
+    ∷ trial "lag[s1,1,!s0]" (lag s1 (literal 1) (negP s0)) 1 3 first (five 1 1 1 0 0)
+    ∷ trial "lag[s0,1,!s1]" (lag s0 (literal 1) (negP s1)) 1 3 first (five 1 1 0 0 0)
+    ∷ trial "lag[s0,1,s1]" (lag s0 (literal 1) s1) 1 3 (five 1 0 1 0 0) (five 1 0 1 1 1)
+    ∷ trial "lag[s0,2,0]" (lag s0 (literal 2) (constant false)) 1 3 (five 1 1 0 0 0) (five 1 1 1 1 1)
+    ∷ trial "lag[s0,k0,s1]" (lag s0 (parameter 0) s1) 1 3 first (five 1 0 0 0 0)
+    ∷ trial "!lag[s0,2,!s1]" (neg (lag s0 (literal 2) (negP s1))) 2 3 first (five 0 0 1 1 1)
+    ∷ trial "len <= 0 then lag[s0,1,!s1]" (then (len le (literal 0)) (lag s0 (literal 1) (negP s1))) 3 6 first
     (five 0 1 0 0 0)
-    ∷ trial "end[s0]" (test end s0) 1 (five 0 0 0 0 0) (five 2 2 2 2 2)
-    ∷ trial "!end[s0]" (neg (test end s0)) 2 (five 0 0 1 0 0) (five 2 2 1 0 0)
+    ∷ trial "end[s0]" (test end s0) 1 1 (five 0 0 0 0 0) (five 2 2 2 2 2)
+    ∷ trial "!end[s0]" (neg (test end s0)) 2 1 (five 0 0 1 0 0) (five 2 2 1 0 0)
     ∷ []
 
 -- No row: what stands past the last one.
 abbrev pub blank : Trial
-blank = trial "" (len le (literal 0)) 0 [] []
+blank = trial "" (len le (literal 0)) 0 0 [] []
 
 -- SPEC 14.1: signals 0 and 1 at the five ticks, as bits 0 and 1.
 abbrev pub signals : List ℕ

@@ -11,7 +11,7 @@ use lib.Seq.{sets, length-sets, take-at, drop-at}
 use borrow.Author.Tests.{lt-ltb, le-ltb}
 use Rattle.words.proofs.Bounds.{word-bound, words-few}
 use Rattle.formulas.specs.Formula.{Formula}
-use Rattle.formulas.specs.Tree.{Tree, nodes, leads, formulaOf}
+use Rattle.formulas.specs.Tree.{Tree, leads, formulaOf}
 use Rattle.formulas.specs.Arena.{flat}
 use Rattle.formulas.specs.Bounds.{bounded}
 use Rattle.formulas.specs.Raw.{raw}
@@ -20,8 +20,8 @@ use Rattle.grammar.proofs.Theorems.{rule-numbers, rule-size}
 use Rattle.tables.specs.Table.{Equation}
 use Rattle.limits.specs.Limits.{arenaLimit, literalCount, standardCap, tableRoom, ruleEquations}
 use Rattle.scheme.specs.Emit.{observer, numbersOf}
-use Rattle.agreement.specs.Agreement.{Closing, Observes}
-use Rattle.agreement.proofs.Theorem.{observes, closing}
+use Rattle.agreement.specs.Agreement.{Closing, ExactMemories, Observes}
+use Rattle.agreement.proofs.Theorem.{observes, closing, remembers}
 use Rattle.emitter.specs.Contract.{Emitted}
 use Rattle.scheme.proofs.Sizes.{observer-size}
 use Rattle.emitter.proofs.Size.{observer-front}
@@ -71,18 +71,21 @@ module _ {t : Tree} (k : Known t) where
 
   -- Whatever stands after them, the observer's equations observe the formula.
   pub observes-rule : (junk : List ℕ)
-      → Observes standardCap (numbersOf (observer (k .formula)) ++ junk) (length (observer (k .formula)))
-      (k .formula) (nodes t)
-  observes-rule junk =
-      let f = k .formula in
-      subst (λ (u : Tree). Observes standardCap (numbersOf (observer f) ++ junk) (length (observer f)) f (nodes u))
-      (sym (k .tree))
-      (observes standardCap (omega arith) f led-raw bound-raw small-raw junk)
+      → Observes standardCap (numbersOf (observer (k .formula)) ++ junk) (length (observer (k .formula))) (k .formula)
+  observes-rule junk = observes standardCap (omega arith) (k .formula) led-raw bound-raw small-raw junk
 
   -- So they close.
   pub closes-rule : (junk : List ℕ)
       → Closing (numbersOf (observer (k .formula)) ++ junk) (length (observer (k .formula)))
   closes-rule junk = closing standardCap (omega arith) (k .formula) bound-raw junk
+
+  -- So many of them are memories.
+  pub remembers-rule : (junk : List ℕ)
+      → ExactMemories (numbersOf (observer (k .formula)) ++ junk) (length (observer (k .formula))) t
+  remembers-rule junk =
+      let f = k .formula in
+      subst (λ (u : Tree). ExactMemories (numbersOf (observer f) ++ junk) (length (observer f)) u) (sym (k .tree))
+      (remembers f junk)
 
 -- ---- the effect of compiling
 
@@ -118,10 +121,11 @@ module _ (text before : List ℕ) where
 
       pub room-compiles : (es : List Equation) → length es ≤ ruleEquations
           → sets before 0 (numbersOf es) ≡ numbersOf es ++ drop (4 * length es) before
-          → ((rest : List ℕ) → Observes standardCap (numbersOf es ++ rest) (length es) f (nodes t))
+          → ((rest : List ℕ) → Observes standardCap (numbersOf es ++ rest) (length es) f)
           → ((rest : List ℕ) → Closing (numbersOf es ++ rest) (length es))
+          → ((rest : List ℕ) → ExactMemories (numbersOf es ++ rest) (length es) t)
           → Compiles text before (Equations (length es)) (sets before 0 (numbersOf es))
-      room-compiles es few front h ends =
+      room-compiles es few front h ends exact =
           let size = 4 * length es in
           let others = drop size before in
           let taken : take size (sets before 0 (numbersOf es)) ≡ numbersOf es =
@@ -129,9 +133,9 @@ module _ (text before : List ℕ) where
           observed {n = length es} {after = sets before 0 (numbersOf es)} {t = t} {f = f} (has-rule e) is room
           (omega arith) (length-sets before 0 (numbersOf es))
           (ap (drop size) front ∙ drop-at (numbersOf es) others size (length-numbers es))
-          (λ rest. subst (λ (l : List ℕ). Observes standardCap (l ++ rest) (length es) f (nodes t)) (sym taken)
-          (h rest))
+          (λ rest. subst (λ (l : List ℕ). Observes standardCap (l ++ rest) (length es) f) (sym taken) (h rest))
           (subst (λ (l : List ℕ). Closing l (length es)) (sym front) (ends others))
+          (subst (λ (l : List ℕ). ExactMemories l (length es) t) (sym front) (exact others))
 
 -- What the pass over the tree's records left is what compiling is to leave.
 pub emitted-rule : (text before : List ℕ) (t : Tree) → ruleOf text ≡ rule t → tableRoom ≤ length before
@@ -149,5 +153,5 @@ emitted-rule text before t e room arena r after same h =
           (room-compiles text before t e f (k .is) room (observer f)
           (rule-equations text t f (accepted text t .0 e) (k .is))
           (observer-front f before (observer-size f (small-raw k)) room)
-          (observes-rule k) (closes-rule k)),
+          (observes-rule k) (closes-rule k) (remembers-rule k)),
     )

@@ -6,7 +6,7 @@ use Prim.Native.Nat.{ℕ, _*_, _≤_}
 use native.Mathlib.Omega.{arith}
 use lib.ListN.{length, take}
 use Rattle.formulas.specs.Formula.{Formula}
-use Rattle.formulas.specs.Tree.{Tree, nodes, formulaOf}
+use Rattle.formulas.specs.Tree.{Tree, formulaOf}
 use Rattle.limits.specs.Limits.{standardCap, tableRoom}
 use Rattle.flows.specs.Run.{Call, fromFresh, answered}
 use Rattle.flows.proofs.Expected.{admitted}
@@ -25,16 +25,16 @@ use Rattle.observers.specs.declared.Compiled.{Compiled}
 use Rattle.observers.specs.declared.Compiled.the-variants.{Equations, Refused}
 
 -- Two tables of as many equations that observe one formula answer alike.
-pub alike : (n : ℕ) (t u : List ℕ) (f : Formula) (k m : ℕ) → Observes standardCap t n f k → Observes standardCap u n f m
+pub alike : (n : ℕ) (t u : List ℕ) (f : Formula) → Observes standardCap t n f → Observes standardCap u n f
     → (old old′ : List ℕ) → n ≤ length old → n ≤ length old′ → (calls : List Call) (ps : List ℕ)
     → SameParameters ps (admitted standardCap n calls)
     → answered (fromFresh standardCap t n old calls) ≡ answered (fromFresh standardCap u n old′ calls)
-alike n t u f k m h h′ old old′ room room′ calls ps same =
+alike n t u f h h′ old old′ room room′ calls ps same =
     answers-are h old room calls ps same ∙ sym (answers-are h′ old′ room′ calls ps same)
 
 -- The n equations at the front of a table observe the formula.
-abbrev Fronts : List ℕ → ℕ → Formula → ℕ → Type 0
-Fronts t n f k = (rest : List ℕ) → Observes standardCap (take (4 * n) t ++ rest) n f k
+abbrev Fronts : List ℕ → ℕ → Formula → Type 0
+Fronts t n f = (rest : List ℕ) → Observes standardCap (take (4 * n) t ++ rest) n f
 
 -- What compiling a text into a table left.
 record Left (text : List ℕ) (n : ℕ) (after : List ℕ) : Type 0 where
@@ -43,10 +43,10 @@ record Left (text : List ℕ) (n : ℕ) (after : List ℕ) : Type 0 where
   pub is-read : HasOutcome text (rule tree)
   pub is-formula : formulaOf tree ≡ some formula
   pub many : n ≡ length (observer formula)
-  pub observes : Fronts after n formula (nodes tree)
+  pub observes : Fronts after n formula
 
 of-observed : (text before : List ℕ) (n m : ℕ) (after : List ℕ) (t : Tree) (f : Formula) → HasOutcome text (rule t)
-    → formulaOf t ≡ some f → tableRoom ≤ length before → Fronts after m f (nodes t) → m ≡ n
+    → formulaOf t ≡ some f → tableRoom ≤ length before → Fronts after m f → m ≡ n
     → afterCompile (Equations n) after ≡ compiled text before → Left text n after
 of-observed text before n m after t f h is room o number c =
     let whole = c ∙ sym (room-compiled text before t (computed text h) f is room (observer f) refl) in
@@ -57,7 +57,7 @@ of-observed text before n m after t f h is room o number c =
       is-read = h;
       is-formula = is;
       many = number-of told;
-      observes = subst (λ (x : ℕ). Fronts after x f (nodes t)) number o;
+      observes = subst (λ (x : ℕ). Fronts after x f) number o;
     }
   where
     number-of : {x y : ℕ} → Equations x ≡ Equations y → x ≡ y
@@ -71,7 +71,7 @@ left : (text before : List ℕ) (n : ℕ) (after : List ℕ) (r : Compiled) → 
     → afterCompile (Equations n) after ≡ compiled text before → Left text n after
 left text before n after r (not-read e) q c = absurd (refused-equations q)
 left text before n after r (no-room e h) q c = absurd (refused-equations q)
-left text before n after r (observed {n = m} {after = l} {t} {f} e is room few same rest h ends) q c =
+left text before n after r (observed {n = m} {after = l} {t} {f} e is room few same rest h ends exact) q c =
     of-observed text before n m l t f e is room h (cc) c
 
 -- The same rule, compiled twice: as many equations, and the same answers to every list of calls.
@@ -89,11 +89,11 @@ same-answers a b same before before′ n m t u c h c′ h′ =
     let formulas : x .formula ≡ y .formula =
     equal (x .is-formula) (y .is-formula) (same-formula a b same (x .tree) (y .tree) (x .is-read) (y .is-read)) in
     let numbers : n ≡ m = x .many ∙ ap (λ (g : Formula). length (observer g)) formulas ∙ sym (y .many) in
-    let observes : Fronts u n f (nodes (y .tree)) =
-    subst₂ (λ (i : ℕ) (g : Formula). Fronts u i g (nodes (y .tree))) (sym numbers) (sym formulas) (y .observes) in (
+    let observes : Fronts u n f =
+    subst₂ (λ (i : ℕ) (g : Formula). Fronts u i g) (sym numbers) (sym formulas) (y .observes) in (
       numbers,
       λ rest rest′ old old′ room room′ calls ps params.
-          alike n _ _ f _ _ (x .observes rest) (observes rest′) old old′ room (omega arith) calls ps params
+          alike n _ _ f (x .observes rest) (observes rest′) old old′ room (omega arith) calls ps params
           ∙ ap (λ (i : ℕ). answered (fromFresh standardCap (take (4 * i) u ++ rest′) i old′ calls)) numbers,
     )
   where

@@ -8,9 +8,9 @@ use lib.ListN.{length, take, drop}
 use Rattle.limits.specs.Reply as Reply
 use Rattle.limits.specs.Reply.{Reply, gives}
 use Rattle.formulas.specs.Formula.{Formula}
-use Rattle.formulas.specs.Tree.{Tree, nodes, formulaOf}
+use Rattle.formulas.specs.Tree.{Tree, formulaOf}
 use Rattle.limits.specs.Limits.{standardCap, tableRoom, ruleEquations}
-use Rattle.agreement.specs.Agreement.{Closing, Observes}
+use Rattle.agreement.specs.Agreement.{Closing, ExactMemories, Observes}
 use Rattle.rules.specs.Reading.{HasOutcome}
 use Rattle.rules.specs.Reading.Outcome.{refused, rule}
 use Rattle.observers.specs.declared.Compiled.{Compiled}
@@ -24,12 +24,13 @@ pub data Compiles (text before : List ℕ) : Compiled → List ℕ → Type 0 wh
   -- SPEC 7.9: too short a table, unchanged
   no-room : {t : Tree} → HasOutcome text (rule t) → length before < tableRoom → Compiles text before (Refused 9) before
   -- Else the first n equations of the table observe the rule's formula, whatever numbers or none stand after them where
-  -- they are used, and all other numbers of the lent table are kept. They are not many (SPEC 12.6), and close by
-  -- SPEC 12.7.
+  -- they are used, and all other numbers of the lent table are kept. They are not many (SPEC 12.6), close by SPEC 12.7,
+  -- and have the memories of SPEC 12.8.
   observed : {n : ℕ} {after : List ℕ} {t : Tree} {f : Formula} → HasOutcome text (rule t) → formulaOf t ≡ some f
       → tableRoom ≤ length before → n ≤ ruleEquations
       → length after ≡ length before → drop (4 * n) after ≡ drop (4 * n) before
-      → ((rest : List ℕ) → Observes standardCap (take (4 * n) after ++ rest) n f (nodes t)) → Closing after n
+      → ((rest : List ℕ) → Observes standardCap (take (4 * n) after ++ rest) n f)
+      → Closing after n → ExactMemories after n t
       → Compiles text before (Equations n) after
 
 -- SPEC 8.2: the result is n.

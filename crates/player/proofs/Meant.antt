@@ -16,7 +16,7 @@ use Rattle.words.proofs.Splitting.{refused-made}
 use Rattle.words.specs.Split.Out.{made}
 use Rattle.formulas.specs.Formula.{Formula}
 use Rattle.formulas.specs.Meaning.{verdict}
-use Rattle.formulas.specs.Tree.{Tree, nodes, formulaOf}
+use Rattle.formulas.specs.Tree.{Tree, formulaOf}
 use Rattle.tables.specs.Table.{Equation, all}
 use Rattle.limits.specs.Limits.{parameterCount, standardCap, textLimit, equationLimit, tableRoom}
 use Rattle.flows.specs.Step.{AfterStep, freshened, stepped, stepChecked, steppedIf, afterTick as tickAfter}
@@ -102,7 +102,7 @@ module _ (cap : ℕ) (t : List ℕ) (n : ℕ) where
         rw (admitted v k h e, calls-expected vd (suc i) ks (stepped cap t n c v k .state) _ (step-room c v k h) s)
 
     -- The answers to them are the verdicts of a formula that the table observes.
-    module _ {f : Formula} {m : ℕ} (o : Observes cap t n f m) (old : List ℕ) (room : n ≤ length old) where
+    module _ {f : Formula} (o : Observes cap t n f) (old : List ℕ) (room : n ≤ length old) where
       calls-meant : (ks : List Tick) (v : List ℕ) → n ≤ length v → SameParameters ps ks
           → answered (steps cap t n (freshened t n old .state) (callsOf (freshened t n old .state) v ks))
           ≡ verdictsFrom (verdict (traceOfTicks ps ks) f) 0 ks
@@ -166,7 +166,7 @@ module _ (ps t : List ℕ) (n : ℕ) where
       ∙ sym (append-assoc (outputBytes (O.Verdict (vd i))) (verdictLines vd (suc i) ks) (outputBytes o))
 
 -- From the fresh state of a table that observes a formula, these are the formula's verdicts.
-module _ {t ps : List ℕ} {n size : ℕ} {f : Formula} (h : Observes standardCap t n f size)
+module _ {t ps : List ℕ} {n : ℕ} {f : Formula} (h : Observes standardCap t n f)
     (low : (j : ℕ) → getD ps j 0 < standardCap) where
   pub ticks-meant : {ls rest : List (List ℕ)} {ks : List Tick} {left : ℕ} {tail : List ℕ} {o : Output}
       → TickLines ps ls ks → Closes left rest tail o → (old v : List ℕ) → n ≤ length old → n ≤ length v
@@ -196,24 +196,22 @@ rule-short text t e = let a = accepted text t .0 e in split-short text (a .ws) (
 pub record Compile (text before : List ℕ) (f : Formula) : Type 0 where
   pub n : ℕ
   pub table : List ℕ
-  pub size : ℕ
   pub is : compiled text before ≡ afterCompile (C.Equations n) table
   pub few : n ≤ equationLimit
-  pub observes : Observes standardCap table n f size
+  pub observes : Observes standardCap table n f
 
 module _ (text before : List ℕ) (t : Tree) (e : ruleOf text ≡ rule t) (room : tableRoom ≤ length before) where
   of-observer : (f : Formula) → formulaOf t ≡ some f → (es : List Equation) → observer f ≡ es
       → sets before 0 (numbersOf es) ≡ numbersOf es ++ drop (4 * length es) before → length es ≤ equationLimit
-      → Observes standardCap (numbersOf es ++ drop (4 * length es) before) (length es) f (nodes t)
+      → Observes standardCap (numbersOf es ++ drop (4 * length es) before) (length es) f
       → Compile text before f
   of-observer f is es same front few h =
       record {
         n = length es;
         table = sets before 0 (numbersOf es);
-        size = nodes t;
         is = sym (room-compiled text before t e f is room es same);
         few = few;
-        observes = subst (λ (l : List ℕ). Observes standardCap l (length es) f (nodes t)) (sym front) h;
+        observes = subst (λ (l : List ℕ). Observes standardCap l (length es) f) (sym front) h;
       }
 
   of-known : (k : Known t) → Compile text before (k .formula)

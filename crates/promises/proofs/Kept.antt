@@ -7,7 +7,7 @@ use native.Mathlib.Omega.{arith}
 use lib.ListN.{length, take}
 use Rattle.limits.specs.Limits.{standardCap, tableRoom, ruleEquations}
 use Rattle.formulas.specs.Formula.{Formula}
-use Rattle.formulas.specs.Tree.{Tree, nodes, formulaOf}
+use Rattle.formulas.specs.Tree.{Tree, formulaOf}
 use Rattle.formulas.proofs.Laws.{means}
 use Rattle.formulas.proofs.Only.{only-verdict}
 use Rattle.rules.specs.Reading.{Outcome, HasOutcome}
@@ -18,7 +18,8 @@ use Rattle.rules.specs.Contract.{answerOf}
 use Rattle.rules.proofs.Theorems.{has-outcome, computed, one-outcome, numbered, accepted, has-formula}
 use Rattle.rules.proofs.SameRule.{one-answer, same-tree, not-refused}
 use Rattle.flows.proofs.Lists.{runs-as-lustre}
-use Rattle.agreement.specs.Agreement.{Closing, Observes}
+use Rattle.agreement.specs.Agreement.{Closing, ExactMemories, FewMemories, Observes}
+use Rattle.agreement.proofs.Memories.{few-memories}
 use Rattle.observers.specs.Demand.{Compiles}
 use Rattle.observers.specs.Demand.Compiles.{not-read, no-room, observed}
 use Rattle.observers.specs.declared.Compiled.{Compiled}
@@ -50,50 +51,60 @@ refused-text {text} (not-read e) h = (ap Refused (refusal-of (one-outcome text _
     refusal-of : {m k : ℕ} → refused m ≡ refused k → m ≡ k
     refusal-of e = cc
 refused-text (no-room e l) h = absurd (not-refused e h)
-refused-text (observed e is l few same kept o ends) h = absurd (not-refused e h)
+refused-text (observed e is l few same kept o ends exact) h = absurd (not-refused e h)
 
 short-table : {text before after : List ℕ} {r : Compiled} {t : Tree} → Compiles text before r after
     → HasOutcome text (rule t) → length before < tableRoom → (r ≡ Refused 9) × (after ≡ before)
 short-table (not-read e) h low = absurd (not-refused h e)
 short-table (no-room e l) h low = (refl, refl)
-short-table (observed e is l few same kept o ends) h low = absurd (omega arith)
+short-table (observed e is l few same kept o ends exact) h low = absurd (omega arith)
 
 -- and for a rule where there is room.
 compiled-rule : {text before after : List ℕ} {r : Compiled} {t : Tree} → Compiles text before r after
     → HasOutcome text (rule t) → tableRoom ≤ length before → (n : ℕ) × (r ≡ Equations n)
 compiled-rule (not-read e) h room = absurd (not-refused h e)
 compiled-rule (no-room e l) h room = absurd (omega arith)
-compiled-rule (observed {n} e is l few same kept o ends) h room = (n, refl)
+compiled-rule (observed {n} e is l few same kept o ends exact) h room = (n, refl)
 
 few-equations : {text before after : List ℕ} {r : Compiled} {n : ℕ} → Compiles text before r after → r ≡ Equations n
     → n ≤ ruleEquations
 few-equations (not-read e) q = absurd (refused-equations q)
 few-equations (no-room e l) q = absurd (refused-equations q)
-few-equations {n = n} (observed {n = m} e is l few same kept o ends) q = let number : m ≡ n = cc in omega arith
+few-equations {n = n} (observed {n = m} e is l few same kept o ends exact) q = let number : m ≡ n = cc in omega arith
 
 closing : {text before after : List ℕ} {r : Compiled} {n : ℕ} → Compiles text before r after → r ≡ Equations n
     → Closing after n
 closing (not-read e) q = absurd (refused-equations q)
 closing (no-room e l) q = absurd (refused-equations q)
-closing {after = after} (observed e is l few same kept o ends) q = subst (Closing after) (cc) ends
+closing {after = after} (observed e is l few same kept o ends exact) q = subst (Closing after) (cc) ends
 
--- One text has one tree, and it has one formula.
+-- A text has one tree, and the table so many memories as that tree asks for;
+remembering : {text before after : List ℕ} {r : Compiled} {n : ℕ} {t : Tree} → Compiles text before r after
+    → r ≡ Equations n → HasOutcome text (rule t) → ExactMemories after n t
+remembering (not-read e) q h = absurd (refused-equations q)
+remembering (no-room e l) q h = absurd (refused-equations q)
+remembering {after = after} {n = n} {t} (observed {n = m} {t = u} e is l few same kept o ends exact) q h =
+    let number : m ≡ n = cc in subst₂ (ExactMemories after) number (same-tree e h) exact
+
+-- so the bound on them holds.
+remembering-few : {text before after : List ℕ} {n : ℕ} {t : Tree} → Compiles text before (Equations n) after
+    → HasOutcome text (rule t) → FewMemories after n t
+remembering-few {after = after} {n} {t} c h = few-memories after n t (remembering c refl h)
+
+-- And the tree has one formula.
 one-formula : {x y : Option Formula} {f g : Formula} → x ≡ some f → y ≡ some g → x ≡ y → f ≡ g
 one-formula p q e = cc
 
 observed-rule : {text before after : List ℕ} {r : Compiled} {n : ℕ} {t : Tree} {f : Formula}
     → Compiles text before r after → r ≡ Equations n → HasOutcome text (rule t) → formulaOf t ≡ some f
-    → (rest : List ℕ) → Observes standardCap (take (4 * n) after ++ rest) n f (nodes t)
+    → (rest : List ℕ) → Observes standardCap (take (4 * n) after ++ rest) n f
 observed-rule (not-read e) q h is rest = absurd (not-refused h e)
 observed-rule (no-room e l) q h is rest = absurd (refused-equations q)
-observed-rule {after = after} {n = n} {t} {f} (observed {n = m} {t = u} {f = g} e is-g l few same kept o ends) q h
+observed-rule {after = after} {n = n} {t} {f} (observed {n = m} {f = g} e is-g l few same kept o ends exact) q h
     is rest =
     let number : m ≡ n = cc in
-    let tree : u ≡ t = same-tree e h in
-    let formula : g ≡ f = one-formula is-g is (ap formulaOf tree) in
-    subst (λ (k : ℕ). Observes standardCap (take (4 * k) after ++ rest) k f (nodes t)) number
-    (subst₂ (λ (v : Tree) (x : Formula). Observes standardCap (take (4 * m) after ++ rest) m x (nodes v)) tree formula
-    (o rest))
+    let formula : g ≡ f = one-formula is-g is (ap formulaOf (same-tree e h)) in
+    subst₂ (λ (k : ℕ) (x : Formula). Observes standardCap (take (4 * k) after ++ rest) k x) number formula (o rest)
 
 pub kept : Promises
 kept =
@@ -107,6 +118,8 @@ kept =
         compiles = compiled-rule;
         few = λ c. few-equations c refl;
         closes = λ c. closing c refl;
+        exact-memories = λ c h. remembering c refl h;
+        few-memories = λ c h. remembering-few c h;
         observes = λ c h is rest. observed-rule c refl h is rest;
       };
       round-trips = record {

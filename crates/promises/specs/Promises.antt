@@ -23,7 +23,7 @@ use lib.ListN.{length, take, drop}
 use Rattle.limits.specs.Limits.{standardCap, tableRoom, ruleEquations}
 use Rattle.traces.specs.Trace.{Trace}
 use Rattle.formulas.specs.Formula.{Formula, Prop}
-use Rattle.formulas.specs.Tree.{Tree, nodes, formulaOf}
+use Rattle.formulas.specs.Tree.{Tree, formulaOf}
 use Rattle.formulas.specs.Meaning.{at, meaning, verdict}
 use Rattle.formulas.specs.Laws.{Means}
 use Rattle.rules.specs.Reading.{Admitted, Outcome, HasOutcome}
@@ -35,7 +35,7 @@ use Rattle.rules.specs.declared.Same.{Same}
 use Rattle.tables.specs.Table.{checked}
 use Rattle.tables.specs.declared.Checked.the-variants.{Passed}
 use Rattle.flows.specs.Lustre.{RunsAsLustre}
-use Rattle.agreement.specs.Agreement.{Closing, Observes}
+use Rattle.agreement.specs.Agreement.{Closing, ExactMemories, FewMemories, Observes}
 use Rattle.observers.specs.Demand.{Compiles}
 use Rattle.observers.specs.declared.Compiled.{Compiled}
 use Rattle.observers.specs.declared.Compiled.the-variants.{Equations, Refused}
@@ -73,8 +73,8 @@ Running = (t : List ℕ) (n : ℕ) → checked t n ≡ Passed → RunsAsLustre s
 
 -- SPEC 12.3 (demand 3). A text with a refusal gets that, a rule with too short a table 9 (SPEC 7.9), and both leave the
 -- table as it was. A rule is compiled where there is room, and then the n equations at the front of the table, whatever
--- stands after them, observe its formula. No rule has more equations than SPEC 12.6 says, and the last three are those
--- of SPEC 12.7.
+-- stands after them, observe its formula. No rule has more equations than SPEC 12.6 says, the last three are those of
+-- SPEC 12.7, and exactly so many are memories as SPEC 12.8 says of the tree, so that the bound of SPEC 12.3 holds.
 pub record Compiling : Type 0 where
   pub refuses : {text before after : List ℕ} {r : Compiled} {k : ℕ} → Compiles text before r after
       → HasOutcome text (refused k) → (r ≡ Refused k) × (after ≡ before)
@@ -84,9 +84,13 @@ pub record Compiling : Type 0 where
       → HasOutcome text (rule t) → tableRoom ≤ length before → (n : ℕ) × (r ≡ Equations n)
   pub few : {text before after : List ℕ} {n : ℕ} → Compiles text before (Equations n) after → n ≤ ruleEquations
   pub closes : {text before after : List ℕ} {n : ℕ} → Compiles text before (Equations n) after → Closing after n
+  pub exact-memories : {text before after : List ℕ} {n : ℕ} {t : Tree} → Compiles text before (Equations n) after
+      → HasOutcome text (rule t) → ExactMemories after n t
+  pub few-memories : {text before after : List ℕ} {n : ℕ} {t : Tree} → Compiles text before (Equations n) after
+      → HasOutcome text (rule t) → FewMemories after n t
   pub observes : {text before after : List ℕ} {n : ℕ} {t : Tree} {f : Formula}
       → Compiles text before (Equations n) after → HasOutcome text (rule t) → formulaOf t ≡ some f
-      → (rest : List ℕ) → Observes standardCap (take (4 * n) after ++ rest) n f (nodes t)
+      → (rest : List ℕ) → Observes standardCap (take (4 * n) after ++ rest) n f
 
 -- SPEC 12.2 (demand 2), its part on Lustre text: writing and reading undo each other.
 pub record RoundTrips : Type 0 where

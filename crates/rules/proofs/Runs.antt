@@ -6,11 +6,12 @@ use Prim.Native.Nat.{ℕ, _<_}
 use lib.ListN.{length, getD}
 use Rattle.lists.specs.Text.{bytes}
 use Rattle.lists.specs.Decimal.{isDigit, digitsAfter, numeral}
-use Rattle.formulas.specs.Tree.{nodes}
+use Rattle.formulas.specs.Tree.{nodes, ruleMemories}
 use Rattle.formulas.specs.Raw.{raw}
 use Rattle.formulas.specs.Trials.{Trial, trials, furtherTrials, blank, meant}
 use Rattle.formulas.proofs.Formulas.{raw-formula}
-use Rattle.formulas.proofs.Trials.{trials-counted, trials-meant, further-counted, further-meant, row}
+use Rattle.formulas.proofs.Trials.{trials-counted, trials-remember, trials-meant}
+use Rattle.formulas.proofs.Trials.{further-counted, further-remember, further-meant, row}
 use Rattle.words.specs.Split.{classOf, run, keywordAmong, keywordOf, numberOf, runOf, wordOf, words, splitOf}
 use Rattle.words.specs.Word.{isOp, isSignal, isNum, isBit, isTest, isCount}
 use Rattle.grammar.specs.Fragment.{hasWord}
@@ -38,23 +39,25 @@ further-read = refl
 -- So each of them holds.
 holds : (rs : List Trial) → AllRead rs
     → map (λ (r : Trial). nodes (raw (r .formula))) rs ≡ map (λ (r : Trial). r .nodes) rs
+    → map (λ (r : Trial). ruleMemories (raw (r .formula))) rs ≡ map (λ (r : Trial). r .memories) rs
     → map meant rs ≡ map (λ (r : Trial). r .verdicts) rs → (i : ℕ) → i < length rs → RowHolds (getD rs i blank)
-holds rs are-read are-counted are-meant i l =
+holds rs are-read are-counted remember are-meant i l =
     let r : Trial = getD rs i blank in
     record {
       tree = raw (r .formula);
       is-read = row (λ x. ruleOf (bytes (x .text))) (λ x. rule (raw (x .formula))) rs blank are-read i l;
       counts = row (λ x. nodes (raw (x .formula))) (λ x. x .nodes) rs blank are-counted i l;
+      remembers = row (λ x. ruleMemories (raw (x .formula))) (λ x. x .memories) rs blank remember i l;
       is-formula = raw-formula (r .formula);
       gives = row meant (λ x. x .verdicts) rs blank are-meant i l;
     }
 
 -- P1 to P13, and the further rows.
 pub runs : (i : ℕ) → i < 13 → RowHolds (getD trials i blank)
-runs = holds trials trials-read trials-counted trials-meant
+runs = holds trials trials-read trials-counted trials-remember trials-meant
 
 pub further-runs : (i : ℕ) → i < 34 → RowHolds (getD furtherTrials i blank)
-further-runs = holds furtherTrials further-read further-counted further-meant
+further-runs = holds furtherTrials further-read further-counted further-remember further-meant
 
 -- SPEC 4.11: with n = 0 and with n = 1 a `lag` is not the same rule.
 pub lag-differs : sameOf (ruleOf (bytes "lag[s0,0,s1]")) (ruleOf (bytes "lag[s0,1,s1]")) ≡ No

@@ -1,5 +1,5 @@
--- What the equations of an observer are, tick by tick: well formed, few, with few memories, and in all flows that
--- satisfy them each node's result is its meaning from the latest start on. What that is over lists of calls is
+-- What the equations of an observer are, tick by tick: well formed, few, with as many memories as its nodes ask for,
+-- and in all flows that satisfy them each node's result is its meaning from the latest start on. What that is over lists of calls is
 -- `agreement`'s.
 --
 -- Intervals, and equations at their places:
@@ -14,7 +14,7 @@ pub mod Then
 pub mod Nodes
 pub mod Starts
 pub mod Closing
--- The emitted equations are well formed, few enough, and have few memories:
+-- The emitted equations are well formed, few enough, and have exactly so many memories:
 pub mod Roles
 pub mod Rows
 pub mod Blocks

@@ -1,19 +1,20 @@
--- How many memories an observer has, exactly; from this follows the bound of SPEC 12.3. Assumes nothing.
+-- SPEC 12.8: how many memories an observer has, exactly. They are counted over its blocks of equations, node by node,
+-- and so over the table. Assumes nothing.
 use mathlib.Core.Bool.{Bool, true, false, cond}
 use mathlib.Core.List.{List, [], _∷_, _++_}
 use mathlib.Core.Path.{_≡_, refl, ap, _∙_}
-use Prim.Native.Nat.{ℕ, zero, suc, _+_, _*_, _≤_}
+use Prim.Native.Nat.{ℕ, zero, suc, _+_}
 use native.Mathlib.Omega.{arith}
 use lib.ListN.{length}
 use Rattle.traces.specs.Trace.{truth}
-use Rattle.formulas.specs.Formula.{Num, Prop, Formula, Test}
+use Rattle.formulas.specs.Formula.{Num, Prop, Formula}
 use Rattle.formulas.specs.Formula.Num.{literal, parameter}
 use Rattle.formulas.specs.Formula.Prop.{constant, signal, negP, andP, orP}
 use Rattle.formulas.specs.Formula.Test.{begin, end, point, held, kept}
 use Rattle.formulas.specs.Formula.Count.{sum, age}
 use Rattle.formulas.specs.Formula.Formula.{test, len, count, lag, neg, and, or, then}
 use Rattle.formulas.specs.Arena.{numKind}
-use Rattle.formulas.specs.Tree.{nodes}
+use Rattle.formulas.specs.Tree.{memoriesOf, ruleMemories}
 use Rattle.formulas.specs.Raw.{raw}
 use Rattle.limits.specs.Limits.{signalCount}
 use Rattle.tables.specs.Kind.{SIGNAL, BOOLEAN-PRE, COUNT-PRE}
@@ -24,25 +25,6 @@ use Rattle.scheme.specs.Emit.{placeAfter, emitP, emit, namedBy, flowIn, 
 use Rattle.scheme.specs.Emit.{observer, startFlow, negatedFlow, start-es, numbersOf, afterRun}
 use Rattle.tables.specs.Table.{memories}
 use Rattle.scheme.proofs.Places.{four-more}
-
--- The memories of a formula's own equations: one for each `begin`, `kept`, `held`, `len`, `sum` and `age`, two for
--- each `lag` and each `then`.
-abbrev pub testMemories : Test → ℕ
-testMemories begin = 1
-testMemories end = 0
-testMemories point = 0
-testMemories held = 1
-testMemories kept = 1
-
-abbrev pub memoriesOf : Formula → ℕ
-memoriesOf (test k p) = testMemories k
-memoriesOf (len o n) = 1
-memoriesOf (count k p o n) = 1
-memoriesOf (lag p n q) = 2
-memoriesOf (neg f) = memoriesOf f
-memoriesOf (and f g) = memoriesOf f + memoriesOf g
-memoriesOf (or f g) = memoriesOf f + memoriesOf g
-memoriesOf (then f g) = memoriesOf f + memoriesOf g + 2
 
 -- ---- counted over equations
 
@@ -85,7 +67,7 @@ module _ (flowOf : ℕ → ℕ) where
   counted-prop (orP p q) o = simp
       (counted-append, counted-prop p o, counted-prop q (placeAfter o (emitP flowOf p o .es)))
 
-  counted-formula : (f : Formula) (s n o : ℕ) → counted (emit flowOf f s n o .es) ≡ memoriesOf f
+  counted-formula : (f : Formula) (s n o : ℕ) → counted (emit flowOf f s n o .es) ≡ memoriesOf (raw f)
   unfolding kindOf isMemory
   counted-formula (test begin p) s n o = simp (counted-append, counted-prop p o)
   counted-formula (test end p) s n o = counted-prop p o
@@ -160,12 +142,12 @@ counted-three : (xs ys zs : List Equation) (k : ℕ) → counted xs ≡ 0 → co
     → counted (xs ++ (ys ++ zs)) ≡ k + 1
 counted-three xs ys zs k p q r = simp counted-append (omega arith)
 
-counted-observer : (f : Formula) → counted (observer f) ≡ memoriesOf f + 1
+counted-observer : (f : Formula) → counted (observer f) ≡ ruleMemories (raw f)
 unfolding kindOf isMemory
 counted-observer f =
     let o : ℕ = placeAfter 0 (header (namedBy f)) in
     counted-three (header (namedBy f)) (body f .es) (whole-es startFlow (placeAfter o (body f .es)) (body f .out))
-    (memoriesOf f) (counted-header (namedBy f) signalCount)
+    (memoriesOf (raw f)) (counted-header (namedBy f) signalCount)
     (counted-formula (flowIn (namedBy f)) f startFlow negatedFlow o) refl
 
 -- ---- counted over the table
@@ -194,26 +176,7 @@ memories-counted [] junk = refl
 memories-counted (e ∷ es) junk =
     memories-more e (numbersOf es ++ junk) (length es) ∙ ap (λ (k : ℕ). isOne e + k) (memories-counted es junk)
 
--- Exactly so many memories has the observer of f, one more than f's own for `started`,
+-- Exactly so many memories has the observer of f.
 pub memories-exactly : (f : Formula) (junk : List ℕ)
-    → memories (numbersOf (observer f) ++ junk) (length (observer f)) ≡ memoriesOf f + 1
+    → memories (numbersOf (observer f) ++ junk) (length (observer f)) ≡ ruleMemories (raw f)
 memories-exactly f junk = memories-counted (observer f) junk ∙ counted-observer f
-
--- and each node has two at the most.
-two-a-node : (f : Formula) → memoriesOf f ≤ 2 * nodes (raw f)
-two-a-node (test begin p) = omega arith
-two-a-node (test end p) = omega arith
-two-a-node (test point p) = omega arith
-two-a-node (test held p) = omega arith
-two-a-node (test kept p) = omega arith
-two-a-node (len o n) = omega arith
-two-a-node (count k p o n) = omega arith
-two-a-node (lag p n q) = omega arith
-two-a-node (neg f) = omega (arith, two-a-node f)
-two-a-node (and f g) = omega (arith, two-a-node f, two-a-node g)
-two-a-node (or f g) = omega (arith, two-a-node f, two-a-node g)
-two-a-node (then f g) = omega (arith, two-a-node f, two-a-node g)
-
-pub memories-few : (f : Formula) (junk : List ℕ)
-    → memories (numbersOf (observer f) ++ junk) (length (observer f)) ≤ 2 * nodes (raw f) + 1
-memories-few f junk = rw (memories-exactly f junk) (omega (arith, two-a-node f))
