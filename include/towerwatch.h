@@ -30,7 +30,7 @@ extern "C" {
  * archive has no version: take header and archive from one state of the repository, and compile stored tables again
  * where the major number has risen (docs/FIRMWARE.md, "Versions"). */
 #define TOWERWATCH_VERSION_MAJOR 3
-#define TOWERWATCH_VERSION_MINOR 0
+#define TOWERWATCH_VERSION_MINOR 1
 
 /* Limits of a rule text: its bytes, its words, how many round brackets are open at a time, and how often `!`, `then`,
  * `chop` and `exists` come up, all four counted. */
@@ -52,6 +52,10 @@ extern "C" {
 #define TOWERWATCH_EQUATIONS 4096
 #define TOWERWATCH_TABLE_NUMBERS 16384
 #define TOWERWATCH_RULE_EQUATIONS 619
+
+/* The kinds of the equations that are memories, of a boolean and of a count. table[4 * i] is the kind of equation i. */
+#define TOWERWATCH_BOOLEAN_MEMORY 6
+#define TOWERWATCH_COUNT_MEMORY 7
 
 /* Bytes that are enough for every table's Lustre text. */
 #define TOWERWATCH_LUSTRE_BYTES 409700
@@ -90,7 +94,9 @@ struct towerwatch_answer towerwatch_read_rule(const uint8_t *text, size_t text_l
 
 /* Compiles a rule text. table: TOWERWATCH_TABLE_NUMBERS numbers or more; its front is set to the n equations, four
  * numbers each, and the rest of it is kept.
- * Result: n, at most TOWERWATCH_RULE_EQUATIONS. Refused: 1 to 8 as reading, 9. */
+ * Result: n, at most TOWERWATCH_RULE_EQUATIONS. Of the n equations one is a memory for each `begin`, `kept`, `held`,
+ * `len`, `sum` and `age` of the rule, two for each `then` and `lag`, and one besides, no more and no fewer;
+ * docs/FIRMWARE.md, "Memories", counts them. Refused: 1 to 8 as reading, 9. */
 struct towerwatch_answer towerwatch_compile(const uint8_t *text, size_t text_len, uint32_t *table, size_t table_len);
 
 /* Whether two texts are the same rule: both read to one tree. Spaces and needless brackets do not count.

@@ -1,4 +1,4 @@
-//! Rules: trees (SPEC 3.7), node counts, leads, and what of a rule the tally counts.
+//! Rules: trees (SPEC 3.7), node counts, memories, leads, and what of a rule the tally counts.
 
 pub mod make;
 pub mod meaning;
@@ -81,6 +81,25 @@ pub fn nodes(r: &Rule) -> u32 {
         Rule::And(f, g) | Rule::Or(f, g) | Rule::Then(f, g) => 1 + nodes(f) + nodes(g),
         Rule::Chop(..) | Rule::Exists(..) => panic!("no node count"),
     }
+}
+
+/// SPEC 12.8: how many memories the nodes of a rule have.
+fn node_memories(r: &Rule) -> usize {
+    match r {
+        Rule::Test(Test::Begin | Test::Kept | Test::Held, _) => 1,
+        Rule::Test(Test::End | Test::Point, _) => 0,
+        Rule::Len(..) | Rule::Sum(..) | Rule::Age(..) => 1,
+        Rule::Lag(..) => 2,
+        Rule::Not(f) => node_memories(f),
+        Rule::And(f, g) | Rule::Or(f, g) => node_memories(f) + node_memories(g),
+        Rule::Then(f, g) => node_memories(f) + node_memories(g) + 2,
+        Rule::Chop(..) | Rule::Exists(..) => panic!("not of the fragment"),
+    }
+}
+
+/// SPEC 12.8: how many memories its table has.
+pub fn memories(r: &Rule) -> usize {
+    node_memories(r) + 1
 }
 
 /// SPEC 3.9: leads.

@@ -67,9 +67,9 @@ struct Bench {
 }
 
 impl Bench {
-    /// Compiles the rule, counts its equations (SPEC 12.6) and its memories (SPEC 12.3), and makes the fresh state over
+    /// Compiles the rule, counts its equations (SPEC 12.6) and its memories (SPEC 12.8), and makes the fresh state over
     /// numbers that stood there.
-    fn new(run: &mut Run, text: &[u8], nodes: u32, name: String) -> Bench {
+    fn new(run: &mut Run, text: &[u8], rule: &Rule, name: String) -> Bench {
         let mut table = run.junk.clone();
         let answer = archive::compile(text, &mut table);
         same(answer.refusal, 0, || format!("compiling {name}"));
@@ -79,7 +79,7 @@ impl Bench {
         same(table::closes_as_compiled(&table, n), true, || format!("how the table of {name} closes"));
         same(table[4 * n..] == run.junk[4 * n..], true, || format!("what stands after the table of {name}"));
         let memories = (0..n).filter(|i| matches!(table[4 * i], 6 | 7)).count();
-        same(memories <= 2 * nodes as usize + 1, true, || format!("the memories of {name}"));
+        same(memories, rule::memories(rule), || format!("the memories of {name}"));
         let mut state = run.random.numbers(n + 3);
         let mut wanted = state.clone();
         let answer = archive::fresh_state(&table, n, &mut state);
@@ -160,7 +160,7 @@ fn rule_case(run: &mut Run, ticks: &mut Ticks, number: u64) {
     same(read, Ok(plan.rule.clone()), || format!("the evaluator's own reader and writer on {name}"));
     let nodes = rule::nodes(&plan.rule);
     same(archive::read_rule(&text), Answer::given(nodes), || format!("reading {name}"));
-    let mut bench = Bench::new(run, &text, nodes, name);
+    let mut bench = Bench::new(run, &text, &plan.rule, name);
     let root = rule::root(&plan.rule);
     for (around, delay) in rule::lags(&plan.rule, Around::Nothing) {
         run.tally.add(Outcome::Lag(around, delay));
