@@ -16,8 +16,8 @@ use Rattle.rules.specs.Reading.Outcome.{refused, rule}
 use Rattle.observers.specs.declared.Compiled.{Compiled}
 use Rattle.observers.specs.declared.Compiled.the-variants.{Equations, Refused}
 
--- SPEC 8.2: compiling a text into a table, the answer, and the table before and after. But for the last three it says
--- nothing of how equations are chosen.
+-- SPEC 8.2: compiling a text into a table, the answer, and the table before and after. But for the last three, and how
+-- many are memories, it says nothing of how equations are chosen.
 pub data Compiles (text before : List ℕ) : Compiled → List ℕ → Type 0 where
   -- refused as reading the text is, the table unchanged
   not-read : {k : ℕ} → HasOutcome text (refused k) → Compiles text before (Refused k) before
