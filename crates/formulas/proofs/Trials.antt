@@ -14,8 +14,8 @@ use Rattle.formulas.specs.Trials.{Trial, trials, furtherTrials, meant}
 pub trials-counted : map (λ (r : Trial). nodes (raw (r .formula))) trials ≡ map (λ (r : Trial). r .nodes) trials
 trials-counted = refl
 
--- SPEC 12.8: the number of memories that a rule's observer has, for each of these rows.
-abbrev AllRemember : List Trial → Type 0
+-- SPEC 12.8: the rules of these rows have as many memories as the rows say.
+abbrev pub AllRemember : List Trial → Type 0
 AllRemember rs = map (λ (r : Trial). ruleMemories (raw (r .formula))) rs ≡ map (λ (r : Trial). r .memories) rs
 
 pub trials-remember : AllRemember trials

@@ -10,7 +10,7 @@ use Rattle.formulas.specs.Tree.{nodes, ruleMemories}
 use Rattle.formulas.specs.Raw.{raw}
 use Rattle.formulas.specs.Trials.{Trial, trials, furtherTrials, blank, meant}
 use Rattle.formulas.proofs.Formulas.{raw-formula}
-use Rattle.formulas.proofs.Trials.{trials-counted, trials-remember, trials-meant}
+use Rattle.formulas.proofs.Trials.{AllRemember, trials-counted, trials-remember, trials-meant}
 use Rattle.formulas.proofs.Trials.{further-counted, further-remember, further-meant, row}
 use Rattle.words.specs.Split.{classOf, run, keywordAmong, keywordOf, numberOf, runOf, wordOf, words, splitOf}
 use Rattle.words.specs.Word.{isOp, isSignal, isNum, isBit, isTest, isCount}
@@ -39,8 +39,8 @@ further-read = refl
 -- So each of them holds.
 holds : (rs : List Trial) → AllRead rs
     → map (λ (r : Trial). nodes (raw (r .formula))) rs ≡ map (λ (r : Trial). r .nodes) rs
-    → map (λ (r : Trial). ruleMemories (raw (r .formula))) rs ≡ map (λ (r : Trial). r .memories) rs
-    → map meant rs ≡ map (λ (r : Trial). r .verdicts) rs → (i : ℕ) → i < length rs → RowHolds (getD rs i blank)
+    → AllRemember rs → map meant rs ≡ map (λ (r : Trial). r .verdicts) rs → (i : ℕ) → i < length rs
+    → RowHolds (getD rs i blank)
 holds rs are-read are-counted remember are-meant i l =
     let r : Trial = getD rs i blank in
     record {
