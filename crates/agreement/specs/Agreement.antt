@@ -1,6 +1,6 @@
 -- SPEC 12.3 (demand 3): the agreement of an observer's answers with the interval meaning, as one statement about a list
--- of calls (SPEC 6.1). SPEC 12.7: how the table of a compiled rule closes. SPEC 12.8: how many memories it has. Definitions
--- only; the theorems are in proofs/Theorem.antt.
+-- of calls (SPEC 6.1). SPEC 12.7: how the table of a compiled rule closes. SPEC 12.8: how many memories it has.
+-- Definitions only; the theorems are in proofs/Theorem.antt.
 use mathlib.Core.List.{List, [], _∷_}
 use mathlib.Core.Logic.{_↔_}
 use mathlib.Core.Path.{_≡_}

@@ -20,7 +20,7 @@ use Rattle.firmware.specs.Sizes.{small, short, few}
 pub few-equations : {text before : List ℕ} {r : Compiled} {after : List ℕ} → Compiles text before r after → small r
 few-equations (not-read e) = tt
 few-equations (no-room e h) = tt
-few-equations (observed {n} {after} e f room few same rest h ends exact) = checked-fitting _ n (h [] .formed) .few
+few-equations (observed {n} {after} e f room few same rest h exact ends) = checked-fitting _ n (h [] .formed) .few
 
 pub few-loaded : {text before : List ℕ} {r : Loaded} {after : List ℕ} → AfterRead text before r after → few r
 few-loaded (unread h) = tt

@@ -1,6 +1,6 @@
 -- P1 to P13 and the further rows, by computation: of every row the formula has as many nodes and the rule as many
--- memories as said, each `then` in it has a lead on its left, and the interval meaning gives the verdicts. `row` and `through` take what is computed of all
--- rows to one of them, and to what is made of it. Assumes nothing.
+-- memories as said, each `then` in it has a lead on its left, and the interval meaning gives the verdicts. `row` and
+-- `through` take what is computed of all rows to one of them, and to what is made of it. Assumes nothing.
 use mathlib.Core.Bool.{true}
 use mathlib.Core.Path.{_≡_, refl, ap₂}
 use mathlib.Core.List.{List, [], _∷_, map}

@@ -71,7 +71,7 @@ trials =
 -- itself, with n = 0 and as a lead, and the rule that is taken for `lag[s0,2,!s1]` and differs from it, since `age`
 -- counts the present tick. More of `lag`: P not from the start on; Q missing only where it is due a second time; a
 -- start that ends what was false, and one that cuts a run of P; a parameter; under `!`; as a second part. Idle: no
--- start at all, and a `!`, which leaves it as it is.
+-- start at all, and a `!`, which leaves it as it is. SPEC 12.8: a sum that comes up twice, whose memories are two.
 abbrev pub furtherTrials : List Trial
 furtherTrials =
     trial "end[!s0]" (test end (negP s0)) 1 1 first (five 0 0 1 0 0)
@@ -112,6 +112,10 @@ furtherTrials =
     (five 0 1 0 0 0)
     ∷ trial "end[s0]" (test end s0) 1 1 (five 0 0 0 0 0) (five 2 2 2 2 2)
     ∷ trial "!end[s0]" (neg (test end s0)) 2 1 (five 0 0 1 0 0) (five 2 2 1 0 0)
+    ∷ trial "sum[s0] <= 1 & sum[s0] <= 2" (and (count sum s0 le (literal 1)) (count sum s0 le (literal 2))) 3 3 first
+    (five 1 1 0 0 0)
+    ∷ trial "sum[s0] <= 1 | sum[s0] <= 2" (or (count sum s0 le (literal 1)) (count sum s0 le (literal 2))) 3 3 first
+    (five 1 1 1 1 0)
     ∷ []
 
 -- No row: what stands past the last one.

@@ -122,10 +122,10 @@ module _ (text before : List ℕ) where
       pub room-compiles : (es : List Equation) → length es ≤ ruleEquations
           → sets before 0 (numbersOf es) ≡ numbersOf es ++ drop (4 * length es) before
           → ((rest : List ℕ) → Observes standardCap (numbersOf es ++ rest) (length es) f)
-          → ((rest : List ℕ) → Closing (numbersOf es ++ rest) (length es))
           → ((rest : List ℕ) → ExactMemories (numbersOf es ++ rest) (length es) t)
+          → ((rest : List ℕ) → Closing (numbersOf es ++ rest) (length es))
           → Compiles text before (Equations (length es)) (sets before 0 (numbersOf es))
-      room-compiles es few front h ends exact =
+      room-compiles es few front h exact ends =
           let size = 4 * length es in
           let others = drop size before in
           let taken : take size (sets before 0 (numbersOf es)) ≡ numbersOf es =
@@ -134,8 +134,8 @@ module _ (text before : List ℕ) where
           (omega arith) (length-sets before 0 (numbersOf es))
           (ap (drop size) front ∙ drop-at (numbersOf es) others size (length-numbers es))
           (λ rest. subst (λ (l : List ℕ). Observes standardCap (l ++ rest) (length es) f) (sym taken) (h rest))
+          (λ rest. subst (λ (l : List ℕ). ExactMemories (l ++ rest) (length es) t) (sym taken) (exact rest))
           (subst (λ (l : List ℕ). Closing l (length es)) (sym front) (ends others))
-          (subst (λ (l : List ℕ). ExactMemories l (length es) t) (sym front) (exact others))
 
 -- What the pass over the tree's records left is what compiling is to leave.
 pub emitted-rule : (text before : List ℕ) (t : Tree) → ruleOf text ≡ rule t → tableRoom ≤ length before
@@ -153,5 +153,5 @@ emitted-rule text before t e room arena r after same h =
           (room-compiles text before t e f (k .is) room (observer f)
           (rule-equations text t f (accepted text t .0 e) (k .is))
           (observer-front f before (observer-size f (small-raw k)) room)
-          (observes-rule k) (closes-rule k) (remembers-rule k)),
+          (observes-rule k) (remembers-rule k) (closes-rule k)),
     )

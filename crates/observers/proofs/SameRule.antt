@@ -71,7 +71,7 @@ left : (text before : List ℕ) (n : ℕ) (after : List ℕ) (r : Compiled) → 
     → afterCompile (Equations n) after ≡ compiled text before → Left text n after
 left text before n after r (not-read e) q c = absurd (refused-equations q)
 left text before n after r (no-room e h) q c = absurd (refused-equations q)
-left text before n after r (observed {n = m} {after = l} {t} {f} e is room few same rest h ends exact) q c =
+left text before n after r (observed {n = m} {after = l} {t} {f} e is room few same rest h exact ends) q c =
     of-observed text before n m l t f e is room h (cc) c
 
 -- The same rule, compiled twice: as many equations, and the same answers to every list of calls.

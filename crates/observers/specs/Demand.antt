@@ -23,14 +23,14 @@ pub data Compiles (text before : List ℕ) : Compiled → List ℕ → Type 0 wh
   not-read : {k : ℕ} → HasOutcome text (refused k) → Compiles text before (Refused k) before
   -- SPEC 7.9: too short a table, unchanged
   no-room : {t : Tree} → HasOutcome text (rule t) → length before < tableRoom → Compiles text before (Refused 9) before
-  -- Else the first n equations of the table observe the rule's formula, whatever numbers or none stand after them where
-  -- they are used, and all other numbers of the lent table are kept. They are not many (SPEC 12.6), close by SPEC 12.7,
-  -- and have the memories of SPEC 12.8.
+  -- Else the first n equations of the table observe the rule's formula and have the memories of SPEC 12.8, whatever
+  -- numbers or none stand after them where they are used, and all other numbers of the lent table are kept. They are not
+  -- many (SPEC 12.6), and close by SPEC 12.7.
   observed : {n : ℕ} {after : List ℕ} {t : Tree} {f : Formula} → HasOutcome text (rule t) → formulaOf t ≡ some f
       → tableRoom ≤ length before → n ≤ ruleEquations
       → length after ≡ length before → drop (4 * n) after ≡ drop (4 * n) before
       → ((rest : List ℕ) → Observes standardCap (take (4 * n) after ++ rest) n f)
-      → Closing after n → ExactMemories after n t
+      → ((rest : List ℕ) → ExactMemories (take (4 * n) after ++ rest) n t) → Closing after n
       → Compiles text before (Equations n) after
 
 -- SPEC 8.2: the result is n.

@@ -51,45 +51,47 @@ refused-text {text} (not-read e) h = (ap Refused (refusal-of (one-outcome text _
     refusal-of : {m k : ℕ} → refused m ≡ refused k → m ≡ k
     refusal-of e = cc
 refused-text (no-room e l) h = absurd (not-refused e h)
-refused-text (observed e is l few same kept o ends exact) h = absurd (not-refused e h)
+refused-text (observed e is l few same kept o exact ends) h = absurd (not-refused e h)
 
 short-table : {text before after : List ℕ} {r : Compiled} {t : Tree} → Compiles text before r after
     → HasOutcome text (rule t) → length before < tableRoom → (r ≡ Refused 9) × (after ≡ before)
 short-table (not-read e) h low = absurd (not-refused h e)
 short-table (no-room e l) h low = (refl, refl)
-short-table (observed e is l few same kept o ends exact) h low = absurd (omega arith)
+short-table (observed e is l few same kept o exact ends) h low = absurd (omega arith)
 
 -- and for a rule where there is room.
 compiled-rule : {text before after : List ℕ} {r : Compiled} {t : Tree} → Compiles text before r after
     → HasOutcome text (rule t) → tableRoom ≤ length before → (n : ℕ) × (r ≡ Equations n)
 compiled-rule (not-read e) h room = absurd (not-refused h e)
 compiled-rule (no-room e l) h room = absurd (omega arith)
-compiled-rule (observed {n} e is l few same kept o ends exact) h room = (n, refl)
+compiled-rule (observed {n} e is l few same kept o exact ends) h room = (n, refl)
 
 few-equations : {text before after : List ℕ} {r : Compiled} {n : ℕ} → Compiles text before r after → r ≡ Equations n
     → n ≤ ruleEquations
 few-equations (not-read e) q = absurd (refused-equations q)
 few-equations (no-room e l) q = absurd (refused-equations q)
-few-equations {n = n} (observed {n = m} e is l few same kept o ends exact) q = let number : m ≡ n = cc in omega arith
+few-equations {n = n} (observed {n = m} e is l few same kept o exact ends) q = let number : m ≡ n = cc in omega arith
 
 closing : {text before after : List ℕ} {r : Compiled} {n : ℕ} → Compiles text before r after → r ≡ Equations n
     → Closing after n
 closing (not-read e) q = absurd (refused-equations q)
 closing (no-room e l) q = absurd (refused-equations q)
-closing {after = after} (observed e is l few same kept o ends exact) q = subst (Closing after) (cc) ends
+closing {after = after} (observed e is l few same kept o exact ends) q = subst (Closing after) (cc) ends
 
 -- A text has one tree, and the table so many memories as that tree asks for;
 remembering : {text before after : List ℕ} {r : Compiled} {n : ℕ} {t : Tree} → Compiles text before r after
-    → r ≡ Equations n → HasOutcome text (rule t) → ExactMemories after n t
-remembering (not-read e) q h = absurd (refused-equations q)
-remembering (no-room e l) q h = absurd (refused-equations q)
-remembering {after = after} {n = n} {t} (observed {n = m} {t = u} e is l few same kept o ends exact) q h =
-    let number : m ≡ n = cc in subst₂ (ExactMemories after) number (same-tree e h) exact
+    → r ≡ Equations n → HasOutcome text (rule t) → (rest : List ℕ) → ExactMemories (take (4 * n) after ++ rest) n t
+remembering (not-read e) q h rest = absurd (refused-equations q)
+remembering (no-room e l) q h rest = absurd (refused-equations q)
+remembering {after = after} {n = n} {t} (observed {n = m} {t = u} e is l few same kept o exact ends) q h rest =
+    let number : m ≡ n = cc in
+    subst₂ (λ (k : ℕ) (v : Tree). ExactMemories (take (4 * k) after ++ rest) k v) number (same-tree e h) (exact rest)
 
 -- so the bound on them holds.
 remembering-few : {text before after : List ℕ} {n : ℕ} {t : Tree} → Compiles text before (Equations n) after
-    → HasOutcome text (rule t) → FewMemories after n t
-remembering-few {after = after} {n} {t} c h = few-memories after n t (remembering c refl h)
+    → HasOutcome text (rule t) → (rest : List ℕ) → FewMemories (take (4 * n) after ++ rest) n t
+remembering-few {after = after} {n} {t} c h rest =
+    few-memories (take (4 * n) after ++ rest) n t (remembering c refl h rest)
 
 -- And the tree has one formula.
 one-formula : {x y : Option Formula} {f g : Formula} → x ≡ some f → y ≡ some g → x ≡ y → f ≡ g
@@ -100,7 +102,7 @@ observed-rule : {text before after : List ℕ} {r : Compiled} {n : ℕ} {t : Tre
     → (rest : List ℕ) → Observes standardCap (take (4 * n) after ++ rest) n f
 observed-rule (not-read e) q h is rest = absurd (not-refused h e)
 observed-rule (no-room e l) q h is rest = absurd (refused-equations q)
-observed-rule {after = after} {n = n} {t} {f} (observed {n = m} {f = g} e is-g l few same kept o ends exact) q h
+observed-rule {after = after} {n = n} {t} {f} (observed {n = m} {f = g} e is-g l few same kept o exact ends) q h
     is rest =
     let number : m ≡ n = cc in
     let formula : g ≡ f = one-formula is-g is (ap formulaOf (same-tree e h)) in
@@ -118,8 +120,8 @@ kept =
         compiles = compiled-rule;
         few = λ c. few-equations c refl;
         closes = λ c. closing c refl;
-        exact-memories = λ c h. remembering c refl h;
-        few-memories = λ c h. remembering-few c h;
+        exact-memories = λ c h rest. remembering c refl h rest;
+        few-memories = λ c h rest. remembering-few c h rest;
         observes = λ c h is rest. observed-rule c refl h is rest;
       };
       round-trips = record {

@@ -73,8 +73,9 @@ Running = (t : List ℕ) (n : ℕ) → checked t n ≡ Passed → RunsAsLustre s
 
 -- SPEC 12.3 (demand 3). A text with a refusal gets that, a rule with too short a table 9 (SPEC 7.9), and both leave the
 -- table as it was. A rule is compiled where there is room, and then the n equations at the front of the table, whatever
--- stands after them, observe its formula. No rule has more equations than SPEC 12.6 says, the last three are those of
--- SPEC 12.7, and exactly so many are memories as SPEC 12.8 says of the tree, so that the bound of SPEC 12.3 holds.
+-- stands after them, observe its formula, and exactly so many of them are memories as SPEC 12.8 says of the tree, so
+-- that the bound of SPEC 12.3 holds. No rule has more equations than SPEC 12.6 says, and the last three are those of
+-- SPEC 12.7.
 pub record Compiling : Type 0 where
   pub refuses : {text before after : List ℕ} {r : Compiled} {k : ℕ} → Compiles text before r after
       → HasOutcome text (refused k) → (r ≡ Refused k) × (after ≡ before)
@@ -85,9 +86,9 @@ pub record Compiling : Type 0 where
   pub few : {text before after : List ℕ} {n : ℕ} → Compiles text before (Equations n) after → n ≤ ruleEquations
   pub closes : {text before after : List ℕ} {n : ℕ} → Compiles text before (Equations n) after → Closing after n
   pub exact-memories : {text before after : List ℕ} {n : ℕ} {t : Tree} → Compiles text before (Equations n) after
-      → HasOutcome text (rule t) → ExactMemories after n t
+      → HasOutcome text (rule t) → (rest : List ℕ) → ExactMemories (take (4 * n) after ++ rest) n t
   pub few-memories : {text before after : List ℕ} {n : ℕ} {t : Tree} → Compiles text before (Equations n) after
-      → HasOutcome text (rule t) → FewMemories after n t
+      → HasOutcome text (rule t) → (rest : List ℕ) → FewMemories (take (4 * n) after ++ rest) n t
   pub observes : {text before after : List ℕ} {n : ℕ} {t : Tree} {f : Formula}
       → Compiles text before (Equations n) after → HasOutcome text (rule t) → formulaOf t ≡ some f
       → (rest : List ℕ) → Observes standardCap (take (4 * n) after ++ rest) n f

@@ -56,7 +56,7 @@ holds rs are-read are-counted remember are-meant i l =
 pub runs : (i : ℕ) → i < 13 → RowHolds (getD trials i blank)
 runs = holds trials trials-read trials-counted trials-remember trials-meant
 
-pub further-runs : (i : ℕ) → i < 34 → RowHolds (getD furtherTrials i blank)
+pub further-runs : (i : ℕ) → i < 36 → RowHolds (getD furtherTrials i blank)
 further-runs = holds furtherTrials further-read further-counted further-remember further-meant
 
 -- SPEC 4.11: with n = 0 and with n = 1 a `lag` is not the same rule.

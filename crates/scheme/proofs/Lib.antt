@@ -1,6 +1,6 @@
 -- What the equations of an observer are, tick by tick: well formed, few, with as many memories as its nodes ask for,
--- and in all flows that satisfy them each node's result is its meaning from the latest start on. What that is over lists of calls is
--- `agreement`'s.
+-- and in all flows that satisfy them each node's result is its meaning from the latest start on. What that is over
+-- lists of calls is `agreement`'s.
 --
 -- Intervals, and equations at their places:
 pub mod Offsets
