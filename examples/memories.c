@@ -1,6 +1,8 @@
 /* How many memories the tables of rules have, which is what cabinets are ordered by. One rule a line on stdin; for each
  * a line with that number, a blank and the rule. A refused rule has `refused=` and the refusal in place of the number,
  * and then the exit status is 1 at the end. */
+#define _POSIX_C_SOURCE 200809L /* for getline */
+
 #include <stdio.h>
 #include <stdlib.h>
 #include <sys/types.h>
@@ -27,7 +29,8 @@ int main(void) {
         struct towerwatch_answer a = towerwatch_compile((const uint8_t *)line, len, table, TOWERWATCH_TABLE_NUMBERS);
         if (a.refusal == 0) printf("%zu ", memories(a.result));
         else printf("refused=%u ", (unsigned)a.refusal);
-        printf("%.*s\n", (int)len, line);
+        fwrite(line, 1, len, stdout);
+        putchar('\n');
         status |= a.refusal != 0;
     }
     free(line);

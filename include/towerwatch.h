@@ -94,9 +94,8 @@ struct towerwatch_answer towerwatch_read_rule(const uint8_t *text, size_t text_l
 
 /* Compiles a rule text. table: TOWERWATCH_TABLE_NUMBERS numbers or more; its front is set to the n equations, four
  * numbers each, and the rest of it is kept.
- * Result: n, at most TOWERWATCH_RULE_EQUATIONS. Of the n equations one is a memory for each `begin`, `kept`, `held`,
- * `len`, `sum` and `age` of the rule, two for each `then` and `lag`, and one besides, no more and no fewer;
- * docs/FIRMWARE.md, "Memories", counts them. Refused: 1 to 8 as reading, 9. */
+ * Result: n, at most TOWERWATCH_RULE_EQUATIONS. The rule settles how many of them are memories (docs/RULES.md, "What a
+ * rule costs"); docs/FIRMWARE.md, "Memories", counts them. Refused: 1 to 8 as reading, 9. */
 struct towerwatch_answer towerwatch_compile(const uint8_t *text, size_t text_len, uint32_t *table, size_t table_len);
 
 /* Whether two texts are the same rule: both read to one tree. Spaces and needless brackets do not count.

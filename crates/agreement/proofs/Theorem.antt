@@ -16,10 +16,9 @@ use Rattle.tables.specs.Table.{checked}
 use Rattle.flows.specs.Step.{AfterFresh}
 use Rattle.tables.specs.declared.Checked.the-variants.{Passed}
 use Rattle.scheme.specs.Emit.{namedBy, observer, numbersOf}
-use Rattle.agreement.specs.Agreement.{Observes, Closing, ExactMemories}
+use Rattle.agreement.specs.Agreement.{Observes, Closing}
 use Rattle.flows.proofs.Lists.{made, calls-decide}
 use Rattle.scheme.proofs.Header.{names-below}
-use Rattle.scheme.proofs.Memories.{memories-exactly}
 use Rattle.scheme.proofs.Sizes.{observer-size}
 use Rattle.agreement.proofs.Answers.{passes, answers-mean, answers-idle}
 use Rattle.agreement.proofs.Ends.{closing-over}
@@ -63,8 +62,3 @@ observes cap low f led bound size junk =
 pub closing : (cap : ℕ) → cap ≤ literalCount → (f : Formula) → bounded cap (raw f) ≡ true → (junk : List ℕ)
     → Closing (numbersOf (observer f) ++ junk) (length (observer f))
 closing cap low f bound junk = closing-over cap low signalCount few f bound (below cap f bound) junk
-
--- SPEC 12.8: how many memories it has, of every formula.
-pub remembers : (f : Formula) (junk : List ℕ)
-    → ExactMemories (numbersOf (observer f) ++ junk) (length (observer f)) (raw f)
-remembers f junk = memories-exactly f junk

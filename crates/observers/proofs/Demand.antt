@@ -21,8 +21,9 @@ use Rattle.tables.specs.Table.{Equation}
 use Rattle.limits.specs.Limits.{arenaLimit, literalCount, standardCap, tableRoom, ruleEquations}
 use Rattle.scheme.specs.Emit.{observer, numbersOf}
 use Rattle.agreement.specs.Agreement.{Closing, ExactMemories, Observes}
-use Rattle.agreement.proofs.Theorem.{observes, closing, remembers}
+use Rattle.agreement.proofs.Theorem.{observes, closing}
 use Rattle.emitter.specs.Contract.{Emitted}
+use Rattle.scheme.proofs.Memories.{memories-exactly}
 use Rattle.scheme.proofs.Sizes.{observer-size}
 use Rattle.emitter.proofs.Size.{observer-front}
 use Rattle.scheme.proofs.Places.{length-numbers}
@@ -85,7 +86,7 @@ module _ {t : Tree} (k : Known t) where
   remembers-rule junk =
       let f = k .formula in
       subst (λ (u : Tree). ExactMemories (numbersOf (observer f) ++ junk) (length (observer f)) u) (sym (k .tree))
-      (remembers f junk)
+      (memories-exactly f junk)
 
 -- ---- the effect of compiling
 

@@ -24,8 +24,8 @@ pub data Compiles (text before : List ℕ) : Compiled → List ℕ → Type 0 wh
   -- SPEC 7.9: too short a table, unchanged
   no-room : {t : Tree} → HasOutcome text (rule t) → length before < tableRoom → Compiles text before (Refused 9) before
   -- Else the first n equations of the table observe the rule's formula and have the memories of SPEC 12.8, whatever
-  -- numbers or none stand after them where they are used, and all other numbers of the lent table are kept. They are not
-  -- many (SPEC 12.6), and close by SPEC 12.7.
+  -- numbers or none stand after them where they are used. They are not many (SPEC 12.6), and the last of them close by
+  -- SPEC 12.7. All other numbers of the lent table are kept.
   observed : {n : ℕ} {after : List ℕ} {t : Tree} {f : Formula} → HasOutcome text (rule t) → formulaOf t ≡ some f
       → tableRoom ≤ length before → n ≤ ruleEquations
       → length after ≡ length before → drop (4 * n) after ≡ drop (4 * n) before

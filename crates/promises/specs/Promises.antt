@@ -2,8 +2,8 @@
 -- what it leaves stand in one of the relations named below; the records say what is proved of these relations. What is
 -- named here and the files that this one builds on have no parser of the grammar in them (words and the lines of cards
 -- are read by short definitions on their bytes), no choice of equations but for the three that close a compiled table
--- (SPEC 12.7), and nothing that only inner functions of the code compute. Definitions only; proofs/Kept.antt proves all
--- of it.
+-- (SPEC 12.7) and how many are memories (SPEC 12.8), and nothing that only inner functions of the code compute.
+-- Definitions only; proofs/Kept.antt proves all of it.
 --
 --   read_rule      Told           rules/specs/Contract.antt         a text and the answer
 --   same_rule      SameAnswer     rules/specs/Same.antt             two texts and the answer

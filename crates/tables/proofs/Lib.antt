@@ -2,3 +2,5 @@
 pub mod Tests
 pub mod Numbers
 pub mod Checks
+-- Memories counted:
+pub mod Rows
