@@ -11,7 +11,7 @@ use lib.Seq.{getD-set-same, getD-set-other}
 use Rattle.lists.specs.Number.{numberAt}
 use Rattle.traces.specs.Trace.{truth, nonzero}
 use Rattle.traces.specs.Compare.{opNumber}
-use Rattle.traces.specs.Compare.Op.{lt}
+use Rattle.traces.specs.declared.Op.the-variants.{Below as lt}
 use Rattle.formulas.specs.Formula.{Prop, Test, Count, Formula}
 use Rattle.formulas.specs.Formula.Prop.{constant, signal, negP, andP, orP}
 use Rattle.formulas.specs.Formula.Test.{begin, end, point, held, kept}

@@ -4,8 +4,9 @@ use mathlib.Core.List.{List, _∷_, _++_, append-assoc}
 use mathlib.Core.Path.{_≡_, refl, ap, _∙_}
 use Prim.Native.Nat.{ℕ, _+_}
 use Rattle.lists.specs.Number.{numberAt}
-use Rattle.traces.specs.Compare.{Op, opNumber}
-use Rattle.traces.specs.Compare.Op.{lt}
+use Rattle.traces.specs.Compare.{opNumber}
+use Rattle.traces.specs.declared.Op.{Op}
+use Rattle.traces.specs.declared.Op.the-variants.{Below as lt}
 use Rattle.formulas.specs.Formula.{Num, Prop, Test, Count, Formula}
 use Rattle.formulas.specs.Formula.Prop.{constant, signal, negP, andP, orP}
 use Rattle.formulas.specs.Formula.Test.{begin, end, point, held, kept}

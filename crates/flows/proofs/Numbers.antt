@@ -1,4 +1,4 @@
--- Operators by their numbers, tests of a number against 0, and initial values. Assumes nothing.
+-- Tests of a number against 0, and initial values. Assumes nothing.
 use mathlib.Core.Path.{_≡_, refl}
 use mathlib.Core.Bool.{true, false, not}
 use Prim.Native.Nat.{ℕ, zero, suc, _≤_}
@@ -7,21 +7,10 @@ use native.Mathlib.Nat.{not-suc-le-zero}
 use lib.Dec.{ltb, eqb}
 use borrow.Author.Tests.{lt-ltb, ne-eqb}
 use Rattle.traces.specs.Trace.{nonzero}
-use Rattle.traces.specs.Compare.{opOf}
-use Rattle.traces.specs.Compare.Op.{ge}
 use Rattle.tables.specs.Table.{sameSort}
 use Rattle.tables.specs.declared.Sort.{Sort}
 use Rattle.tables.specs.declared.Sort.the-variants.{Boolean, Count}
 use Rattle.flows.specs.Flow.{initial}
-
--- The operators from 4 on.
-pub op-last : (k : ℕ) → 4 ≤ k → opOf k ≡ ge
-op-last zero h = absurd (omega arith)
-op-last (suc zero) h = absurd (omega arith)
-op-last (suc (suc zero)) h = absurd (omega arith)
-op-last (suc (suc (suc zero))) h = absurd (omega arith)
-op-last (suc (suc (suc (suc zero)))) h = refl
-op-last (suc (suc (suc (suc (suc k))))) h = refl
 
 -- Tests of a number against 0.
 pub positive : (x : ℕ) → ltb 0 x ≡ nonzero x

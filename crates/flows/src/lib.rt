@@ -36,13 +36,7 @@ const PARAMETERS: u32 = limits::PARAMETERS as u32;
 fn compare(op: u32, x: u32, y: u32) -> bool
     ensures { λ r. ⌜ r ≡ compares (opOf op) x y ⌝ }
 {
-    match op {
-        traces::AT_MOST => x <= y,
-        traces::BELOW => x < y,
-        traces::EQUAL => x == y,
-        traces::ABOVE => x > y,
-        _ => x >= y,
-    }
+    traces::holds(traces::op_of(op), x, y)
 }
 
 // Number i of a buffer, or 0 past its end.

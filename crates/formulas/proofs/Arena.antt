@@ -6,8 +6,9 @@ use Prim.Native.Nat.{ℕ, _+_}
 use lib.Dec.{eqb}
 use lib.ListN.{getD}
 use Rattle.traces.specs.Trace.{nonzero}
-use Rattle.traces.specs.Compare.{Op, opOf, opNumber}
-use Rattle.traces.specs.Compare.Op.{lt}
+use Rattle.traces.specs.Compare.{opOf, opNumber}
+use Rattle.traces.specs.declared.Op.{Op}
+use Rattle.traces.specs.declared.Op.the-variants.{Below as lt}
 use Rattle.traces.proofs.Laws.{nonzero-truth, op-number}
 use Rattle.formulas.specs.Formula.{Num, Test, Count}
 use Rattle.formulas.specs.Formula.Num.{literal, parameter}

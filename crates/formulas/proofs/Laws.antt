@@ -11,13 +11,13 @@ use native.Mathlib.Nat.{eq-or-lt-of-le}
 use lib.Dec.{eqb, ltb, leb}
 use borrow.Author.Tests.{leb-true, ltb-true, eqb-true, le-leb, lt-ltb, eq-eqb}
 use Rattle.traces.specs.Trace.{Trace, nonzero, bit, starts, truth, idleVerdict}
-use Rattle.traces.specs.Compare.{Op, compares}
-use Rattle.traces.specs.Compare.Op.{le, lt, eq, gt, ge}
-use Rattle.traces.proofs.Laws.{truth-idle}
+use Rattle.traces.specs.Compare.{compares, Compared}
+use Rattle.traces.specs.declared.Op.{Op}
+use Rattle.traces.proofs.Laws.{truth-idle, compared}
 use Rattle.formulas.specs.Formula.{Formula}
 use Rattle.formulas.specs.Meaning.{value, each, any, tally, streak, due, lagged, at, meaning}
 use Rattle.formulas.specs.Meaning.{latest, verdict, since}
-use Rattle.formulas.specs.Laws.{Compared, Counted, InARow, Starts, Latest, Means}
+use Rattle.formulas.specs.Laws.{Counted, InARow, Starts, Latest, Means}
 
 -- ---- truth values and comparisons
 
@@ -39,13 +39,6 @@ or-iff false y = (λ e. inr e, ⊎-elim (λ h. absurd (false≢true h)) (λ h. h
 
 both : {A B : Type 0} (x y : Bool) → (x ≡ true) ↔ A → (y ≡ true) ↔ B → (x && y ≡ true) ↔ (A × B)
 both x y h k = Iff·trans (and-eq-true-iff x y) (Iff·and h k)
-
-compared : (o : Op) (x n : ℕ) → (compares o x n ≡ true) ↔ Compared o x n
-compared le x n = (leb-true x n, le-leb x n)
-compared lt x n = (ltb-true x n, lt-ltb x n)
-compared eq x n = (eqb-true x n, eq-eqb x n)
-compared gt x n = (ltb-true n x, lt-ltb n x)
-compared ge x n = (leb-true n x, le-leb n x)
 
 -- The one number that is described, compared with n.
 counts : (Is : ℕ → Type 0) (x : ℕ) → Is x → ((c : ℕ) → Is c → c ≡ x) → (o : Op) (n : ℕ) →

@@ -8,13 +8,14 @@ use mathlib.Core.Option.{Option, none, some}
 use Prim.Native.Nat.{ℕ, suc, _≤_}
 use native.Mathlib.Omega.{arith}
 use Rattle.traces.specs.Trace.{Trace}
+use Rattle.traces.specs.Compare.{Compared}
 use Rattle.formulas.specs.Formula.{Prop, Formula}
 use Rattle.formulas.specs.Formula.Prop.{constant, signal, negP, andP, orP}
 use Rattle.formulas.specs.Formula.Test.{begin, end, point, held, kept}
 use Rattle.formulas.specs.Formula.Count.{sum, age}
 use Rattle.formulas.specs.Formula.Formula.{test, len, count, lag, neg, and, or, then}
 use Rattle.formulas.specs.Meaning.{value, at, meaning, latest, verdict}
-use Rattle.formulas.specs.Laws.{Compared, Counted, InARow, Latest, Means}
+use Rattle.formulas.specs.Laws.{Counted, InARow, Latest, Means}
 use Rattle.formulas.proofs.Laws.{no, Seen, seen, means}
 
 -- ---- what is said of P is said of what is the same as P

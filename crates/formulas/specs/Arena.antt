@@ -4,7 +4,7 @@ use mathlib.Core.List.{List, [], _∷_, _++_}
 use Prim.Native.Nat.{ℕ, _+_}
 use Rattle.traces.specs.Trace.{truth}
 use Rattle.traces.specs.Compare.{opNumber}
-use Rattle.traces.specs.Compare.Op.{lt}
+use Rattle.traces.specs.declared.Op.the-variants.{Below as lt}
 use Rattle.formulas.specs.Formula.{Num, Test, Count}
 use Rattle.formulas.specs.Formula.Num.{literal, parameter}
 use Rattle.formulas.specs.Formula.Test.{begin, end, point, held, kept}

@@ -1,7 +1,7 @@
 -- Rules of the fragment (SPEC 3.10): propositions P and formulas F. Definitions only.
 use mathlib.Core.Bool.{Bool}
 use Prim.Native.Nat.{ℕ}
-use Rattle.traces.specs.Compare.{Op}
+use Rattle.traces.specs.declared.Op.{Op}
 
 -- SPEC 3.5: n, a literal or a parameter.
 pub data Num : Type 0 where

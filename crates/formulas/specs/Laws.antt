@@ -7,8 +7,8 @@ use mathlib.Core.Path.{_≡_}
 use Prim.Native.Nat.{ℕ, suc, _+_, _-_, _≤_, _<_}
 use lib.ListN.{getD}
 use Rattle.traces.specs.Trace.{Trace, idleVerdict, bit}
-use Rattle.traces.specs.Compare.{Op}
-use Rattle.traces.specs.Compare.Op.{le, lt, eq, gt, ge}
+use Rattle.traces.specs.Compare.{Compared}
+use Rattle.traces.specs.declared.Op.{Op}
 use Rattle.formulas.specs.Formula.{Num, Prop, Formula}
 use Rattle.formulas.specs.Formula.Num.{literal, parameter}
 use Rattle.formulas.specs.Formula.Prop.{constant, signal, negP, andP, orP}
@@ -16,14 +16,6 @@ use Rattle.formulas.specs.Formula.Test.{begin, end, point, held, kept}
 use Rattle.formulas.specs.Formula.Count.{sum, age}
 use Rattle.formulas.specs.Formula.Formula.{test, len, count, lag, neg, and, or, then}
 use Rattle.formulas.specs.Meaning.{value}
-
--- SPEC 4.8: the number x itself compared with n.
-abbrev pub Compared : Op → ℕ → ℕ → Type 0
-Compared le x n = x ≤ n
-Compared lt x n = x < n
-Compared eq x n = x ≡ n
-Compared gt x n = n < x
-Compared ge x n = n ≤ x
 
 -- SPEC 4.4: c of the ticks from b on and before e have P, counted one tick after the other.
 pub data Counted (P : ℕ → Type 0) (b : ℕ) : ℕ → ℕ → Type 0 where

@@ -9,7 +9,7 @@ use lib.ListN.{replicate}
 use Rattle.limits.specs.Limits.{parameterCount}
 use Rattle.traces.specs.declared.Tick.{Tick}
 use Rattle.traces.specs.Trace.{Trace, tickOf, traceOf}
-use Rattle.traces.specs.Compare.Op.{le, lt, eq, gt, ge}
+use Rattle.traces.specs.declared.Op.the-variants.{AtMost as le, Below as lt, Equal as eq, Above as gt, AtLeast as ge}
 use Rattle.formulas.specs.Formula.{Prop, Formula}
 use Rattle.formulas.specs.Formula.Num.{literal, parameter}
 use Rattle.formulas.specs.Formula.Prop.{constant, signal, negP, andP, orP}

@@ -8,7 +8,7 @@ use native.Mathlib.Nat.{le-refl}
 use lib.Dec.{eqb}
 use lib.ListN.{length, List·getD-eq-default}
 use borrow.Author.Tests.{eq-eqb, ne-eqb}
-use Rattle.traces.specs.Compare.{Op}
+use Rattle.traces.specs.declared.Op.{Op}
 use Rattle.formulas.specs.Formula.{Num}
 use Rattle.formulas.specs.Tree.{Tree}
 use Rattle.formulas.specs.Tree.Tree.{constant, signal, and, or, len, count}

@@ -6,7 +6,8 @@ use Prim.Native.Nat.{ℕ, _-_}
 use lib.Dec.{leb}
 use lib.ListN.{getD}
 use Rattle.traces.specs.Trace.{nonzero}
-use Rattle.traces.specs.Compare.{Op, opOf}
+use Rattle.traces.specs.Compare.{opOf}
+use Rattle.traces.specs.declared.Op.{Op}
 use Rattle.formulas.specs.Formula.{Num, Test, Count}
 use Rattle.formulas.specs.Formula.Num.{literal, parameter}
 use Rattle.formulas.specs.Formula.Test.{begin, end, point, held, kept}

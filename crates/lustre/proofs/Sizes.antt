@@ -7,8 +7,9 @@ use native.Mathlib.Omega.{arith}
 use lib.ListN.{length, length-append}
 use Rattle.lists.specs.Number.{numberAt}
 use Rattle.limits.specs.Limits.{equationLimit}
-use Rattle.traces.specs.Compare.{Op, opOf}
-use Rattle.traces.specs.Compare.Op.{le, lt, eq, gt, ge}
+use Rattle.traces.specs.Compare.{opOf}
+use Rattle.traces.specs.declared.Op.{Op}
+use Rattle.traces.specs.declared.Op.the-variants.{AtMost as le, Below as lt, Equal as eq, Above as gt, AtLeast as ge}
 use Rattle.traces.specs.Trace.{nonzero}
 use Rattle.tables.specs.Table.{Equation, equationAt, Kind, kindOf, startedOf, verdictOf}
 use Rattle.tables.specs.Table.Kind.{signal, start, constant, negation, conjunction, disjunction, booleanPre}

@@ -10,7 +10,7 @@ use lib.ListN.{length, getD, take}
 use Prim.Native.String.{String}
 use Rattle.lists.specs.Text.{bytes, byte}
 use Rattle.traces.specs.Compare.{opNumber}
-use Rattle.traces.specs.Compare.Op.{le, lt, eq, gt, ge}
+use Rattle.traces.specs.declared.Op.the-variants.{AtMost as le, Below as lt, Equal as eq, Above as gt, AtLeast as ge}
 use Rattle.limits.specs.Limits.{equationLimit, lastLiteral}
 use Rattle.tables.specs.Kind.{SIGNAL, START, CONSTANT, NOT, AND, OR, BOOLEAN-PRE, COUNT-PRE, CAPPED, IF}
 use Rattle.tables.specs.Kind.{COMPARE-LITERAL, COMPARE-PARAMETER}

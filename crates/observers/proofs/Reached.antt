@@ -8,7 +8,7 @@ use lib.ListN.{length}
 use Rattle.limits.specs.Limits.{tableRoom, ruleEquations}
 use Rattle.lists.specs.Text.{bytes}
 use Rattle.lists.specs.Decimal.{isDigit, digitsAfter, numeral}
-use Rattle.traces.specs.Compare.Op.{lt}
+use Rattle.traces.specs.declared.Op.the-variants.{Below as lt}
 use Rattle.formulas.specs.Formula.{Formula}
 use Rattle.formulas.specs.Formula.Num.{literal}
 use Rattle.formulas.specs.Formula.Prop.{constant}

@@ -7,8 +7,9 @@ use Prim.Native.Nat.{ℕ, _+_, _-_}
 use lib.ListN.{length}
 use lib.Seq.{sets}
 use borrow.Author.Tests.{ne-eqb}
-use Rattle.traces.specs.Compare.{Op, opNumber}
-use Rattle.traces.specs.Compare.Op.{lt}
+use Rattle.traces.specs.Compare.{opNumber}
+use Rattle.traces.specs.declared.Op.{Op}
+use Rattle.traces.specs.declared.Op.the-variants.{Below as lt}
 use Rattle.formulas.specs.Formula.{Num}
 use Rattle.formulas.specs.Tree.{Tree, upper, leadTest, leadCount}
 use Rattle.formulas.specs.Tree.Tree.{neg, then, chop, exists, test, len, count, lag}

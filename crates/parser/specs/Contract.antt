@@ -6,7 +6,8 @@ use Prim.Native.Nat.{ℕ, _+_, _-_, _*_, _≤_, _<_}
 use lib.ListN.{length}
 use lib.Seq.{sets}
 use Rattle.limits.specs.Limits.{wordLimit}
-use Rattle.traces.specs.Compare.{Op, opNumber}
+use Rattle.traces.specs.Compare.{opNumber}
+use Rattle.traces.specs.declared.Op.{Op}
 use Rattle.formulas.specs.Formula.{Num}
 use Rattle.formulas.specs.Tree.{Tree, upper}
 use Rattle.formulas.specs.Arena

@@ -7,7 +7,8 @@ use Prim.Native.Nat.{ℕ, zero, suc, _<_, min}
 use native.Mathlib.Nat.{min-zero}
 use borrow.Author.Tests.{ltb-true}
 use Rattle.traces.specs.Trace.{Trace, parameterAt}
-use Rattle.traces.specs.Compare.{Op, opNumber, compares}
+use Rattle.traces.specs.Compare.{opNumber, compares}
+use Rattle.traces.specs.declared.Op.{Op}
 use Rattle.traces.proofs.Laws.{op-number}
 use Rattle.formulas.specs.Formula.{Num}
 use Rattle.formulas.specs.Formula.Num.{literal, parameter}

@@ -6,8 +6,9 @@ use native.Mathlib.Decide.{decLe}
 use native.Mathlib.Nat.{min-eq-right, min-zero}
 use native.Mathlib.Omega.{arith}
 use borrow.Author.Tests.{lt-leb, le-leb, lt-ltb, le-ltb, ne-eqb}
-use Rattle.traces.specs.Compare.{Op, compares}
-use Rattle.traces.specs.Compare.Op.{le, lt, eq, gt, ge}
+use Rattle.traces.specs.Compare.{compares}
+use Rattle.traces.specs.declared.Op.{Op}
+use Rattle.traces.specs.declared.Op.the-variants.{AtMost as le, Below as lt, Equal as eq, Above as gt, AtLeast as ge}
 use Rattle.flows.specs.Flow.{increased}
 
 -- What a comparison says of every number above n.

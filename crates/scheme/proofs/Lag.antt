@@ -10,7 +10,7 @@ use native.Mathlib.Omega.{arith}
 use lib.Dec.{leb, ltb}
 use borrow.Author.Tests.{le-leb, lt-ltb}
 use Rattle.traces.specs.Trace.{Trace, parameterAt}
-use Rattle.traces.specs.Compare.Op.{le, lt}
+use Rattle.traces.specs.declared.Op.the-variants.{AtMost as le, Below as lt}
 use Rattle.formulas.specs.Formula.{Num}
 use Rattle.formulas.specs.Formula.Num.{literal}
 use Rattle.formulas.specs.Meaning.{value, streak, lagged}

@@ -8,8 +8,9 @@ use native.Mathlib.Omega.{arith}
 use lib.ListN.{length}
 use borrow.Author.Tests.{ltb-true}
 use Rattle.traces.specs.Trace.{truth}
-use Rattle.traces.specs.Compare.{Op, opNumber}
-use Rattle.traces.specs.Compare.Op.{le, lt, eq, gt, ge}
+use Rattle.traces.specs.Compare.{opNumber}
+use Rattle.traces.specs.declared.Op.{Op}
+use Rattle.traces.specs.declared.Op.the-variants.{AtMost as le, Below as lt, Equal as eq, Above as gt, AtLeast as ge}
 use Rattle.formulas.specs.Formula.{Num}
 use Rattle.formulas.specs.Formula.Num.{literal, parameter}
 use Rattle.formulas.specs.Arena.{numKind}

@@ -9,8 +9,9 @@ use lib.Dec.{eqb}
 use lib.ListN.{length}
 use Rattle.lists.specs.Number.{numberAt}
 use Rattle.traces.specs.Trace.{truth}
-use Rattle.traces.specs.Compare.{Op, opNumber}
-use Rattle.traces.specs.Compare.Op.{lt}
+use Rattle.traces.specs.Compare.{opNumber}
+use Rattle.traces.specs.declared.Op.{Op}
+use Rattle.traces.specs.declared.Op.the-variants.{Below as lt}
 use Rattle.formulas.specs.Formula.{Num, Prop, Formula}
 use Rattle.formulas.specs.Formula.Prop.{constant, signal, negP, andP, orP}
 use Rattle.formulas.specs.Formula.Test.{begin, end, point, held, kept}

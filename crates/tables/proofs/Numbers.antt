@@ -20,15 +20,6 @@ use Rattle.tables.specs.declared.Sort.the-variants.{Boolean, Count}
 use Rattle.tables.specs.declared.Shape.{Shape}
 use Rattle.tables.proofs.Tests.{agrees}
 
--- k is none of the first m numbers, as the last arm of a match knows it.
-abbrev pub NoneOf : ℕ → ℕ → Type 0
-NoneOf k zero = Unit {0}
-NoneOf k (suc m) = NoneOf k m × (k ≡ m → ⊥)
-
-pub none-below : (k m : ℕ) → NoneOf k m → m ≤ k
-none-below k zero h = omega arith
-none-below k (suc m) h = let l = none-below k m (h .0) in let d = h .1 in omega arith
-
 -- The numbers by name are those of the list of kinds, in its order.
 numbered :
     map kindOf

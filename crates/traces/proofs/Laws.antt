@@ -1,11 +1,16 @@
--- Laws on truth values as numbers and on operator numbers. Assumes nothing.
+-- Laws on truth values as numbers, on operators by number, and on what an operator says. Assumes nothing.
 use mathlib.Core.Bool.{Bool, true, false}
+use mathlib.Core.Logic.{_↔_}
 use mathlib.Core.Path.{_≡_, refl}
 use Prim.Native.Nat.{ℕ, zero, suc, _≤_, _<_}
 use native.Mathlib.Omega.{arith}
+use borrow.Author.Tests.{leb-true, ltb-true, eqb-true, le-leb, lt-ltb, eq-eqb}
+use Rattle.limits.specs.Limits.{comparisonCount}
 use Rattle.traces.specs.Trace.{truth, idleVerdict, nonzero}
-use Rattle.traces.specs.Compare.{Op, opOf, opNumber}
-use Rattle.traces.specs.Compare.Op.{le, lt, eq, gt, ge}
+use Rattle.traces.specs.Compare.{opOf, opNumber, Numbered, compares, Compared}
+use Rattle.traces.specs.declared.Op.{Op}
+use Rattle.traces.specs.declared.Op.the-variants.{AtMost as le, Below as lt, Equal as eq, Above as gt}
+use Rattle.traces.specs.declared.Op.the-variants.{AtLeast as ge}
 
 -- A truth value as a number is read back as itself.
 pub nonzero-truth : (b : Bool) → nonzero (truth b) ≡ b
@@ -36,11 +41,32 @@ op-number eq = refl
 op-number gt = refl
 op-number ge = refl
 
--- and each number up to 4 is the number of its operator.
-pub number-op : (k : ℕ) → k < 5 → opNumber (opOf k) ≡ k
+-- each number up to 4 is the number of its operator,
+pub number-op : (k : ℕ) → k < comparisonCount → opNumber (opOf k) ≡ k
 number-op zero h = refl
 number-op (suc zero) h = refl
 number-op (suc (suc zero)) h = refl
 number-op (suc (suc (suc zero))) h = refl
 number-op (suc (suc (suc (suc zero)))) h = refl
 number-op (suc (suc (suc (suc (suc k))))) h = absurd (omega arith)
+
+-- the operators from 4 on are `>=`,
+pub op-last : (k : ℕ) → 4 ≤ k → opOf k ≡ ge
+op-last zero h = absurd (omega arith)
+op-last (suc zero) h = absurd (omega arith)
+op-last (suc (suc zero)) h = absurd (omega arith)
+op-last (suc (suc (suc zero))) h = absurd (omega arith)
+op-last (suc (suc (suc (suc zero)))) h = refl
+op-last (suc (suc (suc (suc (suc k))))) h = refl
+
+-- and so every number has its operator (SPEC 1.3).
+pub numbered : (k : ℕ) → Numbered k (opOf k)
+numbered k = (number-op k, λ h. op-last k (omega arith))
+
+-- An operator says yes exactly where it holds (SPEC 1.3).
+pub compared : (o : Op) (x n : ℕ) → (compares o x n ≡ true) ↔ Compared o x n
+compared le x n = (leb-true x n, le-leb x n)
+compared lt x n = (ltb-true x n, lt-ltb x n)
+compared eq x n = (eqb-true x n, eq-eqb x n)
+compared gt x n = (ltb-true n x, lt-ltb n x)
+compared ge x n = (leb-true n x, le-leb n x)

@@ -1,6 +1,9 @@
-// Ticks, and the numbers of the comparisons. What they mean is in specs/Trace.antt and specs/Compare.antt.
+// Ticks, and the five comparisons. What they mean is in specs/Trace.antt and specs/Compare.antt.
 ghost use mathlib.Core.Path.{_≡_};
+ghost use mathlib.Core.Bool.{true};
+ghost use mathlib.Core.Logic.{_↔_};
 ghost use Rattle.traces.specs.Trace.{tickOf};
+ghost use Rattle.traces.specs.Compare.{opOf, Numbered, compares, Compared};
 
 // SPEC 1.3: the numbers of `<=`, `<`, `=`, `>`, `>=`.
 pub const AT_MOST: u32 = 0;
@@ -12,6 +15,15 @@ pub const EQUAL: u32 = 2;
 pub const ABOVE: u32 = 3;
 
 pub const AT_LEAST: u32 = 4;
+
+// SPEC 1.3: the comparisons, in the order of their numbers.
+pub enum Op {
+    AtMost,
+    Below,
+    Equal,
+    Above,
+    AtLeast,
+}
 
 // SPEC 4.10: the verdict of a watch that has not been started yet, idle.
 pub const IDLE: u32 = 2;
@@ -31,5 +43,34 @@ pub fn tick_of(start: u32, signals: u64, parameters: [u32; limits::PARAMETERS]) 
         start,
         signals,
         parameters,
+    }
+}
+
+// The comparison of that number (SPEC 1.3). A number above 4 is none's, and a table that has one is refused by 11; here
+// it stands for `>=`.
+pub fn op_of(number: u32) -> Op
+    ensures { λ r. ⌜ r ≡ opOf number ⌝ }
+    ensures { λ r. ⌜ Numbered number r ⌝ }
+{
+    match number {
+        AT_MOST => Op::AtMost,
+        BELOW => Op::Below,
+        EQUAL => Op::Equal,
+        ABOVE => Op::Above,
+        _ => Op::AtLeast,
+    }
+}
+
+// Whether x compares so with y (SPEC 1.3): the one place where an operator is applied to two numbers.
+pub fn holds(op: Op, x: u32, y: u32) -> bool
+    ensures { λ r. ⌜ r ≡ compares op x y ⌝ }
+    ensures { λ r. ⌜ (r ≡ true) ↔ Compared op x y ⌝ }
+{
+    match op {
+        Op::AtMost => x <= y,
+        Op::Below => x < y,
+        Op::Equal => x == y,
+        Op::Above => x > y,
+        Op::AtLeast => x >= y,
     }
 }

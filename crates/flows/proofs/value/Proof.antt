@@ -2,7 +2,8 @@
 use mathlib.Core.Path.{ap, _∙_}
 use Rattle.traces.specs.Trace.{truth}
 use Rattle.flows.proofs.Numbers.{positive, is-zero}
-use Rattle.tables.proofs.Numbers.{kind-beyond, none-below}
+use Rattle.lists.proofs.Choice.{none-below}
+use Rattle.tables.proofs.Numbers.{kind-beyond}
 use Rattle.tables.specs.Kind.{kindCount}
 use Rattle.tables.specs.Table.{kindOf}
 use Rattle.flows.specs.Flow.{valueOf}

@@ -3,7 +3,8 @@
 use borrow.Author.Needs.{needs}
 use Rattle.tables.specs.Kind.{kindCount}
 use Rattle.tables.specs.Table.{kindOf}
-use Rattle.tables.proofs.Numbers.{none-below, kind-beyond}
+use Rattle.lists.proofs.Choice.{none-below}
+use Rattle.tables.proofs.Numbers.{kind-beyond}
 use Rattle.lustre.specs.Form.{forms, firstOf, firstForm, formNumber}
 use Rattle.lustre_write.proofs.form_of.Statement.{statement}
 use Rattle.lustre_write.proofs.form_of.Tie as tie

@@ -1,7 +1,7 @@
 -- `tables::equation_fits` meets its contract: each arm reads what A, B and C have to be in the row of its own number
 -- and tests them by it. One law, `row-fits`, is for all twelve: the search finds the arm's number, the three operands
 -- and the test among the places before it. Assumes nothing.
-use Rattle.tables.proofs.Numbers.{none-below}
+use Rattle.lists.proofs.Choice.{none-below}
 use Rattle.tables.proofs.Checks.{row-fits, no-row}
 use Rattle.tables.specs.Kind.{kindCount}
 use borrow.Author.Needs.{needs}

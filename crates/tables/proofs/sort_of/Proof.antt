@@ -1,6 +1,7 @@
 -- `tables::sort_of` meets its contract: each arm reads the sort in the row of its own number. One law, `row-gives`, is
 -- for all twelve: the search finds the arm's number and the sort among the places before it. Assumes nothing.
-use Rattle.tables.proofs.Numbers.{kind-beyond, none-below, row-gives}
+use Rattle.lists.proofs.Choice.{none-below}
+use Rattle.tables.proofs.Numbers.{kind-beyond, row-gives}
 use Rattle.tables.specs.Kind.{kindCount}
 use Rattle.tables.specs.Table.{shapeOf}
 use borrow.Author.Needs.{needs}
