@@ -1,11 +1,18 @@
 -- The promises of specs/Promises.antt, from the theorems of the crates. Assumes nothing.
+use mathlib.Core.Bool.{Bool, true, false, false≢true}
 use mathlib.Core.List.{List, _++_}
+use mathlib.Core.Logic.{_↔_}
 use mathlib.Core.Option.{Option, some}
 use mathlib.Core.Path.{_≡_, refl, sym, ap, subst, subst₂, _∙_}
 use Prim.Native.Nat.{ℕ, _*_, _≤_, _<_}
 use native.Mathlib.Omega.{arith}
 use lib.ListN.{length, take}
 use Rattle.limits.specs.Limits.{standardCap, tableRoom, ruleEquations}
+use Rattle.traces.specs.Trace.{truth, parameterAt}
+use Rattle.traces.specs.Compare.{opOf}
+use Rattle.traces.specs.declared.Op.the-variants.{AtMost, Below, Equal, Above, AtLeast}
+use Rattle.traces.proofs.Laws as compare
+use Rattle.traces.proofs.Laws.{compared}
 use Rattle.formulas.specs.Formula.{Formula}
 use Rattle.formulas.specs.Tree.{Tree, formulaOf}
 use Rattle.formulas.proofs.Laws.{means}
@@ -17,6 +24,7 @@ use Rattle.rules.specs.Computed.{ruleOf}
 use Rattle.rules.specs.Contract.{answerOf}
 use Rattle.rules.proofs.Theorems.{has-outcome, computed, one-outcome, numbered, accepted, has-formula}
 use Rattle.rules.proofs.SameRule.{one-answer, same-tree, not-refused}
+use Rattle.flows.specs.Flow.{valueOf}
 use Rattle.flows.proofs.Lists.{runs-as-lustre}
 use Rattle.agreement.specs.Agreement.{Closing, ExactMemories, FewMemories, Observes}
 use Rattle.agreement.proofs.Memories.{few-memories}
@@ -28,7 +36,7 @@ use Rattle.observers.proofs.SameRule.{refused-equations}
 use Rattle.lustre.proofs.Theorems as lustre
 use Rattle.player.specs.Card.{printed}
 use Rattle.player.proofs.Shown.{shown, one-output}
-use Rattle.promises.specs.Promises.{Reading, Meaning, Compiling, RoundTrips, Promises}
+use Rattle.promises.specs.Promises.{Reading, Meaning, Whether, Comparing, Compiling, RoundTrips, Promises}
 
 reading : Reading
 reading =
@@ -41,6 +49,26 @@ reading =
       one-answer = λ text r r′ h k.
           h .answer ∙ ap answerOf (one-outcome text (h .outcome) (k .outcome) (h .has) (k .has)) ∙ sym (k .answer);
       one-comparison = λ a b r r′ h k. one-answer h k;
+    }
+
+-- A truth value as a number.
+whether : {P : Type 0} (b : Bool) → (b ≡ true) ↔ P → Whether P (truth b)
+whether true h = ((λ e. h .0 refl, λ p. refl), (λ e. absurd (omega arith), λ no. absurd (no (h .0 refl))))
+whether false h =
+    ((λ e. absurd (omega arith), λ p. absurd (false≢true (h .1 p))), (λ e p. false≢true (h .1 p), λ no. refl))
+
+comparing : Comparing
+unfolding valueOf
+comparing =
+    record {
+      at-most = compared AtMost;
+      below = compared Below;
+      equal = compared Equal;
+      above = compared Above;
+      at-least = compared AtLeast;
+      numbered = compare.numbered;
+      literal = λ cap k flow cell e. whether _ (compared (opOf (e .b)) (flow (e .a)) (e .c));
+      parameter = λ cap k flow cell e. whether _ (compared (opOf (e .b)) (flow (e .a)) (parameterAt k (e .c)));
     }
 
 -- What compiling gives for a refused text, for a rule and too short a table,
@@ -114,6 +142,7 @@ kept =
       reading = reading;
       meaning = λ trace. record { clauses = means trace; only = λ At On v laws. only-verdict trace At On v laws };
       running = λ t n e. runs-as-lustre standardCap t n e;
+      comparing = comparing;
       compiling = record {
         refuses = refused-text;
         no-room = short-table;

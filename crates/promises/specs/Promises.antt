@@ -21,7 +21,10 @@ use mathlib.Core.Path.{_≡_}
 use Prim.Native.Nat.{ℕ, _*_, _≤_, _<_}
 use lib.ListN.{length, take, drop}
 use Rattle.limits.specs.Limits.{standardCap, tableRoom, ruleEquations}
-use Rattle.traces.specs.Trace.{Trace}
+use Rattle.traces.specs.Trace.{Trace, parameterAt}
+use Rattle.traces.specs.Compare.{opOf, Numbered, compares, Compared}
+use Rattle.traces.specs.declared.Op.the-variants.{AtMost, Below, Equal, Above, AtLeast}
+use Rattle.traces.specs.declared.Tick.{Tick}
 use Rattle.formulas.specs.Formula.{Formula, Prop}
 use Rattle.formulas.specs.Tree.{Tree, formulaOf}
 use Rattle.formulas.specs.Meaning.{at, meaning, verdict}
@@ -32,8 +35,10 @@ use Rattle.rules.specs.Contract.{Told}
 use Rattle.rules.specs.Same.{SameAnswer}
 use Rattle.rules.specs.declared.Read.{Read}
 use Rattle.rules.specs.declared.Same.{Same}
-use Rattle.tables.specs.Table.{checked}
+use Rattle.tables.specs.Table.{Equation, checked}
+use Rattle.tables.specs.Table.Kind.{compareLiteral, compareParameter}
 use Rattle.tables.specs.declared.Checked.the-variants.{Passed}
+use Rattle.flows.specs.Flow.{valueOf}
 use Rattle.flows.specs.Lustre.{RunsAsLustre}
 use Rattle.agreement.specs.Agreement.{Closing, ExactMemories, FewMemories, Observes}
 use Rattle.observers.specs.Demand.{Compiles}
@@ -66,6 +71,26 @@ pub record Meaning (trace : Trace) : Type 1 where
   pub clauses : Means trace (λ p i. at trace p i ≡ true) (λ f b e. meaning trace f b e ≡ true) (verdict trace)
   pub only : (At : Prop → ℕ → Type 0) (On : Formula → ℕ → ℕ → Type 0) (v : Formula → ℕ → ℕ) → Means trace At On v
       → (f : Formula) (e : ℕ) → v f e ≡ verdict trace f e
+
+-- SPEC 5.2: v is 1 exactly where P holds, and 0 exactly where it does not.
+abbrev pub Whether : Type 0 → ℕ → Type 0
+Whether P v = ((v ≡ 1) ↔ P) × ((v ≡ 0) ↔ (¬ P))
+
+-- SPEC 1.3: what each comparison says of two whole numbers, and so of any two of 32 bits; `traces::holds`, the one
+-- place in the code that compares by operator, answers by `compares`. A comparison's number goes by `opOf`.
+pub record Comparing : Type 0 where
+  pub at-most : (x y : ℕ) → (compares AtMost x y ≡ true) ↔ (x ≤ y)
+  pub below : (x y : ℕ) → (compares Below x y ≡ true) ↔ (x < y)
+  pub equal : (x y : ℕ) → (compares Equal x y ≡ true) ↔ (x ≡ y)
+  pub above : (x y : ℕ) → (compares Above x y ≡ true) ↔ (y < x)
+  pub at-least : (x y : ℕ) → (compares AtLeast x y ≡ true) ↔ (y ≤ x)
+  pub numbered : (k : ℕ) → Numbered k (opOf k)
+  -- SPEC 5.3: an equation of kind 10 or 11 says whether its count compares so with the literal, the parameter's value.
+  pub literal : (cap : ℕ) (k : Tick) (flow : ℕ → ℕ) (cell : ℕ) (e : Equation)
+      → Whether (Compared (opOf (e .b)) (flow (e .a)) (e .c)) (valueOf cap k flow cell compareLiteral e)
+  pub parameter : (cap : ℕ) (k : Tick) (flow : ℕ → ℕ) (cell : ℕ) (e : Equation)
+      → Whether (Compared (opOf (e .b)) (flow (e .a)) (parameterAt k (e .c)))
+      (valueOf cap k flow cell compareParameter e)
 
 -- SPEC 12.2 (demand 2), its part on runs of a table: SPEC 6.4, with counts up to the cap (SPEC 5.2).
 abbrev pub Running : Type 0
@@ -116,6 +141,7 @@ pub record Cards : Type 0 where
 pub record Promises : Type 1 where
   pub reading : Reading
   pub meaning : (trace : Trace) → Meaning trace
+  pub comparing : Comparing
   pub running : Running
   pub compiling : Compiling
   pub round-trips : RoundTrips

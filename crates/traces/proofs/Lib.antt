@@ -1,2 +1,3 @@
--- Laws on ticks and comparisons.
+-- Laws on ticks and comparisons, and rows.
 pub mod Laws
+pub mod Rows
