@@ -16,13 +16,14 @@ pub const ABOVE: u32 = 3;
 
 pub const AT_LEAST: u32 = 4;
 
-// SPEC 1.3: the comparisons, in the order of their numbers.
+// SPEC 1.3: the comparisons, from low to high. In the order of their numbers the compiler would turn a number into the
+// comparison first and then branch; so it makes one branch of `op_of` and `holds`.
 pub enum Op {
-    AtMost,
     Below,
+    AtMost,
     Equal,
-    Above,
     AtLeast,
+    Above,
 }
 
 // SPEC 4.10: the verdict of a watch that has not been started yet, idle.
