@@ -12,7 +12,7 @@ pub fn is_count(kind: u32) -> bool {
 }
 
 /// SPEC 5.1: equation i as kind, A, B, C.
-fn equation(table: &[u32], i: usize) -> [u32; 4] {
+pub fn equation(table: &[u32], i: usize) -> [u32; 4] {
     [table[4 * i], table[4 * i + 1], table[4 * i + 2], table[4 * i + 3]]
 }
 

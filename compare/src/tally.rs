@@ -5,6 +5,7 @@ use crate::rule::meaning::IDLE;
 use crate::rule::{Around, Delay, Limit, Root, AROUND, DELAYS, OPS, TESTS};
 use crate::table::lustre::WRONG_ENDS;
 use crate::table::{Flaw, CLOSING};
+use std::cmp::Ordering;
 use std::collections::BTreeMap;
 
 /// Something that a run of the comparison has to have seen. A number that is not said to be another is a refusal's, 0
@@ -44,6 +45,8 @@ pub enum Outcome {
     TableTurn(u32, u32),
     /// The value of an equation of this kind in a step: 0, 1, or 2 for any count above 1.
     Flow(u32, u32),
+    /// An equation of kind 10 or 11 in a step, with its operator, and how its count is to the other number.
+    Compared(u32, u32, Ordering),
     /// A fresh state of 4,096 equations, and a Lustre text of 4,096 that is read.
     LargestTable,
     LargestText,
@@ -182,6 +185,7 @@ fn wanted() -> Vec<(Outcome, u64)> {
     want(50_000, &mut (0..3).map(Outcome::TableAnswer));
     want(2000, &mut (0..3).flat_map(|from| (0..3).map(move |to| Outcome::TableTurn(from, to))));
     want(2000, &mut flows());
+    want(2000, &mut comparisons());
     want(500, &mut std::iter::once(Outcome::AtCap));
     want(5, &mut [Outcome::LargestTable, Outcome::LargestText].into_iter());
     want(500, &mut (0..=12).map(|k| Outcome::Flawed(Flaw::Equation(k))));
@@ -217,6 +221,13 @@ fn roots() -> Vec<Root> {
 /// Both values of each boolean kind; 0, 1 and more of each kind of count.
 fn flows() -> impl Iterator<Item = Outcome> {
     (0..12).flat_map(|k| (0..if crate::table::is_count(k) { 3 } else { 2 }).map(move |v| Outcome::Flow(k, v)))
+}
+
+/// Each of the five operators on a count that is less, equal and greater, in both kinds that compare.
+fn comparisons() -> impl Iterator<Item = Outcome> {
+    let ways = [Ordering::Less, Ordering::Equal, Ordering::Greater];
+    let of_kind = move |k| (0..5).flat_map(move |op| ways.map(|way| Outcome::Compared(k, op, way)));
+    [10, 11].into_iter().flat_map(of_kind)
 }
 
 fn orders() -> impl Iterator<Item = Outcome> {

@@ -54,12 +54,16 @@ impl Case {
     }
 }
 
-/// Counts the values of a step's equations, by kind.
-fn count_flows(tally: &mut Tally, case: &Case, values: &[u32]) {
+/// Counts the values of a step's equations, by kind, and what was compared.
+fn count_flows(tally: &mut Tally, case: &Case, values: &[u32], tick: &Tick) {
     for i in 0..case.said {
-        let kind = case.table[4 * i];
+        let [kind, a, b, c] = table::equation(&case.table, i);
         tally.add(Outcome::Flow(kind, values[i].min(2)));
-        if kind == 8 && values[i] == 1_000_000 && values[case.table[4 * i + 1] as usize] == 1_000_000 {
+        if let 10 | 11 = kind {
+            let other = if kind == 10 { c } else { tick.parameters[c as usize] };
+            tally.add(Outcome::Compared(kind, b, values[a as usize].cmp(&other)));
+        }
+        if kind == 8 && values[i] == 1_000_000 && values[a as usize] == 1_000_000 {
             tally.add(Outcome::AtCap);
         }
     }
@@ -113,6 +117,6 @@ fn step_case(run: &mut Run, case: &Case, state: &mut Vec<u32>, parameters: &[u32
         return None;
     }
     run.tally.add(Outcome::TableAnswer(answer.result));
-    count_flows(&mut run.tally, case, &values);
+    count_flows(&mut run.tally, case, &values, &tick);
     Some(answer.result)
 }
