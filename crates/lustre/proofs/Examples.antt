@@ -1,6 +1,6 @@
--- The texts that SPEC 5.3 has for the kinds, and a whole text (SPEC 9.1): the definitions write them so. Tables that
--- do not close as SPEC 5.5 says, which writing refuses. Assumes nothing.
-use mathlib.Core.List.{List, [], _∷_}
+-- The texts that SPEC 5.3 has for the kinds, those of the comparisons (SPEC 9.4), and a whole text (SPEC 9.1): the
+-- definitions write them so. Tables that do not close as SPEC 5.5 says, which writing refuses. Assumes nothing.
+use mathlib.Core.List.{List, [], _∷_, map}
 use mathlib.Core.Path.{_≡_, refl}
 use Prim.Native.Nat.{ℕ}
 use Rattle.lists.specs.Text.{bytes}
@@ -47,6 +47,20 @@ column =
       kind10 = refl;
       kind11 = refl;
     }
+
+-- SPEC 9.4: the five comparisons by number, of kinds 10 and 11.
+abbrev five : (ℕ → List ℕ) → List (List ℕ)
+five f = map f (0 ∷ 1 ∷ 2 ∷ 3 ∷ 4 ∷ [])
+
+literals-spelled : five (λ b. endOf 10 9 b 7)
+    ≡ bytes "f9<=7" ∷ bytes "f9<7" ∷ bytes "f9=7" ∷ bytes "f9>7" ∷ bytes "f9>=7" ∷ []
+unfolding valueText kindOf digits numberText
+literals-spelled = refl
+
+parameters-spelled : five (λ b. endOf 11 9 b 7)
+    ≡ bytes "f9<=k7" ∷ bytes "f9<k7" ∷ bytes "f9=k7" ∷ bytes "f9>k7" ∷ bytes "f9>=k7" ∷ []
+unfolding valueText kindOf digits numberText
+parameters-spelled = refl
 
 -- SPEC 9.1: a text of two equations, which close the table (SPEC 5.5).
 whole : textOf (1 ∷ 0 ∷ 0 ∷ 0 ∷ 3 ∷ 0 ∷ 0 ∷ 0 ∷ []) 2 ≡ bytes "let\nf0=b;\nf1=not f0;\nw=f0;\na=f1;\ntel\n"

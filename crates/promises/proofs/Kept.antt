@@ -11,8 +11,7 @@ use Rattle.limits.specs.Limits.{standardCap, tableRoom, ruleEquations}
 use Rattle.traces.specs.Trace.{truth, parameterAt}
 use Rattle.traces.specs.Compare.{opOf}
 use Rattle.traces.specs.declared.Op.the-variants.{AtMost, Below, Equal, Above, AtLeast}
-use Rattle.traces.proofs.Laws as compare
-use Rattle.traces.proofs.Laws.{compared}
+use Rattle.traces.proofs.Laws.{op-last, compared}
 use Rattle.formulas.specs.Formula.{Formula}
 use Rattle.formulas.specs.Tree.{Tree, formulaOf}
 use Rattle.formulas.proofs.Laws.{means}
@@ -24,6 +23,7 @@ use Rattle.rules.specs.Computed.{ruleOf}
 use Rattle.rules.specs.Contract.{answerOf}
 use Rattle.rules.proofs.Theorems.{has-outcome, computed, one-outcome, numbered, accepted, has-formula}
 use Rattle.rules.proofs.SameRule.{one-answer, same-tree, not-refused}
+use Rattle.tables.specs.Table.{kindOf}
 use Rattle.flows.specs.Flow.{valueOf}
 use Rattle.flows.proofs.Lists.{runs-as-lustre}
 use Rattle.agreement.specs.Agreement.{Closing, ExactMemories, FewMemories, Observes}
@@ -58,7 +58,7 @@ whether false h =
     ((λ e. absurd (omega arith), λ p. absurd (false≢true (h .1 p))), (λ e p. false≢true (h .1 p), λ no. refl))
 
 comparing : Comparing
-unfolding valueOf
+unfolding valueOf kindOf
 comparing =
     record {
       at-most = compared AtMost;
@@ -66,7 +66,8 @@ comparing =
       equal = compared Equal;
       above = compared Above;
       at-least = compared AtLeast;
-      numbered = compare.numbered;
+      numbers = refl;
+      beyond = λ k h. op-last k (omega arith);
       literal = λ cap k flow cell e. whether _ (compared (opOf (e .b)) (flow (e .a)) (e .c));
       parameter = λ cap k flow cell e. whether _ (compared (opOf (e .b)) (flow (e .a)) (parameterAt k (e .c)));
     }
@@ -141,8 +142,8 @@ kept =
     record {
       reading = reading;
       meaning = λ trace. record { clauses = means trace; only = λ At On v laws. only-verdict trace At On v laws };
-      running = λ t n e. runs-as-lustre standardCap t n e;
       comparing = comparing;
+      running = λ t n e. runs-as-lustre standardCap t n e;
       compiling = record {
         refuses = refused-text;
         no-room = short-table;

@@ -14,7 +14,7 @@
 --   read_lustre    AfterRead      lustre/specs/Read.antt            a text, the answer, the table before and after
 --   towerwatch     Shows          player/specs/Shows.antt           a card and what is printed
 use mathlib.Core.Bool.{true}
-use mathlib.Core.List.{List, _++_}
+use mathlib.Core.List.{List, [], _∷_, _++_, map}
 use mathlib.Core.Logic.{_↔_}
 use mathlib.Core.Option.{some}
 use mathlib.Core.Path.{_≡_}
@@ -22,7 +22,7 @@ use Prim.Native.Nat.{ℕ, _*_, _≤_, _<_}
 use lib.ListN.{length, take, drop}
 use Rattle.limits.specs.Limits.{standardCap, tableRoom, ruleEquations}
 use Rattle.traces.specs.Trace.{Trace, parameterAt}
-use Rattle.traces.specs.Compare.{opOf, Numbered, compares, Compared}
+use Rattle.traces.specs.Compare.{opOf, compares, Compared}
 use Rattle.traces.specs.declared.Op.the-variants.{AtMost, Below, Equal, Above, AtLeast}
 use Rattle.traces.specs.declared.Tick.{Tick}
 use Rattle.formulas.specs.Formula.{Formula, Prop}
@@ -35,8 +35,7 @@ use Rattle.rules.specs.Contract.{Told}
 use Rattle.rules.specs.Same.{SameAnswer}
 use Rattle.rules.specs.declared.Read.{Read}
 use Rattle.rules.specs.declared.Same.{Same}
-use Rattle.tables.specs.Table.{Equation, checked}
-use Rattle.tables.specs.Table.Kind.{compareLiteral, compareParameter}
+use Rattle.tables.specs.Table.{Equation, kindOf, checked}
 use Rattle.tables.specs.declared.Checked.the-variants.{Passed}
 use Rattle.flows.specs.Flow.{valueOf}
 use Rattle.flows.specs.Lustre.{RunsAsLustre}
@@ -72,25 +71,27 @@ pub record Meaning (trace : Trace) : Type 1 where
   pub only : (At : Prop → ℕ → Type 0) (On : Formula → ℕ → ℕ → Type 0) (v : Formula → ℕ → ℕ) → Means trace At On v
       → (f : Formula) (e : ℕ) → v f e ≡ verdict trace f e
 
--- SPEC 5.2: v is 1 exactly where P holds, and 0 exactly where it does not.
+-- SPEC 5.3: v is 1 exactly where P holds, and 0 exactly where it does not.
 abbrev pub Whether : Type 0 → ℕ → Type 0
 Whether P v = ((v ≡ 1) ↔ P) × ((v ≡ 0) ↔ (¬ P))
 
--- SPEC 1.3: what each comparison says of two whole numbers, and so of any two of 32 bits; `traces::holds`, the one
--- place in the code that compares by operator, answers by `compares`. A comparison's number goes by `opOf`.
+-- SPEC 1.3: what each comparison says of two whole numbers, and so of any two of 32 bits; which comparison each number
+-- stands for. `traces::holds`, the one place in the code that compares by operator, answers by `compares`, and
+-- `traces::op_of` by `opOf`.
 pub record Comparing : Type 0 where
   pub at-most : (x y : ℕ) → (compares AtMost x y ≡ true) ↔ (x ≤ y)
   pub below : (x y : ℕ) → (compares Below x y ≡ true) ↔ (x < y)
   pub equal : (x y : ℕ) → (compares Equal x y ≡ true) ↔ (x ≡ y)
   pub above : (x y : ℕ) → (compares Above x y ≡ true) ↔ (y < x)
   pub at-least : (x y : ℕ) → (compares AtLeast x y ≡ true) ↔ (y ≤ x)
-  pub numbered : (k : ℕ) → Numbered k (opOf k)
+  pub numbers : map opOf (0 ∷ 1 ∷ 2 ∷ 3 ∷ 4 ∷ []) ≡ AtMost ∷ Below ∷ Equal ∷ Above ∷ AtLeast ∷ []
+  pub beyond : (k : ℕ) → 4 < k → opOf k ≡ AtLeast
   -- SPEC 5.3: an equation of kind 10 or 11 says whether its count compares so with the literal, the parameter's value.
   pub literal : (cap : ℕ) (k : Tick) (flow : ℕ → ℕ) (cell : ℕ) (e : Equation)
-      → Whether (Compared (opOf (e .b)) (flow (e .a)) (e .c)) (valueOf cap k flow cell compareLiteral e)
+      → Whether (Compared (opOf (e .b)) (flow (e .a)) (e .c)) (valueOf cap k flow cell (kindOf 10) e)
   pub parameter : (cap : ℕ) (k : Tick) (flow : ℕ → ℕ) (cell : ℕ) (e : Equation)
       → Whether (Compared (opOf (e .b)) (flow (e .a)) (parameterAt k (e .c)))
-      (valueOf cap k flow cell compareParameter e)
+      (valueOf cap k flow cell (kindOf 11) e)
 
 -- SPEC 12.2 (demand 2), its part on runs of a table: SPEC 6.4, with counts up to the cap (SPEC 5.2).
 abbrev pub Running : Type 0

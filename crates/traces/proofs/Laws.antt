@@ -7,7 +7,7 @@ use native.Mathlib.Omega.{arith}
 use borrow.Author.Tests.{leb-true, ltb-true, eqb-true, le-leb, lt-ltb, eq-eqb}
 use Rattle.limits.specs.Limits.{comparisonCount}
 use Rattle.traces.specs.Trace.{truth, idleVerdict, nonzero}
-use Rattle.traces.specs.Compare.{opOf, opNumber, Numbered, compares, Compared}
+use Rattle.traces.specs.Compare.{opOf, opNumber, compares, Compared}
 use Rattle.traces.specs.declared.Op.{Op}
 use Rattle.traces.specs.declared.Op.the-variants.{AtMost as le, Below as lt, Equal as eq, Above as gt}
 use Rattle.traces.specs.declared.Op.the-variants.{AtLeast as ge}
@@ -50,7 +50,7 @@ number-op (suc (suc (suc zero))) h = refl
 number-op (suc (suc (suc (suc zero)))) h = refl
 number-op (suc (suc (suc (suc (suc k))))) h = absurd (omega arith)
 
--- the operators from 4 on are `>=`,
+-- and the operators from 4 on are `>=`.
 pub op-last : (k : ℕ) → 4 ≤ k → opOf k ≡ ge
 op-last zero h = absurd (omega arith)
 op-last (suc zero) h = absurd (omega arith)
@@ -58,10 +58,6 @@ op-last (suc (suc zero)) h = absurd (omega arith)
 op-last (suc (suc (suc zero))) h = absurd (omega arith)
 op-last (suc (suc (suc (suc zero)))) h = refl
 op-last (suc (suc (suc (suc (suc k))))) h = refl
-
--- and so every number has its operator (SPEC 1.3).
-pub numbered : (k : ℕ) → Numbered k (opOf k)
-numbered k = (number-op k, λ h. op-last k (omega arith))
 
 -- An operator says yes exactly where it holds (SPEC 1.3).
 pub compared : (o : Op) (x n : ℕ) → (compares o x n ≡ true) ↔ Compared o x n

@@ -1,12 +1,11 @@
--- The five comparisons, in the order of their numbers: the type `Op` of the code, named le, lt, eq, gt, ge here.
--- Definitions only.
+-- The five comparisons: their numbers, and what each says of two numbers. They are the type `Op` of the code; here and
+-- in all definitions its five are named le, lt, eq, gt, ge. Definitions only.
 use mathlib.Core.Bool.{Bool}
 use mathlib.Core.List.{List, [], _∷_}
 use mathlib.Core.Path.{_≡_}
 use Prim.Native.Nat.{ℕ, _≤_, _<_}
 use lib.Dec.{leb, ltb, eqb}
 use lib.ListN.{getD}
-use Rattle.limits.specs.Limits.{comparisonCount}
 use Rattle.traces.specs.declared.Op.{Op}
 use Rattle.traces.specs.declared.Op.the-variants.{AtMost as le, Below as lt, Equal as eq, Above as gt}
 use Rattle.traces.specs.declared.Op.the-variants.{AtLeast as ge}
@@ -26,10 +25,6 @@ opNumber lt = 1
 opNumber eq = 2
 opNumber gt = 3
 opNumber ge = 4
-
--- SPEC 1.3: o is the operator whose number is k; of a number above 4 it is `>=`.
-abbrev pub Numbered : ℕ → Op → Type 0
-Numbered k o = (k < comparisonCount → opNumber o ≡ k) × (comparisonCount ≤ k → o ≡ ge)
 
 -- SPEC 1.3, SPEC 4.8: x compared with n; both are whole numbers, of any size.
 abbrev pub compares : Op → ℕ → ℕ → Bool

@@ -3,7 +3,9 @@ ghost use mathlib.Core.Path.{_≡_};
 ghost use mathlib.Core.Bool.{true};
 ghost use mathlib.Core.Logic.{_↔_};
 ghost use Rattle.traces.specs.Trace.{tickOf};
-ghost use Rattle.traces.specs.Compare.{opOf, Numbered, compares, Compared};
+ghost use Prim.Native.Nat.{_≤_, _<_};
+ghost use Rattle.limits.specs.Limits.{comparisonCount};
+ghost use Rattle.traces.specs.Compare.{opOf, opNumber, compares, Compared};
 
 // SPEC 1.3: the numbers of `<=`, `<`, `=`, `>`, `>=`.
 pub const AT_MOST: u32 = 0;
@@ -16,8 +18,8 @@ pub const ABOVE: u32 = 3;
 
 pub const AT_LEAST: u32 = 4;
 
-// SPEC 1.3: the comparisons, from low to high. In the order of their numbers the compiler would turn a number into the
-// comparison first and then branch; so it makes one branch of `op_of` and `holds`.
+// SPEC 1.3: the comparisons. This order means nothing; `holds` has them in the order of their numbers. Declared in that
+// order, the compiled step limits a number to 4 before it branches, and in this one it just branches.
 pub enum Op {
     Below,
     AtMost,
@@ -51,7 +53,7 @@ pub fn tick_of(start: u32, signals: u64, parameters: [u32; limits::PARAMETERS]) 
 // it stands for `>=`.
 pub fn op_of(number: u32) -> Op
     ensures { λ r. ⌜ r ≡ opOf number ⌝ }
-    ensures { λ r. ⌜ Numbered number r ⌝ }
+    ensures { λ r. ⌜ (number < comparisonCount → opNumber r ≡ number) × (comparisonCount ≤ number → r ≡ Op.AtLeast) ⌝ }
 {
     match number {
         AT_MOST => Op::AtMost,
