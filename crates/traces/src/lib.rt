@@ -2,9 +2,9 @@
 ghost use mathlib.Core.Path.{_≡_};
 ghost use mathlib.Core.Bool.{true};
 ghost use mathlib.Core.Logic.{_↔_};
-ghost use Rattle.traces.specs.Trace.{tickOf};
 ghost use Prim.Native.Nat.{_≤_, _<_};
 ghost use Rattle.limits.specs.Limits.{comparisonCount};
+ghost use Rattle.traces.specs.Trace.{tickOf};
 ghost use Rattle.traces.specs.Compare.{opOf, opNumber, compares, Compared};
 
 // SPEC 1.3: the numbers of `<=`, `<`, `=`, `>`, `>=`.
