@@ -45,7 +45,8 @@ pub enum Outcome {
     TableTurn(u32, u32),
     /// The value of an equation of this kind in a step: 0, 1, or 2 for any count above 1.
     Flow(u32, u32),
-    /// An equation of kind 10 or 11 in a step, with its operator, and how its count is to the other number.
+    /// An equation of kind 10 or 11 in a step, with its operator, and whether its count is less than, equal to or
+    /// greater than the other number.
     Compared(u32, u32, Ordering),
     /// A fresh state of 4,096 equations, and a Lustre text of 4,096 that is read.
     LargestTable,

@@ -86,7 +86,8 @@ pub record Comparing : Type 0 where
   pub at-least : (x y : ℕ) → (compares AtLeast x y ≡ true) ↔ (y ≤ x)
   pub numbers : map opOf (0 ∷ 1 ∷ 2 ∷ 3 ∷ 4 ∷ []) ≡ AtMost ∷ Below ∷ Equal ∷ Above ∷ AtLeast ∷ []
   pub beyond : (k : ℕ) → 4 < k → opOf k ≡ AtLeast
-  -- SPEC 5.3: an equation of kind 10 or 11 says whether its count compares so with the literal, the parameter's value.
+  -- SPEC 5.3: an equation of kind 10 says whether its count compares so with the literal, one of kind 11 whether it
+  -- does with the parameter's value.
   pub literal : (cap : ℕ) (k : Tick) (flow : ℕ → ℕ) (cell : ℕ) (e : Equation)
       → Whether (Compared (opOf (e .b)) (flow (e .a)) (e .c)) (valueOf cap k flow cell (kindOf 10) e)
   pub parameter : (cap : ℕ) (k : Tick) (flow : ℕ → ℕ) (cell : ℕ) (e : Equation)

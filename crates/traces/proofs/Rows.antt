@@ -6,7 +6,7 @@ use Prim.Native.Nat.{ℕ}
 use Rattle.traces.specs.Compare.{opOf, compares}
 use Rattle.traces.specs.declared.Op.the-variants.{AtMost, Below, Equal, Above, AtLeast}
 
--- SPEC 1.3: the comparisons by number, and two numbers that are none's, in the code's names.
+-- SPEC 1.3: the comparisons by number, and two numbers of no comparison, in the code's names.
 number-rows : map opOf (0 ∷ 1 ∷ 2 ∷ 3 ∷ 4 ∷ 5 ∷ 4294967295 ∷ [])
     ≡ AtMost ∷ Below ∷ Equal ∷ Above ∷ AtLeast ∷ AtLeast ∷ AtLeast ∷ []
 number-rows = refl
@@ -22,7 +22,7 @@ says k =
 abbrev twice : Bool → Bool → Bool → List Bool
 twice a b c = a ∷ b ∷ c ∷ a ∷ b ∷ c ∷ []
 
--- SPEC 1.3: `<=`, `<`, `=`, `>`, `>=`, and the two numbers that are none's.
+-- SPEC 1.3: `<=`, `<`, `=`, `>`, `>=`, and the two numbers of no comparison.
 compare-rows : map says (0 ∷ 1 ∷ 2 ∷ 3 ∷ 4 ∷ 5 ∷ 4294967295 ∷ [])
     ≡ twice true true false ∷ twice true false false ∷ twice false true false ∷ twice false false true
     ∷ twice false true true ∷ twice false true true ∷ twice false true true ∷ []

@@ -1,5 +1,5 @@
--- The five comparisons: their numbers, and what each says of two numbers. They are the type `Op` of the code; here and
--- in all definitions its five are named le, lt, eq, gt, ge. Definitions only.
+-- The five comparisons: their numbers, and what each says of two numbers. They are the type `Op` of the code; a file
+-- that renames its five names them le, lt, eq, gt, ge. Definitions only.
 use mathlib.Core.Bool.{Bool}
 use mathlib.Core.List.{List, [], _∷_}
 use mathlib.Core.Path.{_≡_}

@@ -49,8 +49,8 @@ pub fn tick_of(start: u32, signals: u64, parameters: [u32; limits::PARAMETERS]) 
     }
 }
 
-// The comparison of that number (SPEC 1.3). A number above 4 is none's, and a table that has one is refused by 11; here
-// it stands for `>=`.
+// The comparison of that number (SPEC 1.3). A number above 4 is that of no comparison, and a table with an equation
+// that asks for it is refused by 11; here it stands for `>=`.
 pub fn op_of(number: u32) -> Op
     ensures { λ r. ⌜ r ≡ opOf number ⌝ }
     ensures { λ r. ⌜ (number < comparisonCount → opNumber r ≡ number) × (comparisonCount ≤ number → r ≡ Op.AtLeast) ⌝ }
