@@ -1,43 +1,6 @@
 #include "interpreter.h"
 
-/* What an operand has to be. */
-enum { UNUSED, EARLIER_BOOL, EARLIER_COUNT, ANY_BOOL, ANY_COUNT, SIGNAL, TRUTH, OPERATOR, LITERAL, PARAMETER };
-enum { BOOL = 1, COUNT = 2 };
-
-static const uint8_t shape[12][3] = {
-    {SIGNAL, UNUSED, UNUSED},
-    {UNUSED, UNUSED, UNUSED},
-    {TRUTH, UNUSED, UNUSED},
-    {EARLIER_BOOL, UNUSED, UNUSED},
-    {EARLIER_BOOL, EARLIER_BOOL, UNUSED},
-    {EARLIER_BOOL, EARLIER_BOOL, UNUSED},
-    {ANY_BOOL, UNUSED, TRUTH},
-    {ANY_COUNT, UNUSED, UNUSED},
-    {EARLIER_COUNT, EARLIER_BOOL, UNUSED},
-    {EARLIER_BOOL, EARLIER_COUNT, UNUSED},
-    {EARLIER_COUNT, OPERATOR, LITERAL},
-    {EARLIER_COUNT, OPERATOR, PARAMETER},
-};
-static const uint8_t gives[12] = {BOOL, BOOL, BOOL, BOOL, BOOL, BOOL, BOOL, COUNT, COUNT, COUNT, BOOL, BOOL};
-
-static inline int is_flow(const uint32_t *table, size_t below, int sort, uint32_t x) {
-    return x < below && table[4 * x] < 12 && gives[table[4 * x]] == sort;
-}
-
-static inline int fits(const uint32_t *table, size_t n, size_t i, int operand, uint32_t x) {
-    switch (operand) {
-    case UNUSED: return x == 0;
-    case EARLIER_BOOL: return is_flow(table, i, BOOL, x);
-    case EARLIER_COUNT: return is_flow(table, i, COUNT, x);
-    case ANY_BOOL: return is_flow(table, n, BOOL, x);
-    case ANY_COUNT: return is_flow(table, n, COUNT, x);
-    case SIGNAL: return x < 64;
-    case TRUTH: return x < 2;
-    case OPERATOR: return x < 5;
-    case LITERAL: return x < 1000000;
-    default: return x < 8;
-    }
-}
+#include "check.h"
 
 static inline uint32_t compare(uint32_t op, uint32_t x, uint32_t y) {
     switch (op) {

@@ -17,4 +17,8 @@ uint32_t interpreter_tick(const uint32_t *table, size_t n, uint32_t *state, uint
 /* Reads and compiles a rule text, as towerwatch_compile does, to a table of its own choice (compiler.c). */
 struct towerwatch_answer compiler_compile(const uint8_t *text, size_t length, uint32_t *table, size_t table_len);
 
+/* Packs a table, with the same refusals as towerwatch_pack and the same result (packer.c). */
+struct towerwatch_answer packer_pack(const uint32_t *table, size_t table_len, size_t n, uint32_t *packed,
+                                     size_t packed_len);
+
 #endif

@@ -64,6 +64,7 @@ static __typeof__(&towerwatch_fresh_state) fresh_state;
 static __typeof__(&towerwatch_step) step;
 static __typeof__(&towerwatch_write_lustre) write_lustre;
 static __typeof__(&towerwatch_read_lustre) read_lustre;
+static __typeof__(&towerwatch_pack) pack;
 static void call_read(void) { answer = read_rule(BYTES(first)); }
 static void call_compile(void) { answer = compile(BYTES(first), loaded, table_room); }
 static void call_same(void) { answer = same_rule(BYTES(first), BYTES(second)); }
@@ -72,18 +73,19 @@ static void call_step(void) {
     answer = step(table, table_length, n, state, state_room, values, values_room, 1, 0x5555, parameters);
 }
 static void call_write(void) { answer = write_lustre(table, table_length, n, lustre, lustre_room); }
+static void call_pack(void) { answer = pack(table, table_length, n, loaded, table_room); }
 static void call_load(void) { answer = read_lustre(lustre, lustre_length, loaded, table_room); }
 
 /* Which functions the pointers name. */
 static void real(void) {
     read_rule = towerwatch_read_rule, compile = towerwatch_compile, same_rule = towerwatch_same_rule;
     fresh_state = towerwatch_fresh_state, step = towerwatch_step;
-    write_lustre = towerwatch_write_lustre, read_lustre = towerwatch_read_lustre;
+    write_lustre = towerwatch_write_lustre, read_lustre = towerwatch_read_lustre, pack = towerwatch_pack;
 }
 
 static void empty(void) {
     read_rule = no_read, compile = no_compile, same_rule = no_same, fresh_state = no_fresh, step = no_step;
-    write_lustre = no_write, read_lustre = no_compile;
+    write_lustre = no_write, read_lustre = no_compile, pack = no_fresh;
 }
 
 /* Calls f with the stack pointer at the end of the painted stack, with a trap after each instruction if `traps` is the
@@ -139,7 +141,7 @@ static size_t reserved(void (*f)(void)) {
 }
 
 /* The functions, with what the empty one takes, the first text or table, the worst, and where that was. */
-enum function { READ, COMPILE, SAME, FRESH, STEP, WRITE, LOAD, FUNCTIONS };
+enum function { READ, COMPILE, SAME, FRESH, STEP, WRITE, PACK, LOAD, FUNCTIONS };
 
 static struct {
     const char *name;
@@ -151,7 +153,7 @@ static struct {
     {.name = "towerwatch_read_rule", .call = call_read},   {.name = "towerwatch_compile", .call = call_compile},
     {.name = "towerwatch_same_rule", .call = call_same},   {.name = "towerwatch_fresh_state", .call = call_fresh},
     {.name = "towerwatch_step", .call = call_step},        {.name = "towerwatch_write_lustre", .call = call_write},
-    {.name = "towerwatch_read_lustre", .call = call_load},
+    {.name = "towerwatch_pack", .call = call_pack},        {.name = "towerwatch_read_lustre", .call = call_load},
 };
 
 static size_t measure(enum function f, const char *where) {
@@ -361,12 +363,13 @@ static void measure_texts(void) {
 
 /* ---- tables */
 
-/* The four functions on the table's n equations, with enough of everything. */
+/* The five functions on the table's n equations, with enough of everything. */
 static void measure_table(const char *what) {
     table_length = 4 * n, table_room = TOWERWATCH_TABLE_NUMBERS;
     state_room = values_room = n, lustre_room = sizeof lustre;
     measure(FRESH, what), expect(what, 0);
     for (int tick = 0; tick < 3; tick++) measure(STEP, what), expect(what, 0);
+    measure(PACK, what), expect(what, 0);
     measure(WRITE, what), expect(what, 0);
     lustre_length = answer.result;
     measure(LOAD, what), expect(what, 0);
@@ -384,7 +387,7 @@ static void measure_table(const char *what) {
 
 static void measure_refused_tables(void) {
     uint32_t *last = table + 4 * (n - 1);
-    for (int f = FRESH; f <= WRITE; f++) {
+    for (int f = FRESH; f <= PACK; f++) {
         REFUSED(f, n, 0, 10);
         REFUSED(f, n, 1, 11);
         REFUSED(f, table_length, 4 * n - 1, 10);
@@ -400,7 +403,7 @@ static void measure_refused_tables(void) {
     REFUSED(LOAD, lustre_length, lustre_length - 1, 16);
     REFUSED(LOAD, lustre_length, 0, 16);
     REFUSED(LOAD, lustre[lustre_length / 2], '!', 16);
-    REFUSED(LOAD, table_room, TOWERWATCH_TABLE_NUMBERS - 1, 9);
+    for (int f = PACK; f <= LOAD; f++) REFUSED(f, table_room, TOWERWATCH_TABLE_NUMBERS - 1, 9);
 }
 
 /* A table in which the kinds take turns, each with operands among the eleven equations before it. */

@@ -1,12 +1,13 @@
-/* A tower controller's loop in small: it compiles rules, makes their states, steps them once a tick, prints each
- * verdict, or 2 while a watch is idle, and keeps a latch for each. How long a 0 has to stand before it is a fault is
- * decided for each rule, since many rules are 0 at first and a verdict may return to 1. */
+/* A tower controller's loop in small: it compiles rules, packs their tables, makes their states, steps them once a
+ * tick, prints each verdict, or 2 while a watch is idle, and keeps a latch for each. How long a 0 has to stand before
+ * it is a fault is decided for each rule, since many rules are 0 at first and a verdict may return to 1. */
 #include <stdio.h>
 #include <string.h>
 
 #include "towerwatch.h"
 
 _Static_assert(TOWERWATCH_VERSION_MAJOR == 3, "written for steps that answer 0, 1 or TOWERWATCH_IDLE");
+_Static_assert(TOWERWATCH_VERSION_MINOR >= 2, "written for a header that has towerwatch_pack");
 _Static_assert(TOWERWATCH_TABLE_NUMBERS == 4 * TOWERWATCH_EQUATIONS, "an equation has four numbers");
 _Static_assert(TOWERWATCH_RULE_EQUATIONS <= TOWERWATCH_EQUATIONS, "a rule's table is a table");
 
@@ -19,24 +20,29 @@ struct watch {
     uint32_t further; /* ticks, for STANDING */
     uint32_t low;     /* how many ticks in a row have the verdict 0 */
     int fault;        /* the latch: it stays until somebody clears it */
-    size_t n;
+    size_t compiled;  /* how many equations the rule was compiled to, */
+    size_t n;         /* and how many its packed table has, which is the one that is kept and stepped */
     uint32_t table[4 * TOWERWATCH_RULE_EQUATIONS];
     uint32_t state[TOWERWATCH_RULE_EQUATIONS];
 };
 
-/* Lent to every compile and to every step in turn: what they hold between two calls does not matter. */
-static uint32_t room[TOWERWATCH_TABLE_NUMBERS];
+/* Lent to every compile, every pack and every step in turn: what they hold between two calls does not matter. */
+static uint32_t room[TOWERWATCH_TABLE_NUMBERS], packed[TOWERWATCH_TABLE_NUMBERS];
 static uint32_t values[TOWERWATCH_RULE_EQUATIONS];
 
 static uint32_t parameters[TOWERWATCH_PARAMETERS] = {2};
 
-/* Compiles a watch's rule and makes its state: 0, or the refusal. */
+/* Compiles a watch's rule, packs the table and makes the state of the packed one: 0, or the refusal. The state comes
+ * last, since its cells belong to the equations of one table. */
 static uint32_t prepare(struct watch *w) {
     struct towerwatch_answer a =
         towerwatch_compile((const uint8_t *)w->rule, strlen(w->rule), room, TOWERWATCH_TABLE_NUMBERS);
     if (a.refusal != 0) return a.refusal;
+    w->compiled = a.result;
+    a = towerwatch_pack(room, 4 * w->compiled, w->compiled, packed, TOWERWATCH_TABLE_NUMBERS);
+    if (a.refusal != 0) return a.refusal;
     w->n = a.result;
-    memcpy(w->table, room, 4 * w->n * sizeof *room);
+    memcpy(w->table, packed, 4 * w->n * sizeof *packed);
     return towerwatch_fresh_state(w->table, 4 * w->n, w->n, w->state, w->n).refusal;
 }
 
@@ -107,7 +113,7 @@ int main(void) {
     for (int w = 0; w < WATCHES; w++) {
         uint32_t refusal = prepare(&watches[w]);
         if (refusal != 0) return printf("%s: refused=%u\n", watches[w].rule, (unsigned)refusal), 1;
-        printf("%s: %zu equations\n", watches[w].rule, watches[w].n);
+        printf("%s: %zu equations, packed %zu\n", watches[w].rule, watches[w].compiled, watches[w].n);
     }
     run_pieces();
     show_refused_step(&watches[1]);

@@ -1,13 +1,14 @@
 /* The header's numbers beside the archive's answers: each refusal provoked, tables that do not close with a started
- * flow and a verdict, empty buffers that are null, each limit reached and passed, and idle steps. A line has the
- * header's number and what the archive answered, and ends in WRONG where they do not agree or a refused call changed a
- * buffer; the exit status is then 1. */
+ * flow and a verdict, empty buffers that are null, each limit reached and passed, idle steps, and packed tables. A line
+ * has the header's number and what the archive answered, and ends in WRONG where they do not agree or a refused call
+ * changed a buffer; the exit status is then 1. */
 #include <stdio.h>
 #include <string.h>
 
 #include "towerwatch.h"
 
-static uint32_t table[TOWERWATCH_TABLE_NUMBERS + 4], state[TOWERWATCH_EQUATIONS + 1], values[3];
+static uint32_t table[TOWERWATCH_TABLE_NUMBERS + 4], second[TOWERWATCH_TABLE_NUMBERS];
+static uint32_t state[TOWERWATCH_EQUATIONS + 1], values[3];
 static uint32_t parameters[TOWERWATCH_PARAMETERS];
 static uint8_t lustre[TOWERWATCH_LUSTRE_BYTES];
 static int wrong;
@@ -21,7 +22,7 @@ static const char start_text[] = "let\nf0=b;\nf1=b;\nw=f0;\na=f1;\ntel\n";
 enum { FILL = 0x5a };
 
 static void fill(void) {
-    memset(table, FILL, sizeof table), memset(state, FILL, sizeof state);
+    memset(table, FILL, sizeof table), memset(second, FILL, sizeof second), memset(state, FILL, sizeof state);
     memset(values, FILL, sizeof values), memset(lustre, FILL, sizeof lustre);
 }
 
@@ -33,8 +34,8 @@ static int filled(const void *buffer, size_t size) {
 }
 
 static int kept(void) {
-    return filled(table, sizeof table) && filled(state, sizeof state) && filled(values, sizeof values) &&
-           filled(lustre, sizeof lustre);
+    return filled(table, sizeof table) && filled(second, sizeof second) && filled(state, sizeof state) &&
+           filled(values, sizeof values) && filled(lustre, sizeof lustre);
 }
 
 /* ---- refusals */
@@ -58,8 +59,15 @@ static struct towerwatch_answer step(const uint32_t *equations, size_t n, size_t
     return towerwatch_step(equations, 8, n, state, state_len, values, SHORTEST, 1, 0, parameters);
 }
 
+/* Packing n equations of a table of eight numbers into a second table of this length. */
+static struct towerwatch_answer pack(const uint32_t *equations, size_t n, size_t second_len) {
+    return towerwatch_pack(equations, 8, n, second, second_len);
+}
+
+static const uint32_t ill[8] = {12, 0, 0, 0, 1, 0, 0, 0};
+
 static void refusals(void) {
-    static const uint32_t ill[8] = {12, 0, 0, 0, 1, 0, 0, 0}, memory[8] = {6, 0, 0, 0, 1, 0, 0, 0};
+    static const uint32_t memory[8] = {6, 0, 0, 0, 1, 0, 0, 0};
     static char words[TOWERWATCH_TEXT_BYTES];
     memset(words, '!', TOWERWATCH_WORDS + 1);
     REFUSED(TEXT_LENGTH, read_text(""));
@@ -87,6 +95,7 @@ static void not_closed(const uint32_t *equations, size_t n) {
     REFUSED(TABLE, towerwatch_fresh_state(equations, 8, n, state, 2));
     REFUSED(TABLE, step(equations, n, 2, 0));
     REFUSED(TABLE, towerwatch_write_lustre(equations, 8, n, lustre, sizeof lustre));
+    REFUSED(TABLE, pack(equations, n, TOWERWATCH_TABLE_NUMBERS));
 }
 
 static void closing(void) {
@@ -94,6 +103,7 @@ static void closing(void) {
     REFUSED(TABLE_LENGTH, towerwatch_fresh_state(start_flows, 8, 0, state, 2));
     REFUSED(TABLE_LENGTH, step(start_flows, 0, 2, 0));
     REFUSED(TABLE_LENGTH, towerwatch_write_lustre(start_flows, 8, 0, lustre, sizeof lustre));
+    REFUSED(TABLE_LENGTH, pack(start_flows, 0, TOWERWATCH_TABLE_NUMBERS));
     not_closed(start_flows, 1);
     not_closed(count_first, 2);
     not_closed(count_last, 2);
@@ -127,6 +137,8 @@ static void nulls(void) {
     REFUSED(LUSTRE_ROOM, towerwatch_write_lustre(start_flows, 8, 2, NULL, 0));
     REFUSED(LUSTRE, towerwatch_read_lustre(NULL, 0, NULL, 0));
     REFUSED(TABLE_ROOM, towerwatch_read_lustre(TEXT(start_text), NULL, 0));
+    REFUSED(TABLE_LENGTH, towerwatch_pack(NULL, 0, 2, NULL, 0));
+    REFUSED(TABLE_ROOM, towerwatch_pack(start_flows, 8, 2, NULL, 0));
 }
 
 /* ---- limits */
@@ -199,6 +211,11 @@ static struct towerwatch_answer equations(size_t n) {
     return towerwatch_fresh_state(table, 4 * n, n, state, sizeof state / sizeof *state);
 }
 
+static struct towerwatch_answer packed_equations(size_t n) {
+    for (size_t i = 0; i < n; i++) memcpy(table + 4 * i, start_flows, 4 * sizeof *start_flows);
+    return towerwatch_pack(table, 4 * n, n, second, TOWERWATCH_TABLE_NUMBERS);
+}
+
 static void limits(void) {
     LIMIT(TEXT_BYTES, text_bytes, TEXT_LENGTH);
     LIMIT(WORDS, words, WORD_COUNT);
@@ -210,6 +227,7 @@ static void limits(void) {
     LIMIT(LAST_NUMBER, parameter, PARAMETER);
     LIMIT(LAST_COUNT, count_cell, STATE);
     LIMIT(EQUATIONS, equations, TABLE_LENGTH);
+    LIMIT(EQUATIONS, packed_equations, TABLE_LENGTH);
 }
 
 /* A rule with the most equations: 32 of `then`, 21 of them after a `lag`, 240 words, compiled with the least room. */
@@ -244,6 +262,50 @@ static void idle(void) {
     }
 }
 
+/* SPEC 8.8: packing refuses by 10, 11, then 9, where the second table is one number too short. */
+static void packing_refusals(void) {
+    REFUSED(TABLE_LENGTH, pack(start_flows, 3, TOWERWATCH_TABLE_NUMBERS));
+    REFUSED(TABLE_LENGTH, pack(ill, 3, TOWERWATCH_TABLE_NUMBERS - 1));
+    REFUSED(TABLE, pack(ill, 2, TOWERWATCH_TABLE_NUMBERS));
+    REFUSED(TABLE, pack(ill, 2, TOWERWATCH_TABLE_NUMBERS - 1));
+    REFUSED(TABLE_ROOM, pack(start_flows, 2, TOWERWATCH_TABLE_NUMBERS - 1));
+}
+
+/* The packed table of the n equations in `table` has so many and these numbers; what stands after them is kept. */
+static void packs(const char *what, size_t n, size_t wanted, const uint32_t *numbers) {
+    memset(second, FILL, sizeof second);
+    struct towerwatch_answer a = towerwatch_pack(table, 4 * n, n, second, TOWERWATCH_TABLE_NUMBERS);
+    size_t bytes = 4 * wanted * sizeof *second;
+    int fine = a.refusal == 0 && a.result == wanted && memcmp(second, numbers, bytes) == 0 &&
+               filled(second + 4 * wanted, sizeof second - bytes);
+    printf("%-24s %7zu result=%u%s\n", what, n, (unsigned)a.result, fine ? "" : " WRONG");
+    wrong |= !fine;
+}
+
+static size_t memories(const uint32_t *equations, size_t n) {
+    size_t count = 0;
+    for (size_t i = 0; i < n; i++)
+        count += equations[4 * i] == TOWERWATCH_BOOLEAN_MEMORY || equations[4 * i] == TOWERWATCH_COUNT_MEMORY;
+    return count;
+}
+
+/* The last two equations stay, also where they are alike or repeat an equation before them. A rule that has one sum
+ * twice has one memory for it in its packed table, and one for the started flow. */
+static void packed_tables(void) {
+    static const uint32_t by_hand[20] = {0, 5, 0, 0, 0, 5, 0, 0, 3, 1, 0, 0, 3, 0, 0, 0, 6, 2, 0, 1};
+    static const uint32_t by_hand_packed[16] = {0, 5, 0, 0, 3, 0, 0, 0, 3, 0, 0, 0, 6, 1, 0, 1};
+    memcpy(table, start_flows, sizeof start_flows);
+    packs("two start flows", 2, 2, start_flows);
+    memcpy(table, by_hand, sizeof by_hand);
+    packs("a table made by hand", 5, 4, by_hand_packed);
+    size_t n = towerwatch_compile(TEXT("sum[s0]<=3 & sum[s0]<=5"), table, TOWERWATCH_TABLE_NUMBERS).result;
+    size_t k = towerwatch_pack(table, 4 * n, n, second, TOWERWATCH_TABLE_NUMBERS).result;
+    int fine = k < n && memories(table, n) == 3 && memories(second, k) == 2;
+    printf("%-24s %7zu result=%zu, memories %zu and %zu%s\n", "a rule with a sum twice", n, k, memories(table, n),
+           memories(second, k), fine ? "" : " WRONG");
+    wrong |= !fine;
+}
+
 int main(void) {
     refusals();
     printf("not closed by two booleans\n");
@@ -255,5 +317,8 @@ int main(void) {
     widest();
     printf("idle\n");
     idle();
+    printf("packing\n");
+    packing_refusals();
+    packed_tables();
     return wrong;
 }

@@ -30,7 +30,7 @@ extern "C" {
  * archive has no version: take header and archive from one state of the repository, and compile stored tables again
  * where the major number has risen (docs/FIRMWARE.md, "Versions"). */
 #define TOWERWATCH_VERSION_MAJOR 3
-#define TOWERWATCH_VERSION_MINOR 1
+#define TOWERWATCH_VERSION_MINOR 2
 
 /* Limits of a rule text: its bytes, its words, how many round brackets are open at a time, and how often `!`, `then`,
  * `chop` and `exists` come up, all four counted. */
@@ -47,8 +47,8 @@ extern "C" {
 #define TOWERWATCH_LAST_NUMBER 999999
 #define TOWERWATCH_LAST_COUNT 1000000
 
-/* The most equations of a table, the numbers that a table buffer needs for compiling and for reading Lustre text,
- * and the most equations of a compiled rule. */
+/* The most equations of a table, the numbers that a table buffer needs for compiling, for reading Lustre text and for a
+ * packed table, and the most equations of a compiled rule. */
 #define TOWERWATCH_EQUATIONS 4096
 #define TOWERWATCH_TABLE_NUMBERS 16384
 #define TOWERWATCH_RULE_EQUATIONS 619
@@ -132,6 +132,18 @@ struct towerwatch_answer towerwatch_write_lustre(const uint32_t *table, size_t t
  * is kept. It takes more than 64 KiB of stack. Result: n. Refused: 16, 9. */
 struct towerwatch_answer towerwatch_read_lustre(const uint8_t *text, size_t text_len, uint32_t *table,
                                                 size_t table_len);
+
+/* Packs the table's n equations into a second table: equations that cannot be told apart by kind, constants and
+ * operands become one, and those that the last two do not reach are left out. From a fresh state of each, where the
+ * given table refuses no step, the packed one answers the same, whoever made the given one. A state of one does not fit
+ * the other: make a fresh one.
+ * table: 4 * n numbers or more, only read. packed: TOWERWATCH_TABLE_NUMBERS numbers or more, none of them the table's;
+ * its front is set to the packed table's equations, four numbers each, and the rest of it is kept. It takes more than
+ * 80 KiB of stack.
+ * Result: how many equations the packed table has, at most n. It has no more memories than the given one. Refused: 10,
+ * 11, 9. */
+struct towerwatch_answer towerwatch_pack(const uint32_t *table, size_t table_len, size_t n, uint32_t *packed,
+                                         size_t packed_len);
 
 #ifdef __cplusplus
 }

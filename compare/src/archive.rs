@@ -41,6 +41,7 @@ extern "C" {
     fn towerwatch_write_lustre(table: *const u32, table_len: usize, n: usize, text: *mut u8, text_len: usize) -> Answer;
     fn towerwatch_read_lustre(text: *const u8, text_len: usize, table: *mut u32, table_len: usize) -> Answer;
     fn towerwatch_same_rule(first: *const u8, first_len: usize, second: *const u8, second_len: usize) -> Answer;
+    fn towerwatch_pack(table: *const u32, table_len: usize, n: usize, packed: *mut u32, packed_len: usize) -> Answer;
 }
 
 pub fn read_rule(text: &[u8]) -> Answer {
@@ -85,6 +86,10 @@ pub fn write_lustre(table: &[u32], n: usize, text: &mut [u8]) -> Answer {
 
 pub fn read_lustre(text: &[u8], table: &mut [u32]) -> Answer {
     unsafe { towerwatch_read_lustre(text.as_ptr(), text.len(), table.as_mut_ptr(), table.len()) }
+}
+
+pub fn pack(table: &[u32], n: usize, packed: &mut [u32]) -> Answer {
+    unsafe { towerwatch_pack(table.as_ptr(), table.len(), n, packed.as_mut_ptr(), packed.len()) }
 }
 
 pub fn same_rule(first: &[u8], second: &[u8]) -> Answer {

@@ -2,6 +2,7 @@
 
 pub mod lustre;
 pub mod make;
+pub mod packing;
 
 use crate::archive::{Answer, Tick};
 use crate::rule::{compare, OPS};

@@ -1,9 +1,11 @@
 //! How often each outcome came up, and how often it has to.
 
 use crate::card::{End, Place, Why};
+use crate::cases::packing::Origin;
 use crate::rule::meaning::IDLE;
 use crate::rule::{Around, Delay, Limit, Root, AROUND, DELAYS, OPS, TESTS};
 use crate::table::lustre::WRONG_ENDS;
+use crate::table::packing::{Effect, EFFECTS};
 use crate::table::{Flaw, CLOSING};
 use std::cmp::Ordering;
 use std::collections::BTreeMap;
@@ -64,6 +66,19 @@ pub enum Outcome {
     ReadLustre(u32),
     /// An equation of this kind in a Lustre text that is read, with its operator where it compares.
     Line(u32, u32),
+    Pack(u32),
+    /// Why a table is refused by 10 or 11 where it is to be packed.
+    PackFlawed(Flaw),
+    /// What packing does to a table.
+    Packed(Origin, Effect),
+    /// A table of 4,096 equations that is packed, and whether to fewer.
+    LargestPacked(bool),
+    /// An equation of this kind that is merged with an earlier one.
+    Merged(u32),
+    /// Two equations of this kind of a packed table that differ in this one of their four numbers, which is no flow.
+    Apart(u32, usize),
+    /// The answer of a table and of its packed table.
+    PackedAnswer(u32),
     /// How a card ends, with None for one that is fine.
     Card(Option<End>),
     CardVerdict(u32),
@@ -80,6 +95,7 @@ pub enum Operation {
     FreshState,
     Step,
     ReadLustre,
+    Pack,
 }
 
 /// A share of a whole, in percent.
@@ -198,6 +214,15 @@ fn wanted() -> Vec<(Outcome, u64)> {
     want(500, &mut [0, 9, 16].into_iter().map(Outcome::ReadLustre));
     want(200, &mut (0..10).map(|k| Outcome::Line(k, 0)));
     want(200, &mut (0..5).flat_map(|op| [Outcome::Line(10, op), Outcome::Line(11, op)]));
+    want(500, &mut [0, 9, 10, 11].into_iter().map(Outcome::Pack));
+    want(100, &mut [Flaw::Size].into_iter().chain(CLOSING).map(Outcome::PackFlawed));
+    want(50, &mut (0..=12).map(|k| Outcome::PackFlawed(Flaw::Equation(k))));
+    want(500, &mut EFFECTS.into_iter().map(|e| Outcome::Packed(Origin::ByHand, e)));
+    want(500, &mut EFFECTS[..5].iter().map(|e| Outcome::Packed(Origin::Compiled, *e)));
+    want(2, &mut [true, false].into_iter().map(Outcome::LargestPacked));
+    want(500, &mut (0..12).map(Outcome::Merged));
+    want(50, &mut constants());
+    want(50_000, &mut (0..3).map(Outcome::PackedAnswer));
     want(50, &mut orders());
     want(5, &mut card_ends());
     want(5000, &mut [0, 1].into_iter().map(Outcome::CardVerdict));
@@ -231,6 +256,11 @@ fn comparisons() -> impl Iterator<Item = Outcome> {
     [10, 11].into_iter().flat_map(of_kind)
 }
 
+/// Each number of an equation that is neither a flow nor always 0.
+fn constants() -> impl Iterator<Item = Outcome> {
+    [(0, 1), (2, 1), (6, 3), (10, 2), (10, 3), (11, 2), (11, 3)].into_iter().map(|(k, j)| Outcome::Apart(k, j))
+}
+
 fn orders() -> impl Iterator<Item = Outcome> {
     let of = |operation, pairs: &[(u32, u32)]| -> Vec<Outcome> {
         pairs.iter().map(|(first, other)| Outcome::Order(operation, *first, *other)).collect()
@@ -242,6 +272,7 @@ fn orders() -> impl Iterator<Item = Outcome> {
         of(Operation::FreshState, &[(10, 12), (11, 12)]),
         of(Operation::Step, &[(10, 12), (10, 13), (11, 12), (11, 13), (11, 14), (12, 13), (12, 14), (13, 14)]),
         of(Operation::ReadLustre, &[(16, 9)]),
+        of(Operation::Pack, &[(10, 9), (11, 9)]),
     ];
     all.into_iter().flatten()
 }

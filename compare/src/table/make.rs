@@ -1,6 +1,7 @@
 //! Random well-formed tables, and damage to them.
 
-use super::is_count;
+use super::packing::flow_places;
+use super::{equation, is_count};
 use crate::random::Random;
 
 /// The equations before the one that is made, by their sort.
@@ -11,6 +12,9 @@ struct Flows {
 }
 
 impl Flows {
+    fn add(&mut self, kind: u32, i: usize) {
+        if is_count(kind) { &mut self.counts } else { &mut self.booleans }.push(i as u32);
+    }
     fn boolean(&self, random: &mut Random) -> u32 {
         random.pick(&self.booleans)
     }
@@ -69,7 +73,7 @@ pub fn random_table(random: &mut Random, n: usize) -> Vec<u32> {
         let kind = random.pick(&flows.kinds(i + 2 >= n));
         table[4 * i] = kind;
         table[4 * i + 1..4 * i + 4].copy_from_slice(&flows.numbers(random, kind));
-        if is_count(kind) { &mut flows.counts } else { &mut flows.booleans }.push(i as u32);
+        flows.add(kind, i);
     }
     for i in 0..n {
         match table[4 * i] {
@@ -78,6 +82,138 @@ pub fn random_table(random: &mut Random, n: usize) -> Vec<u32> {
             _ => {}
         }
     }
+    table
+}
+
+/// A table that grows, with the flows that it has so far.
+struct Growing {
+    table: Vec<u32>,
+    flows: Flows,
+}
+
+impl Growing {
+    fn len(&self) -> usize {
+        self.table.len() / 4
+    }
+    fn push(&mut self, equation: [u32; 4]) {
+        self.flows.add(equation[0], self.len());
+        self.table.extend(equation);
+    }
+    /// A new equation that joins the last boolean with another one, or compares a count.
+    fn join(&mut self, random: &mut Random) {
+        let kind = if self.flows.counts.is_empty() || random.once_in(2) { random.pick(&[4, 5]) } else { 10 };
+        let [mut a, b, c] = self.flows.numbers(random, kind);
+        if kind != 10 {
+            a = *self.flows.booleans.last().unwrap();
+        }
+        self.push([kind, a, b, c]);
+    }
+    /// Copies a stretch of equations, at most so many. Operands in the stretch become those in the copy, or stay; now
+    /// and then a constant of the copy is another.
+    fn copy(&mut self, random: &mut Random, most: usize) {
+        let n = self.len();
+        let from = random.below(n);
+        let longest = if random.once_in(8) { n } else { 8 };
+        let to = from + 1 + random.below(longest.min(n - from).min(most));
+        let moves = !random.once_in(4);
+        for i in from..to {
+            let mut numbers = equation(&self.table, i);
+            for (j, is_flow) in flow_places(numbers[0]).into_iter().enumerate() {
+                let x = numbers[j + 1] as usize;
+                if is_flow && moves && (from..to).contains(&x) {
+                    numbers[j + 1] = (x - from + n) as u32;
+                }
+            }
+            if random.once_in(12) {
+                change_constant(random, &mut numbers);
+            }
+            self.push(numbers);
+        }
+    }
+    /// Sets the operand of some memory to any flow of its sort.
+    fn turn_memory(&mut self, random: &mut Random) {
+        let i = random.below(self.len());
+        match self.table[4 * i] {
+            6 => self.table[4 * i + 1] = self.flows.boolean(random),
+            7 => self.table[4 * i + 1] = self.flows.count(random),
+            _ => {}
+        }
+    }
+    /// One of the last two: it repeats a boolean, joins two, or is any.
+    fn close(&mut self, random: &mut Random) {
+        let i = if random.once_in(2) { self.flows.boolean(random) } else { *self.flows.booleans.last().unwrap() };
+        match random.below(4) {
+            0 => self.push(equation(&self.table, i as usize)),
+            1 | 2 => self.push([random.pick(&[4, 5]), i, self.flows.boolean(random), 0]),
+            _ => {
+                let kind = random.pick(&self.flows.kinds(true));
+                let [a, b, c] = self.flows.numbers(random, kind);
+                let a = if kind == 6 { self.flows.boolean(random) } else { a };
+                self.push([kind, a, b, c]);
+            }
+        }
+    }
+}
+
+/// Another number at one of the places that are no flow.
+fn change_constant(random: &mut Random, numbers: &mut [u32; 4]) {
+    match numbers[0] {
+        0 => numbers[1] = random.below(64) as u32,
+        2 => numbers[1] ^= 1,
+        6 => numbers[3] ^= 1,
+        10 | 11 if random.once_in(2) => numbers[2] = random.below(5) as u32,
+        10 | 11 => numbers[3] = random.below(8) as u32,
+        _ => {}
+    }
+}
+
+/// A well-formed table of n equations, at least 5, in which equations and loops through memories come up again.
+pub fn repeating_table(random: &mut Random, n: usize) -> Vec<u32> {
+    let first = 2 + random.below((n - 4).min(12));
+    let table = random_table(random, first);
+    let mut flows = Flows::default();
+    (0..first).for_each(|i| flows.add(table[4 * i], i));
+    let mut growing = Growing { table, flows };
+    while growing.len() < n - 2 {
+        let room = n - 2 - growing.len();
+        match random.below(4) {
+            0 => growing.join(random),
+            _ => growing.copy(random, room),
+        }
+        if random.once_in(4) {
+            growing.turn_memory(random);
+        }
+    }
+    growing.close(random);
+    growing.close(random);
+    growing.table
+}
+
+/// How a chain of memories goes: each to the flow after it, to the one before it, or, after the last, back to some.
+#[derive(Clone, Copy, PartialEq)]
+pub enum Chain {
+    Forward,
+    Back,
+    Ring,
+}
+
+/// A well-formed table of n equations, at least 3: memories in a chain, which ends in a signal or in itself, and the
+/// signal and a verdict that reaches them all. The first values of the memories come up again after some of them. In a
+/// chain that ends in the signal all of them can be told apart, but only step by step from its end on.
+pub fn chain(random: &mut Random, n: usize, way: Chain) -> Vec<u32> {
+    let (started, last) = (n as u32 - 2, n as u32 - 3);
+    let first_values: Vec<u32> = (0..1 + random.below(6)).map(|_| random.below(2) as u32).collect();
+    let mut table = Vec::with_capacity(4 * n);
+    for i in 0..=last {
+        let operand = match way {
+            Chain::Back => i.checked_sub(1).unwrap_or(started),
+            Chain::Ring if i == last => random.below(n - 2) as u32,
+            _ => i + 1,
+        };
+        table.extend([6, operand, 0, first_values[i as usize % first_values.len()]]);
+    }
+    table.extend([0, random.below(64) as u32, 0, 0]);
+    table.extend([3, if way == Chain::Back { last } else { 0 }, 0, 0]);
     table
 }
 

@@ -1,4 +1,4 @@
--- Compiled and loaded tables have at most 4,096 equations, and a table's text is short: C's answer has room for each
+-- Compiled, loaded and packed tables have at most 4,096 equations, and a table's text is short: C's answer has room for each
 -- number. Assumes nothing.
 use mathlib.Core.List.{List, []}
 use mathlib.Core.Path.{_≡_, sym, ap}
@@ -15,7 +15,10 @@ use Rattle.lustre.proofs.Sizes.{written-few}
 use Rattle.observers.specs.Demand.{Compiles}
 use Rattle.observers.specs.Demand.Compiles.{not-read, no-room, observed}
 use Rattle.observers.specs.declared.Compiled.{Compiled}
-use Rattle.firmware.specs.Sizes.{small, short, few}
+use Rattle.packing.specs.Laws.{PackAnswer}
+use Rattle.packing.specs.Laws.PackAnswer.{not-checked, no-room as no-second, packed}
+use Rattle.packing.specs.declared.Packed.{Packed}
+use Rattle.firmware.specs.Sizes.{small, short, few, slim}
 
 pub few-equations : {text before : List ℕ} {r : Compiled} {after : List ℕ} → Compiles text before r after → small r
 few-equations (not-read e) = tt
@@ -26,6 +29,12 @@ pub few-loaded : {text before : List ℕ} {r : Loaded} {after : List ℕ} → Af
 few-loaded (unread h) = tt
 few-loaded (no-table w h) = tt
 few-loaded (read {t} {n} w h) = checked-fitting t n (w .well-formed) .few
+
+pub few-packed : {t : List ℕ} {n : ℕ} {before : List ℕ} {r : Packed} {after : List ℕ} → PackAnswer t n before r after
+    → slim r
+few-packed (not-checked e) = tt
+few-packed (no-second e h) = tt
+few-packed (packed {n′} e room long kept packs) = checked-fitting _ n′ (packs [] .passes) .few
 
 pub short-text : (t : List ℕ) → ((i : ℕ) → getD t i 0 < 4294967296) → (n : ℕ) (buffer : List ℕ) (r : Written)
     (after : List ℕ) → afterWrite r after ≡ writeEffect t n buffer → short r

@@ -8,6 +8,8 @@ use Rattle.lustre.specs.declared.Written.{Written}
 use Rattle.lustre.specs.declared.Written.the-variants.{Length, Refused as No-text}
 use Rattle.lustre.specs.declared.Loaded.{Loaded}
 use Rattle.lustre.specs.declared.Loaded.the-variants.{Equations as Loads, Refused as No-table}
+use Rattle.packing.specs.declared.Packed.{Packed}
+use Rattle.packing.specs.declared.Packed.the-variants.{Equations as Packs, Refused as No-packed}
 
 abbrev pub small : Compiled → Type 0
 small (Equations n) = n ≤ equationLimit
@@ -20,3 +22,7 @@ short (No-text k) = Unit {0}
 abbrev pub few : Loaded → Type 0
 few (Loads n) = n ≤ equationLimit
 few (No-table k) = Unit {0}
+
+abbrev pub slim : Packed → Type 0
+slim (Packs n) = n ≤ equationLimit
+slim (No-packed k) = Unit {0}

@@ -5,6 +5,7 @@ use flows::Stepped;
 use lustre::Loaded;
 use lustre::Written;
 use observers::Compiled;
+use packing::Packed;
 use rules::Same;
 ghost use mathlib.Core.Path.{_≡_};
 ghost use Rattle.limits.specs.Limits.{standardCap};
@@ -17,8 +18,10 @@ ghost use Rattle.observers.specs.Compile.{afterCompile, compiled};
 ghost use Rattle.observers.specs.Demand.{Compiles, compileReply};
 ghost use Rattle.lustre.specs.Write.{afterWrite, writeEffect, writeReply};
 ghost use Rattle.lustre.specs.Read.{AfterRead, loadReply};
+ghost use Rattle.packing.specs.Packing.{afterPack, packing, packReply};
+ghost use Rattle.packing.specs.Laws.{PackAnswer};
 ghost use Rattle.firmware.specs.Face.{answer, Given};
-ghost use Rattle.firmware.specs.Sizes.{small, short, few};
+ghost use Rattle.firmware.specs.Sizes.{small, short, few, slim};
 
 // An answer as C gets it: the refusal's number, 0 for none, and the result, 0 where there is none (SPEC 1.4).
 #[repr(C)]
@@ -220,4 +223,32 @@ pub extern "C" fn towerwatch_read_lustre(text: &[u8], table: &mut [u32]) -> Answ
         (now (table .exit))) r ⌝ }
 {
     loaded_answer(lustre_read::read_lustre(text, table))
+}
+
+// The answer of packing.
+fn packed_answer(p: Packed) -> Answer
+    requires { ⌜ slim p ⌝ }
+    ensures { λ r. ⌜ r ≡ answer (packReply p) ⌝ }
+{
+    match p {
+        Packed::Equations(n) => Answer {
+            refusal: 0,
+            result: n as u32,
+        },
+        Packed::Refused(number) => Answer {
+            refusal: number,
+            result: 0,
+        },
+    }
+}
+
+// Packs the table's n equations into a second table: how many they are then (SPEC 8.8).
+#[no_mangle]
+pub extern "C" fn towerwatch_pack(table: &[u32], n: usize, packed: &mut [u32]) -> Answer
+    ensures { λ r. ⌜ Given packReply (λ x. afterPack x (now (packed .exit))
+        ≡ packing (now (table .entry)) n (now (packed .entry))) r ⌝ }
+    ensures { λ r. ⌜ Given packReply (λ x. PackAnswer (now (table .entry)) n (now (packed .entry)) x
+        (now (packed .exit))) r ⌝ }
+{
+    packed_answer(packer::pack(table, n, packed))
 }

@@ -17,6 +17,15 @@ sets-append o i (x ∷ xs) ys =
     ap (λ (n : ℕ). sets (sets (set o i x) (suc i) xs) n ys) (add-suc i (length xs) ∙ sym (suc-add i (length xs)))
     ∙ sets-append (set o i x) (suc i) xs ys
 
+-- Four numbers stored one after the other.
+pub sets-four : (l : List ℕ) (x a b c d : ℕ)
+    → set (set (set (set l x a) (x + 1) b) (x + 2) c) (x + 3) d ≡ sets l x (a ∷ b ∷ c ∷ d ∷ [])
+sets-four l x a b c d =
+    let e : x + 1 ≡ suc x = omega arith in
+    let f : x + 2 ≡ suc (suc x) = omega arith in
+    let g : x + 3 ≡ suc (suc (suc x)) = omega arith in
+    rw (e, f, g)
+
 -- Nothing is stored past the end.
 pub sets-out : (o : List ℕ) (i : ℕ) (xs : List ℕ) → length o ≤ i → sets o i xs ≡ o
 sets-out o i [] h = refl

@@ -161,15 +161,6 @@ sets-below l (v ∷ vs) i x h =
 sets-first : (l vs : List ℕ) (i v : ℕ) → i < length l → getD (sets l i (v ∷ vs)) i 0 ≡ v
 sets-first l vs i v h = sets-below (set l i v) vs (suc i) i (omega arith) ∙ getD-set-same l i v 0 h
 
--- Four numbers stored one after the other.
-pub sets-four : (l : List ℕ) (x a b c d : ℕ)
-    → set (set (set (set l x a) (x + 1) b) (x + 2) c) (x + 3) d ≡ sets l x (a ∷ b ∷ c ∷ d ∷ [])
-sets-four l x a b c d =
-    let e : x + 1 ≡ suc x = omega arith in
-    let f : x + 2 ≡ suc (suc x) = omega arith in
-    let g : x + 3 ≡ suc (suc (suc x)) = omega arith in
-    rw (e, f, g)
-
 pub stored-length : (u : List ℕ) (i : ℕ) (e : Numbers) → length (stored u i e) ≡ length u
 stored-length u i e = length-sets u (4 * i) (e .kind ∷ e .a ∷ e .b ∷ e .c ∷ [])
 

@@ -23,7 +23,9 @@ use Rattle.rules.specs.Computed.{ruleOf}
 use Rattle.rules.specs.Contract.{answerOf}
 use Rattle.rules.proofs.Theorems.{has-outcome, computed, one-outcome, numbered, accepted, has-formula}
 use Rattle.rules.proofs.SameRule.{one-answer, same-tree, not-refused}
-use Rattle.tables.specs.Table.{kindOf}
+use Rattle.tables.specs.Table.{kindOf, checked}
+use Rattle.tables.specs.declared.Checked.the-variants.{Passed, Refused as Failed}
+use Rattle.tables.proofs.Checks.{failed-passed}
 use Rattle.flows.specs.Flow.{valueOf}
 use Rattle.flows.proofs.Lists.{runs-as-lustre}
 use Rattle.agreement.specs.Agreement.{Closing, ExactMemories, FewMemories, Observes}
@@ -33,6 +35,12 @@ use Rattle.observers.specs.Demand.Compiles.{not-read, no-room, observed}
 use Rattle.observers.specs.declared.Compiled.{Compiled}
 use Rattle.observers.specs.declared.Compiled.the-variants.{Equations, Refused}
 use Rattle.observers.proofs.SameRule.{refused-equations}
+use Rattle.packing.specs.Laws.{Packs, PackAnswer}
+use Rattle.packing.specs.Laws.PackAnswer.{not-checked, no-room as no-second, packed}
+use Rattle.packing.specs.declared.Packed.{Packed}
+use Rattle.packing.specs.declared.Packed.the-variants.{Equations as PackedTo, Refused as NotPacked}
+use Rattle.packing.proofs.One.{one-answer as one-packing}
+use Rattle.packing.proofs.Again.{refused-packed, again}
 use Rattle.lustre.proofs.Theorems as lustre
 use Rattle.player.specs.Card.{printed}
 use Rattle.player.proofs.Shown.{shown, one-output}
@@ -137,6 +145,37 @@ observed-rule {after = after} {n = n} {t} {f} (observed {n = m} {f = g} e is-g l
     let formula : g ≡ f = one-formula is-g is (ap formulaOf (same-tree e h)) in
     subst₂ (λ (k : ℕ) (x : Formula). Observes standardCap (take (4 * k) after ++ rest) k x) number formula (o rest)
 
+-- What packing gives for a table that fails its check, for one that passes and too short a second table,
+refused-table : {t before after : List ℕ} {n k : ℕ} {r : Packed} → PackAnswer t n before r after
+    → checked t n ≡ Failed k → (r ≡ NotPacked k) × (after ≡ before)
+refused-table (not-checked e) h = (ap NotPacked (number-of (sym e ∙ h)), refl)
+  where
+    number-of : {m k : ℕ} → Failed m ≡ Failed k → m ≡ k
+    number-of e = cc
+refused-table (no-second e l) h = absurd (failed-passed (sym h ∙ e))
+refused-table (packed e l long same p) h = absurd (failed-passed (sym h ∙ e))
+
+short-second : {t before after : List ℕ} {n : ℕ} {r : Packed} → PackAnswer t n before r after → checked t n ≡ Passed
+    → length before < tableRoom → (r ≡ NotPacked 9) × (after ≡ before)
+short-second (not-checked e) h low = absurd (failed-passed (sym e ∙ h))
+short-second (no-second e l) h low = (refl, refl)
+short-second (packed e l long same p) h low = absurd (omega arith)
+
+-- and for one that passes where there is room.
+served-table : {t before after : List ℕ} {n : ℕ} {r : Packed} → PackAnswer t n before r after → checked t n ≡ Passed
+    → tableRoom ≤ length before → (n′ : ℕ) × (r ≡ PackedTo n′)
+served-table (not-checked e) h room = absurd (failed-passed (sym e ∙ h))
+served-table (no-second e l) h room = absurd (omega arith)
+served-table (packed {n′} e l long same p) h room = (n′, refl)
+
+packed-front : {t before after : List ℕ} {n n′ : ℕ} {r : Packed} → PackAnswer t n before r after → r ≡ PackedTo n′
+    → (rest : List ℕ) → Packs t n (take (4 * n′) after ++ rest) n′
+packed-front (not-checked e) q rest = absurd (refused-packed q)
+packed-front (no-second e l) q rest = absurd (refused-packed q)
+packed-front {t} {after = after} {n} {n′} (packed {n′ = m} e l long same p) q rest =
+    let number : m ≡ n′ = cc in
+    subst (λ (k : ℕ). Packs t n (take (4 * k) after ++ rest) k) number (p rest)
+
 pub kept : Promises
 kept =
     record {
@@ -153,6 +192,14 @@ kept =
         exact-memories = λ c h rest. remembering c refl h rest;
         few-memories = λ c h rest. remembering-few c h rest;
         observes = λ c h is rest. observed-rule c refl h is rest;
+      };
+      packing = record {
+        refuses = refused-table;
+        no-room = short-second;
+        serves = served-table;
+        packs = λ h. packed-front h refl;
+        one-answer = one-packing;
+        twice = λ h rest room k. again _ _ _ _ _ h rest _ _ _ room k;
       };
       round-trips = record {
         table = λ t n l buffer before after r. lustre.read-of-written t n l buffer before r after;

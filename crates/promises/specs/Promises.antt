@@ -10,6 +10,7 @@
 --   compile_rule   Compiles       observers/specs/Demand.antt       a text, the answer, the table before and after
 --   fresh_state    freshened      flows/specs/Step.antt             all of it as one equation
 --   step           stepped        flows/specs/Step.antt             all of it as one equation
+--   pack           PackAnswer     packing/specs/Laws.antt           a table, the answer, the second before and after
 --   write_lustre   writeEffect    lustre/specs/Write.antt           all of it as one equation
 --   read_lustre    AfterRead      lustre/specs/Read.antt            a text, the answer, the table before and after
 --   towerwatch     Shows          player/specs/Shows.antt           a card and what is printed
@@ -36,13 +37,16 @@ use Rattle.rules.specs.Same.{SameAnswer}
 use Rattle.rules.specs.declared.Read.{Read}
 use Rattle.rules.specs.declared.Same.{Same}
 use Rattle.tables.specs.Table.{Equation, kindOf, checked}
-use Rattle.tables.specs.declared.Checked.the-variants.{Passed}
+use Rattle.tables.specs.declared.Checked.the-variants.{Passed, Refused as Failed}
 use Rattle.flows.specs.Flow.{valueOf}
 use Rattle.flows.specs.Lustre.{RunsAsLustre}
 use Rattle.agreement.specs.Agreement.{Closing, ExactMemories, FewMemories, Observes}
 use Rattle.observers.specs.Demand.{Compiles}
 use Rattle.observers.specs.declared.Compiled.{Compiled}
 use Rattle.observers.specs.declared.Compiled.the-variants.{Equations, Refused}
+use Rattle.packing.specs.Laws.{Packs, PackAnswer}
+use Rattle.packing.specs.declared.Packed.{Packed}
+use Rattle.packing.specs.declared.Packed.the-variants.{Equations as PackedTo, Refused as NotPacked}
 use Rattle.lustre.specs.Write.{AfterWrite, afterWrite, writeEffect}
 use Rattle.lustre.specs.Read.{AfterRead}
 use Rattle.lustre.specs.declared.Written.the-variants.{Length}
@@ -120,6 +124,28 @@ pub record Compiling : Type 0 where
       → Compiles text before (Equations n) after → HasOutcome text (rule t) → formulaOf t ≡ some f
       → (rest : List ℕ) → Observes standardCap (take (4 * n) after ++ rest) n f
 
+-- SPEC 16.1 (packing). A table with a refusal of 10 or 11 gets that, one that passes with too short a second table 9
+-- (SPEC 7.9), and both leave the second table as it was. Else the n′ equations at the front of the second table, whatever
+-- stands after them, are the given table's, packed.
+pub record Packing : Type 0 where
+  pub refuses : {t before after : List ℕ} {n k : ℕ} {r : Packed} → PackAnswer t n before r after
+      → checked t n ≡ Failed k → (r ≡ NotPacked k) × (after ≡ before)
+  pub no-room : {t before after : List ℕ} {n : ℕ} {r : Packed} → PackAnswer t n before r after
+      → checked t n ≡ Passed → length before < tableRoom → (r ≡ NotPacked 9) × (after ≡ before)
+  pub serves : {t before after : List ℕ} {n : ℕ} {r : Packed} → PackAnswer t n before r after
+      → checked t n ≡ Passed → tableRoom ≤ length before → (n′ : ℕ) × (r ≡ PackedTo n′)
+  pub packs : {t before after : List ℕ} {n n′ : ℕ} → PackAnswer t n before (PackedTo n′) after
+      → (rest : List ℕ) → Packs t n (take (4 * n′) after ++ rest) n′
+  -- The contract settles the answer and the second table (SPEC 12.4), so there is one packed table of a table
+  -- (SPEC 16.4),
+  pub one-answer : {t before after after′ : List ℕ} {n : ℕ} {r r′ : Packed} → PackAnswer t n before r after
+      → PackAnswer t n before r′ after′ → (r ≡ r′) × (after ≡ after′)
+  -- and packing it gives it again.
+  pub twice : {t before after before′ after′ : List ℕ} {n n′ : ℕ} {r : Packed}
+      → PackAnswer t n before (PackedTo n′) after → (rest : List ℕ) → tableRoom ≤ length before′
+      → PackAnswer (take (4 * n′) after ++ rest) n′ before′ r after′
+      → (r ≡ PackedTo n′) × (after′ ≡ take (4 * n′) after ++ drop (4 * n′) before′)
+
 -- SPEC 12.2 (demand 2), its part on Lustre text: writing and reading undo each other.
 pub record RoundTrips : Type 0 where
   pub table : (t : List ℕ) (n l : ℕ) (buffer before after : List ℕ) (r : Loaded)
@@ -146,5 +172,6 @@ pub record Promises : Type 1 where
   pub comparing : Comparing
   pub running : Running
   pub compiling : Compiling
+  pub packing : Packing
   pub round-trips : RoundTrips
   pub cards : Cards

@@ -44,7 +44,10 @@ pub rows : (k : ℕ) (d : Shape) → k < kindCount → getD (map shapeOf kinds) 
 unfolding kindOf
 rows k d h = within (map shapeOf kinds) k d (shapeOf unknown) h ∙ List·getD-map shapeOf kinds k unknown
 
--- The number k, where it is j: its flow has the sort that the row of j gives.
+-- The number k, where it is j: its row is that of j, and its flow has the sort that the row gives.
+pub row-is : (k j : ℕ) {s : Shape} → k ≡ j → s ≡ shapeOf (kindOf j) → s ≡ shapeOf (kindOf k)
+row-is k j e h = rw e h
+
 pub row-gives : (k j : ℕ) {s : Sort} → k ≡ j → s ≡ sortOf (kindOf j) → s ≡ sortOf (kindOf k)
 row-gives k j e h = rw e h
 

@@ -168,6 +168,33 @@ fn shape_at(k: u32) -> Shape
     KINDS[i]
 }
 
+// The row for every number: in that of no kind's number nothing fits A. In each arm the row is known as the program is
+// compiled.
+pub fn row_of(k: u32) -> Shape
+    ensures { λ r. ⌜ r ≡ shapeOf (kindOf k) ⌝ }
+{
+    match k {
+        SIGNAL => shape_at(SIGNAL),
+        START => shape_at(START),
+        CONSTANT => shape_at(CONSTANT),
+        NOT => shape_at(NOT),
+        AND => shape_at(AND),
+        OR => shape_at(OR),
+        BOOLEAN_PRE => shape_at(BOOLEAN_PRE),
+        COUNT_PRE => shape_at(COUNT_PRE),
+        CAPPED => shape_at(CAPPED),
+        IF => shape_at(IF),
+        COMPARE_LITERAL => shape_at(COMPARE_LITERAL),
+        COMPARE_PARAMETER => shape_at(COMPARE_PARAMETER),
+        _ => Shape {
+            a: Operand::Below(0),
+            b: Operand::Unused,
+            c: Operand::Unused,
+            gives: Sort::Boolean,
+        },
+    }
+}
+
 // What A has to be in an equation of kind k.
 fn a(k: u32) -> Operand
     requires { ⌜ k < kindCount ⌝ }

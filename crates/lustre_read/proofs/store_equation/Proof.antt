@@ -3,7 +3,7 @@ use borrow.Author.Needs.{needs}
 use Prim.Native.Nat.{_*_}
 use native.Mathlib.Omega.{arith}
 use lib.ListN.{length-set}
-use Rattle.lustre_read.proofs.Lined.{sets-four}
+use Rattle.lists.proofs.Buffers.{sets-four}
 use Rattle.lustre_read.proofs.store_equation.Statement.{statement}
 use Rattle.lustre_read.proofs.store_equation.Tie as tie
 

@@ -1,0 +1,66 @@
+-- Packing as a whole: what a table that passes its check gives the parts, and that their results together are what
+-- packing does. Assumes nothing.
+use mathlib.Core.Path.{_≡_, refl, _∙_, sym, ap, subst}
+use mathlib.Core.Bool.{true, false}
+use mathlib.Core.List.{List, _++_}
+use Prim.Native.Nat.{ℕ, _+_, _*_, _≤_, _<_}
+use native.Mathlib.Omega.{arith}
+use native.Mathlib.Nat.{zero-add}
+use lib.ListN.{length, drop}
+use lib.Seq.{sets, sets-eq}
+use borrow.Author.Tests.{le-leb, lt-leb}
+use Rattle.lists.specs.Number.{numberAt}
+use Rattle.limits.specs.Limits.{tableRoom}
+use Rattle.tables.specs.Table.{checked}
+use Rattle.tables.specs.declared.Checked.the-variants.{Passed, Refused as Failed}
+use Rattle.tables.proofs.Checks.{checked-fitting, refused-table}
+use Rattle.packing.specs.Pack.{classes, kept, packed, packedCount}
+use Rattle.packing.specs.Packing.{AfterPack, afterPack, afterPacking, packChecked, packing}
+use Rattle.packing.specs.Laws.{PackAnswer}
+use Rattle.packing.specs.declared.Packed.{Packed}
+use Rattle.packing.specs.declared.Packed.the-variants.{Equations, Refused}
+use Rattle.packing.proofs.Searches.{count-le}
+use Rattle.packing.proofs.Result.{length-packed}
+use Rattle.packing.proofs.Packs.{room-decides, pack-answers}
+use Rattle.packer.specs.Round.{Fitted}
+use Rattle.packer.specs.Place.{filled}
+use Rattle.packer.proofs.Filled.{length-filled, filled-at}
+
+-- A table that passes its check fits.
+pub fitted : (t : List ℕ) (n : ℕ) → checked t n ≡ Passed → Fitted t n
+fitted t n e = let f = checked-fitting t n e in record { few = f .few; whole = f .whole; equations = f .equations }
+
+-- What a function leaves that fills the first n numbers of a buffer.
+pub filled-by : (f : ℕ → ℕ) (n : ℕ) (l : List ℕ) {l′ : List ℕ} → l′ ≡ filled f n l → n ≤ length l
+    → (n ≤ length l′) × ((i : ℕ) → i < n → numberAt l′ i ≡ f i)
+filled-by f n l e h = rw e (rw (length-filled f n l) h, λ i u. filled-at f n l i u h)
+
+module _ (t : List ℕ) (n : ℕ) (second : List ℕ) where
+  -- A table that fails its check is refused by that number, and one that passes by 9 where there is too little room.
+  pub pack-refused : (r : ℕ) → checked t n ≡ Failed r → afterPack (Refused r) second ≡ packing t n second
+  unfolding packing packChecked
+  pack-refused r e = rw (refused-table t n r _ e)
+
+  module _ (passed : checked t n ≡ Passed) where
+    pub pack-no-room : length second < tableRoom → afterPack (Refused 9) second ≡ packing t n second
+    unfolding packing
+    pack-no-room l = rw (room-decides t n second passed false (lt-leb tableRoom (length second) l))
+
+    -- Else the packed table is stored at the front.
+    pub pack-stored : tableRoom ≤ length second → {after : List ℕ} {size : ℕ} → after ≡ sets second 0 (packed t n)
+        → size ≡ packedCount t n → afterPack (Equations size) after ≡ packing t n second
+    unfolding packing afterPacking
+    pack-stored l {after} {size} e h =
+        let few = checked-fitting t n passed .few in
+        let long = length-packed t (classes t n) (kept t n) n in
+        let less = count-le (kept t n) n in
+        let front : sets second 0 (packed t n) ≡ packed t n ++ drop (4 * packedCount t n) second =
+        sets-eq (packed t n) second 0 (omega arith) ∙ rw (zero-add, long) in
+        rw (room-decides t n second passed true (le-leb tableRoom (length second) l))
+        (λ a. afterPack (Equations (h a)) ((e ∙ front) a))
+
+  -- So the answer and the second table are what packing owes.
+  pub pack-owes : {r : Packed} {after : List ℕ} → afterPack r after ≡ packing t n second
+      → PackAnswer t n second r after
+  pack-owes e =
+      subst (λ (x : AfterPack). PackAnswer t n second (x .answer) (x .second)) (sym e) (pack-answers t n second)

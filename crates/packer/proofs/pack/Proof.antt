@@ -1,0 +1,30 @@
+-- `packer::pack` meets its contract: a table that fails its check is refused by that number. Assumes nothing.
+use mathlib.Core.Path.{_≡_, sym, _∙_}
+use borrow.Author.Needs.{needs}
+use Rattle.packer.proofs.Whole.{pack-refused, pack-owes}
+use Rattle.packer.proofs.pack.Statement.{statement}
+use Rattle.packer.proofs.pack.Tie as tie
+
+passed : tie.Need-pack-checked-requires
+passed c κs = sym (c .before .before .before .check-table .ensures) ∙ c .before .enum-told .given .1
+
+returns : tie.Need-returns
+returns c = let e = c .before .before .pack-checked .ensures in (e, pack-owes _ _ _ e)
+
+refused : tie.Need-returns-2
+refused c =
+    let check = c .before .before .before .check-table in
+    let e = pack-refused _ _ _ _ (sym (check .ensures) ∙ c .before .number .given .1) in
+    (e, pack-owes _ _ _ e)
+
+pub pack-spec : {M : Type 1} → statement M
+pack-spec =
+    tie.close
+    (tie.spec
+    (λ c κs. search needs)
+    (λ c. search needs)
+    (λ c. search needs)
+    passed
+    (λ c. search needs)
+    returns
+    refused)

@@ -1,0 +1,79 @@
+-- Packing what packing left, by its statement alone: `PackAnswer` settles the answer, so what it says of a packed table
+-- is what `packing` does with it, and that is the same table again (Twice.antt). Assumes nothing.
+use mathlib.Core.Path.{_≡_, refl, _∙_, sym, ap}
+use mathlib.Core.Bool.{true}
+use mathlib.Core.List.{List, _++_}
+use Prim.Native.Nat.{ℕ, _*_, _≤_}
+use native.Mathlib.Omega.{arith}
+use lib.ListN.{length, take, drop}
+use lib.Seq.{take-append-seam}
+use borrow.Author.Tests.{le-leb}
+use Rattle.limits.specs.Limits.{tableRoom}
+use Rattle.tables.specs.Table.{checked}
+use Rattle.tables.specs.declared.Checked.the-variants.{Passed}
+use Rattle.packing.specs.Pack.{classes, kept, packed, packedCount}
+use Rattle.packing.specs.Packing.{AfterPack, afterPack, afterPacking, packing}
+use Rattle.packing.specs.Laws.{PackAnswer}
+use Rattle.packing.specs.Laws.PackAnswer.{not-checked, no-room, packed as is-packed}
+use Rattle.packing.specs.declared.Packed.{Packed}
+use Rattle.packing.specs.declared.Packed.the-variants.{Equations, Refused}
+use Rattle.packing.proofs.Result.{length-packed}
+use Rattle.packing.proofs.Packs.{room-decides, pack-answers}
+use Rattle.packing.proofs.Twice.{twice}
+use Rattle.packing.proofs.One.{one-answer}
+
+-- Where nothing is refused the packed table is stored.
+packing-stores : (t : List ℕ) (n : ℕ) (before : List ℕ) → checked t n ≡ Passed → tableRoom ≤ length before
+    → packing t n before ≡ afterPacking t n before
+unfolding packing
+packing-stores t n before passed room =
+    rw (room-decides t n before passed true (le-leb tableRoom (length before) room))
+
+-- A refusal is no answer with equations, and the answer has one number of them.
+pub refused-packed : {k m : ℕ} → Refused k ≡ Equations m → ⊥
+refused-packed e = let z : _≡_ {A = ℕ} 0 1 = cc in omega arith
+
+equations-one : {n m : ℕ} → Equations n ≡ Equations m → n ≡ m
+equations-one e = cc
+
+-- An answer with equations: the table passed its check, and there was room.
+pub answer-passed : {t : List ℕ} {n : ℕ} {before : List ℕ} {r : Packed} {n′ : ℕ} {after : List ℕ}
+    → PackAnswer t n before r after → r ≡ Equations n′ → (checked t n ≡ Passed) × (tableRoom ≤ length before)
+answer-passed (not-checked e) q = absurd (refused-packed q)
+answer-passed (no-room e l) q = absurd (refused-packed q)
+answer-passed (is-packed e l s b h) q = (e, l)
+
+-- What an answer with n′ equations leaves: the packed table at the front.
+module _ (t : List ℕ) (n : ℕ) (before : List ℕ) (n′ : ℕ) (after : List ℕ)
+    (A : PackAnswer t n before (Equations n′) after) where
+  passed : checked t n ≡ Passed
+  passed = answer-passed A refl .0
+
+  left : afterPack (Equations n′) after ≡ afterPacking t n before
+  left =
+      let one = one-answer A (pack-answers t n before) in
+      (λ a. afterPack (one .0 a) (one .1 a)) ∙ packing-stores t n before passed (answer-passed A refl .1)
+
+  size : n′ ≡ packedCount t n
+  unfolding afterPacking
+  size = equations-one (ap (λ (x : AfterPack). x .answer) left)
+
+  front : take (4 * n′) after ≡ packed t n
+  unfolding afterPacking
+  front =
+      let long = length-packed t (classes t n) (kept t n) n in
+      let second : after ≡ packed t n ++ drop (4 * packedCount t n) before = ap (λ (x : AfterPack). x .second) left in
+      rw (second, size, ← long) (take-append-seam (packed t n) _)
+
+  -- Packing that table gives it again.
+  pub again : (rest before′ : List ℕ) (r : Packed) (after′ : List ℕ) → tableRoom ≤ length before′
+      → PackAnswer (take (4 * n′) after ++ rest) n′ before′ r after′
+      → (r ≡ Equations n′) × (after′ ≡ take (4 * n′) after ++ drop (4 * n′) before′)
+  unfolding afterPacking
+  again rest before′ r after′ room B =
+      let same : packing (take (4 * n′) after ++ rest) n′ before′ ≡ afterPacking t n before′ =
+      rw (front, size) (twice t n passed rest before′) ∙ packing-stores t n before′ passed room in
+      let one = one-answer B (pack-answers (take (4 * n′) after ++ rest) n′ before′) in (
+        one .0 ∙ ap (λ (x : AfterPack). x .answer) same ∙ ap Equations (sym size),
+        one .1 ∙ ap (λ (x : AfterPack). x .second) same ∙ rw (front, size),
+      )

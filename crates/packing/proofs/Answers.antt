@@ -1,0 +1,99 @@
+-- Two tables that run as Lustre, where the second has no more equations and answers alike on every trace: on every list
+-- of calls of which the first refuses none, both answer alike. Assumes nothing.
+use mathlib.Core.Path.{_≡_, refl, _∙_, sym, subst}
+use mathlib.Core.List.{List, [], _∷_}
+use Prim.Native.Nat.{ℕ, suc, _≤_}
+use native.Mathlib.Omega.{arith}
+use lib.Dec.{leb}
+use lib.ListN.{length}
+use borrow.Author.Tests.{le-leb, leb-true}
+use Rattle.traces.specs.declared.Tick.{Tick}
+use Rattle.traces.specs.Trace.{Trace, traceOf, tickOf}
+use Rattle.tables.specs.declared.Checked.{Checked}
+use Rattle.tables.specs.declared.Checked.the-variants.{Passed, Refused as Failed}
+use Rattle.tables.proofs.Checks.{passed-one}
+use Rattle.flows.specs.Flow.{answerOf}
+use Rattle.flows.specs.Run.{Call, fromFresh, answered, ticks, EachTick, callChecked, admits}
+use Rattle.flows.specs.Lustre.{Solves, RunsAsLustre}
+use Rattle.flows.specs.declared.Stepped.the-variants.{Verdict}
+use Rattle.flows.proofs.Lists.{each-map}
+use Rattle.flows.proofs.Expected.{admitted, expected, decided-ticks, each-expected}
+use Rattle.packing.specs.Laws.{Answered}
+
+-- Every call is admitted by n equations.
+abbrev Admitted : ℕ → ℕ → List Call → Type 0
+Admitted cap n [] = Unit {0}
+Admitted cap n (x ∷ xs) = (admits cap n x ≡ Passed) × Admitted cap n xs
+
+-- So it is where all answers are verdicts: a call that is not admitted has none.
+answered-admitted : (cap n : ℕ) (v : ℕ → ℕ) (xs : List Call) (k : ℕ) → Answered (expected cap n v k xs)
+    → Admitted cap n xs
+unfolding expected
+answered-admitted cap n v [] k h = tt
+answered-admitted cap n v (x ∷ xs) k h = one (admits cap n x) refl h (answered-admitted cap n v xs (suc k))
+  where
+    one : (c : Checked) → admits cap n x ≡ c → Answered (expected cap n v k (x ∷ xs))
+        → (Answered (expected cap n v (suc k) xs) → Admitted cap n xs) → Admitted cap n (x ∷ xs)
+    one Passed e g rest = (e, rest (rw e at g))
+    one (Failed r) e g rest = absurd (rw e at g)
+
+-- What n equations admit, n′ that are not more admit too: the same ticks, and the same answers if the verdicts are.
+module _ (cap n n′ : ℕ) (less : n′ ≤ n) where
+  admits-less : (x : Call) → admits cap n x ≡ Passed → admits cap n′ x ≡ Passed
+  unfolding callChecked
+  admits-less x e =
+      let l = length (x .values) in
+      let p = passed-one (leb n l) _ 12 e in
+      rw (le-leb n′ l (omega (arith, leb-true n l (p .0)))) (p .1)
+
+  ticks-less : (xs : List Call) → Admitted cap n xs → admitted cap n′ xs ≡ admitted cap n xs
+  unfolding admitted
+  ticks-less [] h = refl
+  ticks-less (x ∷ xs) h = rw (h .0, admits-less x (h .0), ticks-less xs (h .1))
+
+  answers-less : (v v′ : ℕ → ℕ) → ((k : ℕ) → v k ≡ v′ k) → (xs : List Call) (k : ℕ) → Admitted cap n xs
+      → expected cap n′ v′ k xs ≡ expected cap n v k xs
+  unfolding expected
+  answers-less v v′ same [] k h = refl
+  answers-less v v′ same (x ∷ xs) k h =
+      rw (h .0, admits-less x (h .0), same k, answers-less v v′ same xs (suc k) (h .1))
+
+-- The trace of some ticks. Past the last of them, where no step looks, any tick does.
+abbrev traceFor : List Tick → Trace
+traceFor = traceOf (tickOf 0 0 [])
+
+-- The flows that a table has on a trace solve its equations.
+solved : {cap : ℕ} {t : List ℕ} {n : ℕ} (L : RunsAsLustre cap t n) (trace : Trace)
+    → Solves cap t n trace (L .flow trace)
+solved L trace i k l = L .solves trace i k l .equation
+
+-- The answers are what the flows of the admitted ticks say.
+answers-lustre : (cap : ℕ) (t : List ℕ) (n : ℕ) (L : RunsAsLustre cap t n) (old : List ℕ) → n ≤ length old
+    → (calls : List Call)
+    → answered (fromFresh cap t n old calls)
+    ≡ expected cap n (λ k. answerOf n (L .flow (traceFor (admitted cap n calls)) k)) 0 calls
+answers-lustre cap t n L old room calls =
+    let ss = fromFresh cap t n old calls in
+    let decides = L .decides old room calls in
+    let ks : ticks ss ≡ admitted cap n calls = decided-ticks cap t n calls _ decides in
+    let said : List Tick → ℕ → ℕ = λ l k. answerOf n (L .flow (traceFor l) k) in
+    each-expected cap n (said (admitted cap n calls)) calls ss 0 decides
+    (subst (λ (l : List Tick). EachTick (λ k s. s .left .answer ≡ Verdict (said l k)) 0 ss) ks
+    (each-map (λ k s h. h .answer)
+    (L .leaves old room calls (tickOf 0 0 []) (L .flow (traceFor (ticks ss))) (solved L (traceFor (ticks ss))))))
+
+-- Where the flows of both say the same at each tick of each trace, the answers are the same.
+pub answers-same : (cap : ℕ) (t t′ : List ℕ) (n n′ : ℕ) → n′ ≤ n → RunsAsLustre cap t n → RunsAsLustre cap t′ n′
+    → ((trace : Trace) (f g : ℕ → ℕ → ℕ) → Solves cap t n trace f → Solves cap t′ n′ trace g
+    → (k : ℕ) → answerOf n (f k) ≡ answerOf n′ (g k))
+    → (old old′ : List ℕ) → n ≤ length old → n′ ≤ length old′ → (calls : List Call)
+    → Answered (answered (fromFresh cap t n old calls))
+    → answered (fromFresh cap t′ n′ old′ calls) ≡ answered (fromFresh cap t n old calls)
+answers-same cap t t′ n n′ less L L′ same old old′ room room′ calls verdicts =
+    let given = answers-lustre cap t n L old room calls in
+    let all = answered-admitted cap n _ calls 0 (subst Answered given verdicts) in
+    let trace = traceFor (admitted cap n calls) in
+    answers-lustre cap t′ n′ L′ old′ room′ calls
+    ∙ rw (ticks-less cap n n′ less calls all)
+    (answers-less cap n n′ less _ _ (same trace _ _ (solved L trace) (solved L′ trace)) calls 0 all)
+    ∙ sym given
