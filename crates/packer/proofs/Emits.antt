@@ -2,10 +2,9 @@
 -- nothing.
 use mathlib.Core.Path.{_≡_, refl, _∙_, sym, ap}
 use mathlib.Core.Bool.{Bool, true, false}
-use mathlib.Core.List.{List, _++_}
-use Prim.Native.Nat.{ℕ, suc, _+_, _*_, _≤_, _<_}
+use mathlib.Core.List.{List}
+use Prim.Native.Nat.{ℕ, _+_, _*_, _≤_, _<_}
 use native.Mathlib.Omega.{arith}
-use native.Mathlib.Nat.{zero-add}
 use native.Mathlib.Numerals.{add-one}
 use lib.ListN.{length}
 use lib.Seq.{sets, length-sets}
@@ -13,7 +12,7 @@ use Rattle.lists.specs.Number.{numberAt}
 use Rattle.lists.proofs.Buffers.{sets-append}
 use Rattle.traces.specs.Trace.{truth}
 use Rattle.traces.proofs.Laws.{nonzero-truth}
-use Rattle.tables.specs.Table.{Equation, equationAt}
+use Rattle.tables.specs.Table.{equationAt}
 use Rattle.packing.specs.Search.{count}
 use Rattle.packing.specs.Pack.{renamed, classes, kept, numbers, packedBelow, packed}
 use Rattle.packing.proofs.Searches.{count-none, count-more, count-same, count-le}

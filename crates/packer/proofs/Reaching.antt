@@ -2,10 +2,10 @@
 -- found, and goes through that list. What is marked is kept (`Sound`); what has been passed in the list has the classes
 -- of its operands marked (`Reaching`); so at the end of the list the marks are those of SPEC 16.3. Assumes nothing.
 use mathlib.Core.Path.{_≡_, refl, _∙_, sym, ap}
-use mathlib.Core.Bool.{Bool, true, false, cond}
+use mathlib.Core.Bool.{Bool, true, false}
 use mathlib.Core.List.{List}
 use mathlib.Core.Logic.{_⊎_, inl, inr, ⊎-elim}
-use Prim.Native.Nat.{ℕ, zero, suc, _+_, _*_, _-_, _≤_, _<_}
+use Prim.Native.Nat.{ℕ, zero, suc, _+_, _-_, _≤_, _<_}
 use native.Mathlib.Omega.{arith}
 use native.Mathlib.Decide.{ℕ-discrete}
 use lib.Dec.{eqb}
@@ -14,9 +14,8 @@ use lib.Seq.{getD-set-same, getD-set-other}
 use borrow.Author.Tests.{eqb-true, eq-eqb, ne-eqb}
 use Rattle.lists.specs.Number.{numberAt}
 use Rattle.lists.proofs.Choice.{chosen}
-use Rattle.limits.specs.Limits.{equationLimit}
 use Rattle.traces.specs.Trace.{truth}
-use Rattle.tables.specs.Table.{Equation, equationAt, all, operandFits, shapeFits, equationFits, closingCount}
+use Rattle.tables.specs.Table.{Equation, equationAt, all, operandFits, equationFits, closingCount}
 use Rattle.tables.specs.declared.Operand.{Operand}
 use Rattle.tables.specs.declared.Operand.the-variants.{Unused, Earlier, Anywhere, Below}
 use Rattle.tables.proofs.Tests.{all-at}
@@ -28,7 +27,7 @@ use Rattle.packing.proofs.Searches.{told, not-both, count-more, count-same, cou
 use Rattle.packing.proofs.Keys.{both-fit, uses-a, uses-b, uses-c, uses-cases}
 use Rattle.packing.proofs.Classes.{Classes, classes-fit}
 use Rattle.packing.proofs.Marking.{Marks, marks-fit, marks-are}
-use Rattle.packer.specs.Round.{Fitted, cleared}
+use Rattle.packer.specs.Round.{cleared}
 use Rattle.packer.specs.Mark.{Marking, marking, unmarked, pushed, visited, visitedA, visitedB, expanded}
 use Rattle.packer.specs.Mark.{Push, Visit, Expand, Named, Markable}
 use Rattle.packer.specs.Place.{filled}

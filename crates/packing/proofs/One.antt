@@ -19,7 +19,6 @@ use Rattle.lists.proofs.Choice.{false-true}
 use Rattle.tables.specs.Table.{Equation, equationAt, equationFits, checked, startedOf, verdictOf}
 use Rattle.tables.specs.declared.Operand.{Operand}
 use Rattle.tables.specs.declared.Operand.the-variants.{Unused, Earlier, Anywhere, Below}
-use Rattle.tables.specs.declared.Checked.the-variants.{Passed}
 use Rattle.tables.proofs.Tests.{all-at}
 use Rattle.tables.proofs.Checks.{Fitting, checked-fitting, failed-passed}
 use Rattle.packing.specs.Operands.{refers, uses}

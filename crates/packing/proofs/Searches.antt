@@ -149,18 +149,7 @@ module _ (f : ℕ → Bool) where
   pub count-below : (k i : ℕ) → f i ≡ true → i < k → count f i < count f k
   count-below k i e l = omega (arith, count-rises k (suc i) l, count-more i e)
 
-  -- Numbers that pass are equal where their counts are,
-  pub count-one : (i j : ℕ) → f i ≡ true → f j ≡ true → count f i ≡ count f j → i ≡ j
-  count-one i j e g q =
-      elim (decLe (suc i) j) [
-        | yes l ↦ absurd (omega (arith, count-below j i e l))
-        | no l ↦ elim (decLe (suc j) i) [
-          | yes m ↦ absurd (omega (arith, count-below i j g m))
-          | no m ↦ omega arith
-        ]
-      ]
-
-  -- and each number below the count of k is the count of one below k that passes.
+  -- Each number below the count of k is the count of one below k that passes.
   pub count-onto : (k x : ℕ) → x < count f k → (i : ℕ) × (i < k) × (f i ≡ true) × (count f i ≡ x)
   count-onto zero x l = absurd (omega (arith, count-none))
   count-onto (suc k) x l =

@@ -2,12 +2,12 @@
 -- one's operands (`Reaching`). The loop begins with other marks than the program was lent, but only below n.
 -- Assumes nothing.
 use mathlib.Core.Path.{_≡_, _∙_}
-use Prim.Native.Nat.{_-_, _≤_, _<_}
+use Prim.Native.Nat.{_-_, _≤_}
 use native.Mathlib.Omega.{arith}
 use borrow.Author.Needs.{needs}
 use lib.ListN.{length, replicate}
 use Rattle.limits.specs.Limits.{equationLimit}
-use Rattle.packer.specs.Mark.{Marking, marking, pushed, Push, Markable}
+use Rattle.packer.specs.Mark.{marking, Markable}
 use Rattle.packer.proofs.Reaching.{Reaching, push-verdict, push-started, reach-begun, reach-room, reach-more}
 use Rattle.packer.proofs.Reaching.{reach-all, reach-below, begun, begun-filled}
 use Rattle.packer.proofs.mark.Statement.{statement}

@@ -1,5 +1,5 @@
 -- `packer::pack` meets its contract: a table that fails its check is refused by that number. Assumes nothing.
-use mathlib.Core.Path.{_≡_, sym, _∙_}
+use mathlib.Core.Path.{sym, _∙_}
 use borrow.Author.Needs.{needs}
 use Rattle.packer.proofs.Whole.{pack-refused, pack-owes}
 use Rattle.packer.proofs.pack.Statement.{statement}

@@ -1,7 +1,6 @@
 -- `packer::visit` meets its contract, by what the row asks for: the class of an operand is marked. Assumes nothing.
 use mathlib.Core.Path.{_∙_}
 use mathlib.Core.Logic.{inl, inr}
-use native.Mathlib.Omega.{arith}
 use borrow.Author.Needs.{needs}
 use Rattle.packer.specs.Mark.{visited}
 use Rattle.packer.proofs.Marks.{visit-room, visit-pushes}
