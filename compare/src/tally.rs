@@ -73,6 +73,8 @@ pub enum Outcome {
     Packed(Origin, Effect),
     /// A table of 4,096 equations that is packed, and whether to fewer.
     LargestPacked(bool),
+    /// A table of so few equations, packed.
+    SmallestPacked(usize),
     /// An equation of this kind that is merged with an earlier one.
     Merged(u32),
     /// Two equations of this kind of a packed table that differ in this one of their four numbers, which is no flow.
@@ -220,6 +222,7 @@ fn wanted() -> Vec<(Outcome, u64)> {
     want(500, &mut EFFECTS.into_iter().map(|e| Outcome::Packed(Origin::ByHand, e)));
     want(500, &mut EFFECTS[..5].iter().map(|e| Outcome::Packed(Origin::Compiled, *e)));
     want(2, &mut [true, false].into_iter().map(Outcome::LargestPacked));
+    want(500, &mut (2..5).map(Outcome::SmallestPacked));
     want(500, &mut (0..12).map(Outcome::Merged));
     want(50, &mut constants());
     want(50_000, &mut (0..3).map(Outcome::PackedAnswer));

@@ -68,10 +68,12 @@ impl Case {
         let n = match random.below(2000) {
             0 => 4095 + random.below(3),
             1..=40 => 5 + random.below(300),
+            41..=300 => 2 + random.below(3),
             _ => 5 + random.below(30),
         };
         let way = random.pick(&CHAINS);
         let mut table = match random.below(8) {
+            _ if n < 5 => make::random_table(random, n),
             0 if n < 4095 => make::chain(random, n, way),
             1 | 2 => make::random_table(random, n),
             _ => make::repeating_table(random, n),
@@ -188,6 +190,9 @@ fn pack_case(run: &mut Run, case: Case, number: u64) {
     let effects = packing::effects(given, &merged, packed);
     if said == 4096 {
         run.tally.add(Outcome::LargestPacked(effects.contains(&Effect::Shorter)));
+    }
+    if said < 5 {
+        run.tally.add(Outcome::SmallestPacked(said));
     }
     run.tally.extend(effects.into_iter().map(|effect| Outcome::Packed(origin, effect)));
     count_equations(&mut run.tally, given, &merged, packed);

@@ -9,7 +9,7 @@ use Rattle.lustre.specs.declared.Written.the-variants.{Length, Refused as No-te
 use Rattle.lustre.specs.declared.Loaded.{Loaded}
 use Rattle.lustre.specs.declared.Loaded.the-variants.{Equations as Loads, Refused as No-table}
 use Rattle.packing.specs.declared.Packed.{Packed}
-use Rattle.packing.specs.declared.Packed.the-variants.{Equations as Packs, Refused as No-packed}
+use Rattle.packing.specs.declared.Packed.the-variants.{Equations as PackedTo, Refused as NotPacked}
 
 abbrev pub small : Compiled → Type 0
 small (Equations n) = n ≤ equationLimit
@@ -24,5 +24,5 @@ few (Loads n) = n ≤ equationLimit
 few (No-table k) = Unit {0}
 
 abbrev pub slim : Packed → Type 0
-slim (Packs n) = n ≤ equationLimit
-slim (No-packed k) = Unit {0}
+slim (PackedTo n) = n ≤ equationLimit
+slim (NotPacked k) = Unit {0}

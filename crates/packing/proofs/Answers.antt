@@ -1,5 +1,5 @@
--- Two tables that run as Lustre, where the second has no more equations and answers alike on every trace: on every list
--- of calls of which the first refuses none, both answer alike. Assumes nothing.
+-- Two tables that run as Lustre and say the same on every trace: on every list of calls of which the first refuses none,
+-- both answer alike, the second also with values of its own. Assumes nothing.
 use mathlib.Core.Path.{_≡_, refl, _∙_, sym, subst}
 use mathlib.Core.List.{List, [], _∷_}
 use Prim.Native.Nat.{ℕ, suc, _≤_}
@@ -18,7 +18,7 @@ use Rattle.flows.specs.Lustre.{Solves, RunsAsLustre}
 use Rattle.flows.specs.declared.Stepped.the-variants.{Verdict}
 use Rattle.flows.proofs.Lists.{each-map}
 use Rattle.flows.proofs.Expected.{admitted, expected, decided-ticks, each-expected}
-use Rattle.packing.specs.Laws.{Answered}
+use Rattle.packing.specs.Laws.{NoneRefused, SameTicks}
 
 -- Every call is admitted by n equations.
 abbrev Admitted : ℕ → ℕ → List Call → Type 0
@@ -26,37 +26,43 @@ Admitted cap n [] = Unit {0}
 Admitted cap n (x ∷ xs) = (admits cap n x ≡ Passed) × Admitted cap n xs
 
 -- So it is where all answers are verdicts: a call that is not admitted has none.
-answered-admitted : (cap n : ℕ) (v : ℕ → ℕ) (xs : List Call) (k : ℕ) → Answered (expected cap n v k xs)
+answered-admitted : (cap n : ℕ) (v : ℕ → ℕ) (xs : List Call) (k : ℕ) → NoneRefused (expected cap n v k xs)
     → Admitted cap n xs
 unfolding expected
 answered-admitted cap n v [] k h = tt
 answered-admitted cap n v (x ∷ xs) k h = one (admits cap n x) refl h (answered-admitted cap n v xs (suc k))
   where
-    one : (c : Checked) → admits cap n x ≡ c → Answered (expected cap n v k (x ∷ xs))
-        → (Answered (expected cap n v (suc k) xs) → Admitted cap n xs) → Admitted cap n (x ∷ xs)
+    one : (c : Checked) → admits cap n x ≡ c → NoneRefused (expected cap n v k (x ∷ xs))
+        → (NoneRefused (expected cap n v (suc k) xs) → Admitted cap n xs) → Admitted cap n (x ∷ xs)
     one Passed e g rest = (e, rest (rw e at g))
     one (Failed r) e g rest = absurd (rw e at g)
 
--- What n equations admit, n′ that are not more admit too: the same ticks, and the same answers if the verdicts are.
-module _ (cap n n′ : ℕ) (less : n′ ≤ n) where
-  admits-less : (x : Call) → admits cap n x ≡ Passed → admits cap n′ x ≡ Passed
+-- What n equations admit, n′ admit with the same ticks and values for n′: the same answers if the verdicts are.
+module _ (cap n n′ : ℕ) where
+  admits-same : (x y : Call) → x .tick ≡ y .tick → n′ ≤ length (y .values) → admits cap n x ≡ Passed
+      → admits cap n′ y ≡ Passed
   unfolding callChecked
-  admits-less x e =
-      let l = length (x .values) in
-      let p = passed-one (leb n l) _ 12 e in
-      rw (le-leb n′ l (omega (arith, leb-true n l (p .0)))) (p .1)
+  admits-same x y q l e =
+      let p = passed-one (leb n (length (x .values))) _ 12 e in
+      rw (le-leb n′ (length (y .values)) l, ← q) (p .1)
 
-  ticks-less : (xs : List Call) → Admitted cap n xs → admitted cap n′ xs ≡ admitted cap n xs
+  ticks-same : (xs ys : List Call) → SameTicks n′ xs ys → Admitted cap n xs
+      → admitted cap n′ ys ≡ admitted cap n xs
   unfolding admitted
-  ticks-less [] h = refl
-  ticks-less (x ∷ xs) h = rw (h .0, admits-less x (h .0), ticks-less xs (h .1))
+  ticks-same [] [] s h = refl
+  ticks-same [] (y ∷ ys) s h = absurd s
+  ticks-same (x ∷ xs) [] s h = absurd s
+  ticks-same (x ∷ xs) (y ∷ ys) s h =
+      rw (h .0, admits-same x y (s .0) (s .1) (h .0), s .0, ticks-same xs ys (s .2) (h .1))
 
-  answers-less : (v v′ : ℕ → ℕ) → ((k : ℕ) → v k ≡ v′ k) → (xs : List Call) (k : ℕ) → Admitted cap n xs
-      → expected cap n′ v′ k xs ≡ expected cap n v k xs
+  expected-same : (v v′ : ℕ → ℕ) → ((k : ℕ) → v k ≡ v′ k) → (xs ys : List Call) (k : ℕ) → SameTicks n′ xs ys
+      → Admitted cap n xs → expected cap n′ v′ k ys ≡ expected cap n v k xs
   unfolding expected
-  answers-less v v′ same [] k h = refl
-  answers-less v v′ same (x ∷ xs) k h =
-      rw (h .0, admits-less x (h .0), same k, answers-less v v′ same xs (suc k) (h .1))
+  expected-same v v′ same [] [] k s h = refl
+  expected-same v v′ same [] (y ∷ ys) k s h = absurd s
+  expected-same v v′ same (x ∷ xs) [] k s h = absurd s
+  expected-same v v′ same (x ∷ xs) (y ∷ ys) k s h =
+      rw (h .0, admits-same x y (s .0) (s .1) (h .0), same k, expected-same v v′ same xs ys (suc k) (s .2) (h .1))
 
 -- The trace of some ticks. Past the last of them, where no step looks, any tick does.
 abbrev traceFor : List Tick → Trace
@@ -82,18 +88,37 @@ answers-lustre cap t n L old room calls =
     (each-map (λ k s h. h .answer)
     (L .leaves old room calls (tickOf 0 0 []) (L .flow (traceFor (ticks ss))) (solved L (traceFor (ticks ss))))))
 
+-- Calls that n equations admit have values for no more equations, too.
+admitted-ticks : (cap n n′ : ℕ) → n′ ≤ n → (xs : List Call) → Admitted cap n xs → SameTicks n′ xs xs
+unfolding callChecked
+admitted-ticks cap n n′ less [] a = tt
+admitted-ticks cap n n′ less (x ∷ xs) a =
+    let l = leb-true n (length (x .values)) (passed-one (leb n (length (x .values))) _ 12 (a .0) .0) in
+    (refl, omega arith, admitted-ticks cap n n′ less xs (a .1))
+
+-- Where the first table refuses none, all its calls are admitted.
+all-admitted : (cap : ℕ) (t : List ℕ) (n : ℕ) → RunsAsLustre cap t n → (old : List ℕ) → n ≤ length old
+    → (calls : List Call) → NoneRefused (answered (fromFresh cap t n old calls)) → Admitted cap n calls
+all-admitted cap t n L old room calls h =
+    answered-admitted cap n _ calls 0 (subst NoneRefused (answers-lustre cap t n L old room calls) h)
+
+pub same-ticks : (cap : ℕ) (t : List ℕ) (n n′ : ℕ) → n′ ≤ n → RunsAsLustre cap t n → (old : List ℕ) → n ≤ length old
+    → (calls : List Call) → NoneRefused (answered (fromFresh cap t n old calls)) → SameTicks n′ calls calls
+same-ticks cap t n n′ less L old room calls h =
+    admitted-ticks cap n n′ less calls (all-admitted cap t n L old room calls h)
+
 -- Where the flows of both say the same at each tick of each trace, the answers are the same.
-pub answers-same : (cap : ℕ) (t t′ : List ℕ) (n n′ : ℕ) → n′ ≤ n → RunsAsLustre cap t n → RunsAsLustre cap t′ n′
+pub answers-same : (cap : ℕ) (t t′ : List ℕ) (n n′ : ℕ) → RunsAsLustre cap t n → RunsAsLustre cap t′ n′
     → ((trace : Trace) (f g : ℕ → ℕ → ℕ) → Solves cap t n trace f → Solves cap t′ n′ trace g
     → (k : ℕ) → answerOf n (f k) ≡ answerOf n′ (g k))
-    → (old old′ : List ℕ) → n ≤ length old → n′ ≤ length old′ → (calls : List Call)
-    → Answered (answered (fromFresh cap t n old calls))
-    → answered (fromFresh cap t′ n′ old′ calls) ≡ answered (fromFresh cap t n old calls)
-answers-same cap t t′ n n′ less L L′ same old old′ room room′ calls verdicts =
+    → (old old′ : List ℕ) → n ≤ length old → n′ ≤ length old′ → (calls calls′ : List Call)
+    → SameTicks n′ calls calls′ → NoneRefused (answered (fromFresh cap t n old calls))
+    → answered (fromFresh cap t′ n′ old′ calls′) ≡ answered (fromFresh cap t n old calls)
+answers-same cap t t′ n n′ L L′ same old old′ room room′ calls calls′ ts verdicts =
     let given = answers-lustre cap t n L old room calls in
-    let all = answered-admitted cap n _ calls 0 (subst Answered given verdicts) in
+    let all = all-admitted cap t n L old room calls verdicts in
     let trace = traceFor (admitted cap n calls) in
-    answers-lustre cap t′ n′ L′ old′ room′ calls
-    ∙ rw (ticks-less cap n n′ less calls all)
-    (answers-less cap n n′ less _ _ (same trace _ _ (solved L trace) (solved L′ trace)) calls 0 all)
+    answers-lustre cap t′ n′ L′ old′ room′ calls′
+    ∙ rw (ticks-same cap n n′ calls calls′ ts all)
+    (expected-same cap n n′ _ _ (same trace _ _ (solved L trace) (solved L′ trace)) calls calls′ 0 ts all)
     ∙ sym given

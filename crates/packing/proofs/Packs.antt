@@ -15,12 +15,16 @@ use Rattle.tables.specs.Table.{all, Equation, equationAt, equationFits, checked
 use Rattle.tables.specs.declared.Checked.{Checked}
 use Rattle.tables.specs.declared.Checked.the-variants.{Passed, Refused as Failed}
 use Rattle.tables.proofs.Checks.{checked-fitting, passed-both, refused-table}
+use Rattle.traces.specs.Trace.{Trace}
+use Rattle.flows.specs.Flow.{answerOf}
+use Rattle.flows.specs.Run.{Call, fromFresh, answered}
+use Rattle.flows.specs.Lustre.{Solves}
 use Rattle.flows.proofs.Lists.{runs-as-lustre}
 use Rattle.packing.specs.Search.{count}
 use Rattle.packing.specs.Operands.{uses}
 use Rattle.packing.specs.Pack.{classes, kept, packed, packedCount}
 use Rattle.packing.specs.Packing.{packChecked, packingIf, packing, afterPacking}
-use Rattle.packing.specs.Laws.{Alike, Represents, Reached, Packs, PackAnswer}
+use Rattle.packing.specs.Laws.{Alike, Represents, Reached, NoneRefused, SameTicks, Packs, PackAnswer}
 use Rattle.packing.specs.Laws.Reached.{last, through}
 use Rattle.packing.specs.Laws.PackAnswer.{not-checked, no-room, packed as is-packed}
 use Rattle.packing.proofs.Searches.{count-le, count-below}
@@ -31,7 +35,7 @@ use Rattle.packing.proofs.Bisimulation.{alike-weaken}
 use Rattle.packing.proofs.Result.{origin, origin-of, origin-rises, length-packed, PackedFront, packed-front}
 use Rattle.packing.proofs.Result.{Stands, stands, from-started, from-verdict, passes, literals, fewer-memories}
 use Rattle.packing.proofs.Result.{last-two, from-class, distinct, answer-from}
-use Rattle.packing.proofs.Answers.{answers-same}
+use Rattle.packing.proofs.Answers.{same-ticks, answers-same}
 
 -- A table that passes the check, and the packed table with any numbers behind it.
 module _ (t : List ℕ) (n : ℕ) (passed : checked t n ≡ Passed) (rest : List ℕ) where
@@ -84,7 +88,19 @@ module _ (t : List ℕ) (n : ℕ) (passed : checked t n ≡ Passed) (rest : List
       let o = origin-of m n x l in
       subst (Reached t′ n′) (o .place) (kept-reached (from x) (o .below) (o .kept))
 
-  -- SPEC 16.1: the packed table packs the given one.
+  -- Both say the same at each tick of each trace, and so on every list of calls.
+  says-same : (cap : ℕ) (trace : Trace) (f g : ℕ → ℕ → ℕ) → Solves cap t n trace f → Solves cap t′ n′ trace g
+      → (k : ℕ) → answerOf n (f k) ≡ answerOf n′ (g k)
+  says-same cap trace f g F G k = answer-from front cap trace f g F G k two
+
+  same-answers : (cap : ℕ) (old old′ : List ℕ) → n ≤ length old → n′ ≤ length old′ → (calls calls′ : List Call)
+      → SameTicks n′ calls calls′ → NoneRefused (answered (fromFresh cap t n old calls))
+      → answered (fromFresh cap t′ n′ old′ calls′) ≡ answered (fromFresh cap t n old calls)
+  same-answers cap =
+      answers-same cap t t′ n n′ (runs-as-lustre cap t n passed) (runs-as-lustre cap t′ n′ (passes front passed))
+      (says-same cap)
+
+  -- SPEC 16.1 to SPEC 16.5: the packed table packs the given one.
   pub packs : Packs t n (packed t n ++ rest) (packedCount t n)
   packs =
       record {
@@ -101,9 +117,10 @@ module _ (t : List ℕ) (n : ℕ) (passed : checked t n ≡ Passed) (rest : List
         reached = all-reached;
         rising = origin-rises m n;
         shorter = count-le m n;
-        answers = λ cap. answers-same cap t t′ n n′ (count-le m n) (runs-as-lustre cap t n passed)
-            (runs-as-lustre cap t′ n′ (passes front passed))
-            (λ trace f g F G k. answer-from front cap trace f g F G k two);
+        answers = λ cap old old′ room room′ calls h. same-answers cap old old′ room room′ calls calls
+            (same-ticks cap t n n′ (count-le m n) (runs-as-lustre cap t n passed) old room calls h) h;
+        own-values = same-answers;
+        flows = says-same;
         memories = fewer-memories front;
       }
 

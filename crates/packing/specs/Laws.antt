@@ -12,6 +12,9 @@ use Rattle.tables.specs.Table.Kind.{compareLiteral}
 use Rattle.tables.specs.declared.Operand.{Operand}
 use Rattle.tables.specs.declared.Operand.the-variants.{Unused, Earlier, Anywhere, Below}
 use Rattle.tables.specs.declared.Checked.the-variants.{Passed, Refused as Failed}
+use Rattle.traces.specs.Trace.{Trace}
+use Rattle.flows.specs.Flow.{answerOf}
+use Rattle.flows.specs.Lustre.{Solves}
 use Rattle.flows.specs.Run.{Call, answered, fromFresh}
 use Rattle.flows.specs.declared.Stepped.{Stepped}
 use Rattle.flows.specs.declared.Stepped.the-variants.{Verdict, Refused as NotTaken}
@@ -33,8 +36,8 @@ pub record Alike (R : ℕ → ℕ → Type 0) (d e : Equation) : Type 0 where
   pub b : Agree R (shapeIn d .b) (d .b) (e .b)
   pub c : Agree R (shapeIn d .c) (d .c) (e .c)
 
--- SPEC 16.2: equations i and j cannot be told apart: some relation holds of them, and of the operands of all that it
--- holds of, which have one kind and the same other numbers. This is the greatest relation that its operands keep.
+-- SPEC 16.2: equations i and j cannot be told apart: some relation holds of them, and wherever it holds, both equations
+-- have one kind and the same other numbers, and it holds of their operands. `Merged t` is the greatest of this sort.
 pub record Merged (t : List ℕ) (i j : ℕ) : Type 0 where
   pub related : ℕ → ℕ → Bool
   pub alike : (x y : ℕ) → related x y ≡ true
@@ -53,16 +56,23 @@ pub data Reached (t : List ℕ) (n : ℕ) : ℕ → Type 0 where
   through : (i j : ℕ) → i < n → Reached t n j → uses (equationAt t j) i ≡ true → Reached t n i
 
 -- No step is refused.
-abbrev pub Answered : List Stepped → Type 0
-Answered [] = Unit {0}
-Answered (Verdict v ∷ xs) = Answered xs
-Answered (NotTaken r ∷ xs) = ⊥
+abbrev pub NoneRefused : List Stepped → Type 0
+NoneRefused [] = Unit {0}
+NoneRefused (Verdict v ∷ xs) = NoneRefused xs
+NoneRefused (NotTaken r ∷ xs) = ⊥
+
+-- Both lists of calls have the same ticks, one by one, and the second has values for m equations in each call.
+abbrev pub SameTicks : ℕ → List Call → List Call → Type 0
+SameTicks m [] [] = Unit {0}
+SameTicks m [] (y ∷ ys) = ⊥
+SameTicks m (x ∷ xs) [] = ⊥
+SameTicks m (x ∷ xs) (y ∷ ys) = (x .tick ≡ y .tick) × (m ≤ length (y .values)) × SameTicks m xs ys
 
 -- Each literal of the n equations is below m.
 abbrev pub LiteralsBelow : List ℕ → ℕ → ℕ → Type 0
 LiteralsBelow t n m = (i : ℕ) → i < n → kindAt t i ≡ compareLiteral → equationAt t i .c < m
 
--- SPEC 16.1: the n′ equations of t′ are the n of t, packed.
+-- SPEC 16.1 to SPEC 16.5: the n′ equations of t′ are the n of t, packed.
 pub record Packs (t : List ℕ) (n : ℕ) (t′ : List ℕ) (n′ : ℕ) : Type 0 where
   -- It passes the check, and also one with another limit of literals that the given table passes.
   pub passes : checked t′ n′ ≡ Passed
@@ -86,15 +96,21 @@ pub record Packs (t : List ℕ) (n : ℕ) (t′ : List ℕ) (n′ : ℕ) : Type 
   pub rising : (x y : ℕ) → x < y → y < n′ → from x < from y
   pub shorter : n′ ≤ n
   -- On every run from a fresh state in which the given table refuses no step, both answer alike, for every cap, and
-  -- whatever parameters the ticks have.
+  -- whatever parameters the ticks have: over the same calls, and where the packed table has values of its own.
   pub answers : (cap : ℕ) (old old′ : List ℕ) → n ≤ length old → n′ ≤ length old′ → (calls : List Call)
-      → Answered (answered (fromFresh cap t n old calls))
+      → NoneRefused (answered (fromFresh cap t n old calls))
       → answered (fromFresh cap t′ n′ old′ calls) ≡ answered (fromFresh cap t n old calls)
+  pub own-values : (cap : ℕ) (old old′ : List ℕ) → n ≤ length old → n′ ≤ length old′ → (calls calls′ : List Call)
+      → SameTicks n′ calls calls′ → NoneRefused (answered (fromFresh cap t n old calls))
+      → answered (fromFresh cap t′ n′ old′ calls′) ≡ answered (fromFresh cap t n old calls)
+  -- More than that: what solves the equations of both on one trace says the same at every tick.
+  pub flows : (cap : ℕ) (trace : Trace) (f g : ℕ → ℕ → ℕ) → Solves cap t n trace f → Solves cap t′ n′ trace g
+      → (k : ℕ) → answerOf n (f k) ≡ answerOf n′ (g k)
   -- Its memories are never more.
   pub memories : memories t′ n′ ≤ memories t n
 
 -- SPEC 8.8: packing a table of n equations into a second one, the answer, and the second table before and after. It
--- says nothing of how classes are found.
+-- says nothing of how it is done.
 pub data PackAnswer (t : List ℕ) (n : ℕ) (before : List ℕ) : Packed → List ℕ → Type 0 where
   -- refused as the check of the table says, the second table unchanged
   not-checked : {k : ℕ} → checked t n ≡ Failed k → PackAnswer t n before (Refused k) before

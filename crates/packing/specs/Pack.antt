@@ -49,7 +49,7 @@ module _ (t : List ℕ) where
   rounds zero i = 0
   rounds (suc k) i = pass (rounds k) i
 
--- After n·n rounds no further one changes a class.
+-- In a well-formed table of n equations no further round changes one of their classes after n·n rounds.
 abbrev pub classes : List ℕ → ℕ → ℕ → ℕ
 classes t n = rounds t (n * n)
 
@@ -63,7 +63,7 @@ module _ (t : List ℕ) (n : ℕ) (c : ℕ → ℕ) where
   marks zero i = leb n (i + closingCount)
   marks (suc k) i = marks k i || some (reaches (marks k) i) n
 
--- Equation i of n is kept: after 2·n steps no further one marks an equation.
+-- Equation i of n is kept: after 2·n steps no further one marks one of the n equations.
 abbrev pub kept : List ℕ → ℕ → ℕ → Bool
 kept t n = marks t n (classes t n) (n * 2)
 

@@ -168,8 +168,8 @@ fn shape_at(k: u32) -> Shape
     KINDS[i]
 }
 
-// The row for every number: in that of no kind's number nothing fits A. In each arm the row is known as the program is
-// compiled.
+// The row for every number; one that is no kind's gets a row whose A nothing fits. In each arm the row is known as the
+// program is compiled.
 pub fn row_of(k: u32) -> Shape
     ensures { λ r. ⌜ r ≡ shapeOf (kindOf k) ⌝ }
 {
