@@ -1,15 +1,17 @@
 -- Packing what packing left, by its statement alone: `PackAnswer` settles the answer, so what it says of a packed table
--- is what `packing` does with it, and that is the same table again (Twice.antt). Assumes nothing.
+-- is what `packing` does with it, and that is the same table again (Twice.antt). And packing a table does not depend on
+-- the numbers behind its n equations (One.antt). Assumes nothing.
 use mathlib.Core.Path.{_≡_, refl, _∙_, sym, ap}
 use mathlib.Core.Bool.{true}
 use mathlib.Core.List.{List, _++_}
-use Prim.Native.Nat.{ℕ, _*_, _≤_}
+use Prim.Native.Nat.{ℕ, _+_, _*_, _≤_, _<_}
 use native.Mathlib.Omega.{arith}
 use lib.ListN.{length, take, drop}
-use lib.Seq.{take-append-seam}
+use lib.Seq.{take-append-seam, getD-take}
 use borrow.Author.Tests.{le-leb}
+use Rattle.lists.specs.Number.{numberAt}
 use Rattle.limits.specs.Limits.{tableRoom}
-use Rattle.tables.specs.Table.{checked}
+use Rattle.tables.specs.Table.{equationAt, checked}
 use Rattle.tables.specs.declared.Checked.the-variants.{Passed}
 use Rattle.packing.specs.Pack.{classes, kept, packed, packedCount}
 use Rattle.packing.specs.Packing.{AfterPack, afterPack, afterPacking, packing}
@@ -17,10 +19,11 @@ use Rattle.packing.specs.Laws.{PackAnswer}
 use Rattle.packing.specs.Laws.PackAnswer.{not-checked, no-room, packed as is-packed}
 use Rattle.packing.specs.declared.Packed.{Packed}
 use Rattle.packing.specs.declared.Packed.the-variants.{Equations, Refused}
+use Rattle.packing.proofs.Keys.{equation-same}
 use Rattle.packing.proofs.Result.{length-packed}
 use Rattle.packing.proofs.Packs.{room-decides, pack-answers}
 use Rattle.packing.proofs.Twice.{twice}
-use Rattle.packing.proofs.One.{one-answer}
+use Rattle.packing.proofs.One.{one-front, one-answer}
 
 -- Where nothing is refused the packed table is stored.
 packing-stores : (t : List ℕ) (n : ℕ) (before : List ℕ) → checked t n ≡ Passed → tableRoom ≤ length before
@@ -77,3 +80,22 @@ module _ (t : List ℕ) (n : ℕ) (before : List ℕ) (n′ : ℕ) (after : List
         one .0 ∙ ap (λ (x : AfterPack). x .answer) same ∙ ap Equations (sym size),
         one .1 ∙ ap (λ (x : AfterPack). x .second) same ∙ rw (front, size),
       )
+
+-- Lists with the same first 4·n numbers have the same first n equations.
+equations-same : (t s : List ℕ) (n : ℕ) → take (4 * n) t ≡ take (4 * n) s → (i : ℕ) → i < n
+    → equationAt t i ≡ equationAt s i
+equations-same t s n e i l =
+    equation-same _ _ (number (4 * i) (omega arith)) (number (4 * i + 1) (omega arith))
+    (number (4 * i + 2) (omega arith)) (number (4 * i + 3) (omega arith))
+  where
+    number : (x : ℕ) → x < 4 * n → numberAt t x ≡ numberAt s x
+    number x u =
+        sym (getD-take (4 * n) t x 0 u) ∙ ap (λ (l : List ℕ). numberAt l x) e ∙ getD-take (4 * n) s x 0 u
+
+-- SPEC 5.6: numbers behind the n equations are not the table's own. Whatever they are, and whatever the second table
+-- held, the packed table is the same.
+pub behind : (t s : List ℕ) (n : ℕ) (before after before′ after′ : List ℕ) (n′ n″ : ℕ) → take (4 * n) t ≡ take (4 * n) s
+    → PackAnswer t n before (Equations n′) after → PackAnswer s n before′ (Equations n″) after′
+    → (n′ ≡ n″) × (take (4 * n′) after ≡ take (4 * n″) after′)
+behind t s n before after before′ after′ n′ n″ e (is-packed p l z b h) (is-packed p′ l′ z′ b′ h′) =
+    one-front t s n n′ after n″ after′ p (equations-same t s n e) h h′

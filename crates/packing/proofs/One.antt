@@ -1,34 +1,38 @@
 -- The statement of packing settles by itself the packed table, the answer and the second table. Let two tables be
--- packed from one. The last two equations of both stand for the given table's last two. Where an equation of each
--- stands for the same given equation, so do their operands, as only one equation represents a given operand. So what an
--- equation that the last two reach stands for, an equation of the other table stands for too. Both tables keep the
--- order of the given one, so these two equations have the same place, and then the same numbers. Assumes nothing.
-use mathlib.Core.Path.{_≡_, refl, _∙_, sym, ap, ap₂, subst}
-use mathlib.Core.Bool.{true}
-use mathlib.Core.List.{List, _∷_, _++_}
+-- packed from one, or from two lists with the same first n equations: the operands of these are below n, so what cannot
+-- be told apart among them is the same in both lists. The last two equations of both packed tables stand for the given
+-- table's last two. Where an equation of each stands for the same given equation, so do their operands, as only one
+-- equation represents a given operand. So what an equation that the last two reach stands for, an equation of the other
+-- table stands for too. Both tables keep the order of the given one, so these two equations have the same place, and
+-- then the same numbers. Assumes nothing.
+use mathlib.Core.Path.{_≡_, refl, _∙_, sym, ap, ap₂, subst, subst₂}
+use mathlib.Core.Bool.{Bool, true, _&&_}
+use mathlib.Core.List.{List, [], _∷_, _++_, append-nil}
 use mathlib.Core.Logic.{⊎-elim}
 use Prim.Native.Nat.{ℕ, zero, suc, _+_, _*_, _≤_, _<_}
 use native.Mathlib.Omega.{arith}
-use native.Mathlib.Nat.{eq-or-lt-of-le}
+use native.Mathlib.Nat.{eq-or-lt-of-le, min-le-left}
 use native.Mathlib.Decide.{decLt, ℕ-discrete}
-use lib.ListN.{length, take, drop, take-append-drop}
-use borrow.Author.Tests.{eqb-true}
+use lib.Dec.{ltb}
+use lib.ListN.{length, take, drop, take-append-drop, length-take, drop-of-length-le}
+use borrow.Author.Tests.{eqb-true, ltb-true, lt-ltb}
 use Rattle.lists.specs.Number.{numberAt}
 use Rattle.lists.proofs.Buffers.{drop-more}
 use Rattle.lists.proofs.Choice.{false-true}
 use Rattle.tables.specs.Table.{Equation, equationAt, equationFits, checked, startedOf, verdictOf}
 use Rattle.tables.specs.declared.Operand.{Operand}
 use Rattle.tables.specs.declared.Operand.the-variants.{Unused, Earlier, Anywhere, Below}
-use Rattle.tables.proofs.Tests.{all-at}
-use Rattle.tables.proofs.Checks.{Fitting, checked-fitting, failed-passed}
+use Rattle.tables.specs.declared.Checked.the-variants.{Passed}
+use Rattle.tables.proofs.Tests.{and-true, all-at}
+use Rattle.tables.proofs.Checks.{checked-fitting, failed-passed}
 use Rattle.packing.specs.Operands.{refers, uses}
-use Rattle.packing.specs.Laws.{Agree, Alike, Represents, Reached, Packs, PackAnswer}
+use Rattle.packing.specs.Laws.{Agree, Alike, Merged, Represents, Reached, Packs, PackAnswer}
 use Rattle.packing.specs.Laws.Reached.{last, through}
 use Rattle.packing.specs.Laws.PackAnswer.{not-checked, no-room, packed}
 use Rattle.packing.specs.declared.Packed.{Packed}
 use Rattle.packing.specs.declared.Packed.the-variants.{Equations}
 use Rattle.packing.proofs.Keys.{alike-below, uses-cases}
-use Rattle.packing.proofs.Bisimulation.{alike-self, alike-common, alike-weaken, alike-named}
+use Rattle.packing.proofs.Bisimulation.{alike-self, alike-common, alike-converse, alike-weaken, alike-named}
 
 -- ---- alike equations
 
@@ -49,17 +53,90 @@ module _ (R : ℕ → ℕ → Type 0) (i : ℕ) where
 alike-equal : (d e : Equation) → Alike (λ x y. x ≡ y) d e → d ≡ e
 alike-equal d e h = alike-named (λ x. x) d e h ∙ sym (alike-named (λ x. x) e e (alike-self e))
 
+-- ---- lists with the same first equations
+
+-- Both are one number below n.
+abbrev Within : ℕ → ℕ → ℕ → Type 0
+Within n x y = (y < n) × (x ≡ y)
+
+-- The operands of an equation are below n.
+abbrev OperandsBelow : ℕ → Equation → Type 0
+OperandsBelow n e = Alike (Within n) e e
+
+-- So it is with the equations of a table that passes the check.
+operands-below : (t : List ℕ) (n : ℕ) → checked t n ≡ Passed → (x : ℕ) → x < n → OperandsBelow n (equationAt t x)
+operands-below t n passed x l =
+    let e = equationAt t x in
+    let fit = all-at (equationFits t n) n (checked-fitting t n passed .equations) x l in
+    alike-below t n x x (omega arith) (omega arith) (λ y z. y ≡ z) (Within n) (λ y z u v q. (v, q)) e e fit fit
+    (alike-self e)
+
+-- Alike equations, the operands of one below m and those of the other below n, are alike by the relation restricted to
+-- such numbers.
+alike-within : (R : ℕ → ℕ → Type 0) (m n : ℕ) (d e : Equation) → OperandsBelow m d → OperandsBelow n e
+    → Alike R d e → Alike (λ x y. (x < m) × (y < n) × R x y) d e
+alike-within R m n d e u v h =
+    let left = alike-common R (Within m) (λ y x. (x < m) × R x y)
+    (λ x y z r q. (q .0, subst (λ w. R w y) (q .1) r)) d e d h u in
+    alike-common (λ y x. (x < m) × R x y) (Within n) (λ x y. (x < m) × (y < n) × R x y)
+    (λ y x z r q. (r .0, q .0, subst (R x) (q .1) (r .1))) e d e left v
+
+-- Lists s and t have the same first n equations, and the operands of these are below n.
+record SameFirst (s t : List ℕ) (n : ℕ) : Type 0 where
+  operands : (x : ℕ) → x < n → OperandsBelow n (equationAt s x)
+  same : (x : ℕ) → x < n → equationAt s x ≡ equationAt t x
+
+-- The two can be exchanged.
+first-converse : {s t : List ℕ} {n : ℕ} → SameFirst s t n → SameFirst t s n
+first-converse {n} S =
+    record {
+      operands = λ x l. subst (OperandsBelow n) (S .same x l) (S .operands x l);
+      same = λ x l. sym (S .same x l);
+    }
+
+-- Equations below n that cannot be told apart in s cannot in t, by the relation in s, restricted to numbers below n,
+merged-same : {s t : List ℕ} {n : ℕ} → SameFirst s t n → (i j : ℕ) → i < n → j < n → Merged s i j → Merged t i j
+merged-same {s} {t} {n} S i j u v h = record { related = related; alike = alike; both = holds i j u v (h .both) }
+  where
+    related : ℕ → ℕ → Bool
+    related x y = ltb x n && (ltb y n && h .related x y)
+
+    Related : ℕ → ℕ → Type 0
+    Related x y = related x y ≡ true
+
+    holds : (x y : ℕ) → x < n → y < n → h .related x y ≡ true → Related x y
+    holds x y l l′ r = rw (lt-ltb x n l, lt-ltb y n l′, r)
+
+    alike : (x y : ℕ) → Related x y → Alike Related (equationAt t x) (equationAt t y)
+    alike x y r =
+        let p = and-true (ltb x n) _ r in
+        let q = and-true (ltb y n) _ (p .1) in
+        let l = ltb-true x n (p .0) in
+        let l′ = ltb-true y n (q .0) in
+        let d = equationAt s x in
+        let e = equationAt s y in
+        let below = alike-within (λ a b. h .related a b ≡ true) n n d e (S .operands x l) (S .operands y l′)
+        (h .alike x y (q .1)) in
+        subst₂ (Alike Related) (S .same x l) (S .same y l′)
+        (alike-weaken _ Related (λ a b w. holds a b (w .0) (w .1) (w .2)) d e below)
+
+-- so what represents equation i in s represents it in t.
+represents-same : {s t : List ℕ} {n : ℕ} → SameFirst s t n → (r i : ℕ) → r < n → i < n → Represents s n r i
+    → Represents t n r i
+represents-same S r i u v h =
+    record {
+      merged = merged-same S r i u v (h .merged);
+      first = λ j l m. h .first j l (merged-same (first-converse S) j i l v m);
+    }
+
 -- ---- one packed table
 
 -- Only one equation represents equation i.
 one-represents : (t : List ℕ) (n r r′ i : ℕ) → r < n → r′ < n → Represents t n r i → Represents t n r′ i → r ≡ r′
 one-represents t n r r′ i u u′ h h′ = omega (arith, h .first r′ u′ (h′ .merged), h′ .first r u (h .merged))
 
-module _ {t : List ℕ} {n : ℕ} {t′ : List ℕ} {n′ : ℕ} (P : Packs t n t′ n′) where
-  -- The packed table passes the tests of the check.
-  fitting : Fitting t′ n′
-  fitting = checked-fitting t′ n′ (P .passes)
-
+-- A packed table t′ of a list s with the first n equations of t.
+module _ {s t : List ℕ} {n : ℕ} {t′ : List ℕ} {n′ : ℕ} (S : SameFirst s t n) (P : Packs s n t′ n′) where
   -- Operand y of the packed table is one of its equations, and stands for operand i of the given one.
   record StandsFor (i y : ℕ) : Type 0 where
     below : y < n′
@@ -68,13 +145,17 @@ module _ {t : List ℕ} {n : ℕ} {t′ : List ℕ} {n′ : ℕ} (P : Packs t n 
   -- So it is with the operands of each equation.
   operands-stand : (x : ℕ) → x < n′ → Alike StandsFor (equationAt t (P .from x)) (equationAt t′ x)
   operands-stand x l =
-      let e = equationAt t′ x in
-      let fit = all-at (equationFits t′ n′) n′ (fitting .equations) x l in
-      let own = alike-below t′ n′ x x (omega arith) (omega arith) (λ y z. y ≡ z) (λ y z. (z < n′) × (y ≡ z))
-      (λ y z u v q. (v, q)) e e fit fit (alike-self e) in
-      alike-common (λ y i. Represents t n (P .from y) i) (λ y z. (z < n′) × (y ≡ z)) StandsFor
-      (λ y i z r q. record { below = q .0; first = subst (λ w. Represents t n (P .from w) i) (q .1) r })
-      e (equationAt t (P .from x)) e (P .stands x l) own
+      let d = equationAt t′ x in
+      let e = equationAt s (P .from x) in
+      let u = P .below x l in
+      let below = alike-within (λ y i. Represents s n (P .from y) i) n′ n d e (operands-below t′ n′ (P .passes) x l)
+      (S .operands (P .from x) u) (P .stands x l) in
+      rw (← S .same (P .from x) u)
+      (alike-converse _ StandsFor
+      (λ y i h. record {
+        below = h .0;
+        first = represents-same S (P .from y) i (P .below y (h .0)) (h .1) (h .2);
+      }) d e below)
 
   -- Equations stand in the order of the given equations that they stand for.
   from-le : (x y : ℕ) → x ≤ y → y < n′ → P .from x ≤ P .from y
@@ -83,8 +164,8 @@ module _ {t : List ℕ} {n : ℕ} {t′ : List ℕ} {n′ : ℕ} (P : Packs t n 
 
 -- ---- two packed tables
 
-module _ {t : List ℕ} {n : ℕ} {t′ : List ℕ} {n′ : ℕ} {t″ : List ℕ} {n″ : ℕ} (P : Packs t n t′ n′)
-    (Q : Packs t n t″ n″) where
+module _ {s s′ t : List ℕ} {n : ℕ} {t′ : List ℕ} {n′ : ℕ} {t″ : List ℕ} {n″ : ℕ} (S : SameFirst s t n)
+    (S′ : SameFirst s′ t n) (P : Packs s n t′ n′) (Q : Packs s′ n t″ n″) where
   -- Equation x of the first and equation y of the second stand for the same given equation.
   record Same (x y : ℕ) : Type 0 where
     below : x < n′
@@ -94,19 +175,19 @@ module _ {t : List ℕ} {n : ℕ} {t′ : List ℕ} {n′ : ℕ} {t″ : List �
   -- Then they are alike, and their operands too stand for the same given equations.
   same-alike : (x y : ℕ) → Same x y → Alike Same (equationAt t′ x) (equationAt t″ y)
   same-alike x y h =
-      alike-common (StandsFor P) (StandsFor Q) Same
+      alike-common (StandsFor S P) (StandsFor S′ Q) Same
       (λ i a b p q. record {
         below = p .below;
         below′ = q .below;
         origin = one-represents t n (P .from a) (Q .from b) i (P .below a (p .below)) (Q .below b (q .below))
             (p .first) (q .first);
-      }) (equationAt t (P .from x)) (equationAt t′ x) (equationAt t″ y) (operands-stand P x (h .below))
-      (rw (h .origin) (operands-stand Q y (h .below′)))
+      }) (equationAt t (P .from x)) (equationAt t′ x) (equationAt t″ y) (operands-stand S P x (h .below))
+      (rw (h .origin) (operands-stand S′ Q y (h .below′)))
 
   -- For each equation that the last two of the first reach, the second has one that stands for the same,
   reached-same : {x : ℕ} → Reached t′ n′ x → (y : ℕ) × Same x y
   reached-same (last x l h) =
-      let two = fitting Q .closed in
+      let two = checked-fitting t″ n″ (Q .passes) .closed in
       elim (ℕ-discrete x (startedOf n′)) [
         | yes e ↦ with-origin (startedOf n″) (omega arith) (ap (P .from) e ∙ P .started ∙ sym (Q .started))
         | no e ↦ with-origin (verdictOf n″) (omega arith)
@@ -128,7 +209,7 @@ module _ {t : List ℕ} {n : ℕ} {t′ : List ℕ} {n′ : ℕ} {t″ : List �
       elim (decLt (p .0) y) [
         | yes l ↦ omega arith
         | no l ↦ absurd
-            (omega (arith, from-le Q y (p .0) (omega arith) (p .1 .below′), p .1 .origin, h .origin))
+            (omega (arith, from-le S′ Q y (p .0) (omega arith) (p .1 .below′), p .1 .origin, h .origin))
       ]
 
   -- So the second table has no fewer equations.
@@ -140,24 +221,32 @@ module _ {t : List ℕ} {n : ℕ} {t′ : List ℕ} {n′ : ℕ} {t″ : List �
         | no l ↦ omega arith
       ]
 
--- SPEC 16.1: a packed table is one, with one n and each equation the same.
-pub one-packed : (t : List ℕ) (n : ℕ) (t′ : List ℕ) (n′ : ℕ) (t″ : List ℕ) (n″ : ℕ)
-    → Packs t n t′ n′ → Packs t n t″ n″
+-- SPEC 16.1: a packed table is one, with one n and each equation the same, whatever numbers the given list has behind
+-- its n equations.
+pub one-packed : (t s : List ℕ) (n : ℕ) (t′ : List ℕ) (n′ : ℕ) (t″ : List ℕ) (n″ : ℕ) → checked t n ≡ Passed
+    → ((i : ℕ) → i < n → equationAt t i ≡ equationAt s i) → Packs t n t′ n′ → Packs s n t″ n″
     → (n′ ≡ n″) × ((x : ℕ) → x < n′ → equationAt t′ x ≡ equationAt t″ x)
-one-packed t n t′ n′ t″ n″ P Q = (omega (arith, no-fewer P Q, no-fewer Q P), equations)
+one-packed t s n t′ n′ t″ n″ passed same P Q = (omega (arith, no-fewer T S P Q, no-fewer S T Q P), equations)
   where
+    T : SameFirst t t n
+    T = record { operands = operands-below t n passed; same = λ i l. refl }
+
+    S : SameFirst s t n
+    S = first-converse (record { operands = T .operands; same = same })
+
     -- Equations of both that stand for the same one have the same place.
-    place : (x y : ℕ) → Same P Q x y → x ≡ y
+    place : (x y : ℕ) → Same T S P Q x y → x ≡ y
     place x y h =
-        let back : Same Q P y x = record { below = h .below′; below′ = h .below; origin = sym (h .origin) } in
-        omega (arith, same-le P Q x y h, same-le Q P y x back)
+        let back : Same S T Q P y x = record { below = h .below′; below′ = h .below; origin = sym (h .origin) } in
+        omega (arith, same-le T S P Q x y h, same-le S T Q P y x back)
 
     equations : (x : ℕ) → x < n′ → equationAt t′ x ≡ equationAt t″ x
     equations x l =
-        let p = reached-same P Q (P .reached x l) in
+        let p = reached-same T S P Q (P .reached x l) in
         let d = equationAt t′ x in
         let e = equationAt t″ (p .0) in
-        alike-equal d e (alike-weaken (Same P Q) (λ a b. a ≡ b) place d e (same-alike P Q x (p .0) (p .1)))
+        alike-equal d e
+        (alike-weaken (Same T S P Q) (λ a b. a ≡ b) place d e (same-alike T S P Q x (p .0) (p .1)))
         ∙ ap (equationAt t″) (sym (place x (p .0) (p .1)))
 
 -- ---- one answer
@@ -188,21 +277,36 @@ tables-same (suc k) s s′ l l′ same behind =
     tables-same k s s′ (omega arith) (omega arith) (λ x u. same x (omega arith))
     (equation-followed s k l ∙ ap₂ followed (same k (omega arith)) behind ∙ sym (equation-followed s′ k l′))
 
--- The second table after packing is a packed table, with its own numbers behind the front.
-packs-second : (t : List ℕ) (n n′ : ℕ) (after : List ℕ)
-    → ((rest : List ℕ) → Packs t n (take (4 * n′) after ++ rest) n′) → Packs t n after n′
-packs-second t n n′ after h = rw (take-append-drop (4 * n′) after) at (h (drop (4 * n′) after))
+-- Two packed tables of lists with the same first n equations have the same numbers.
+pub one-front : (t s : List ℕ) (n n′ : ℕ) (after : List ℕ) (n″ : ℕ) (after′ : List ℕ) → checked t n ≡ Passed
+    → ((i : ℕ) → i < n → equationAt t i ≡ equationAt s i)
+    → ((rest : List ℕ) → Packs t n (take (4 * n′) after ++ rest) n′)
+    → ((rest : List ℕ) → Packs s n (take (4 * n″) after′ ++ rest) n″)
+    → (n′ ≡ n″) × (take (4 * n′) after ≡ take (4 * n″) after′)
+one-front t s n n′ after n″ after′ passed same h h′ =
+    let u = take (4 * n′) after in
+    let v = take (4 * n″) after′ in
+    let P : Packs t n u n′ = rw (append-nil u) at (h []) in
+    let Q : Packs s n v n″ = rw (append-nil v) at (h′ []) in
+    let one = one-packed t s n u n′ v n″ passed same P Q in
+    let whole = checked-fitting v n″ (Q .passes) .whole in
+    let end : drop (4 * n′) v ≡ [] = rw (one .0) (ends n″ after′) in
+    let numbers = tables-same n′ u v (checked-fitting u n′ (P .passes) .whole) (omega (arith, one .0)) (one .1)
+    (ends n′ after ∙ sym end) in
+    (one .0, numbers)
+  where
+    ends : (k : ℕ) (u : List ℕ) → drop (4 * k) (take (4 * k) u) ≡ []
+    ends k u = drop-of-length-le (take (4 * k) u) {i = 4 * k} (rw (length-take (4 * k) u) (min-le-left _ _))
 
--- Two packed tables, put into one second table, leave the same there: the numbers behind them are kept.
-one-second : (t : List ℕ) (n : ℕ) (before : List ℕ) (n′ : ℕ) (after : List ℕ) (n″ : ℕ) (after′ : List ℕ)
+-- Two packed tables with the same numbers, put into one second table, leave the same there: the numbers behind them are
+-- kept.
+one-second : (before : List ℕ) (n′ : ℕ) (after : List ℕ) (n″ : ℕ) (after′ : List ℕ)
     → drop (4 * n′) after ≡ drop (4 * n′) before → drop (4 * n″) after′ ≡ drop (4 * n″) before
-    → Packs t n after n′ → Packs t n after′ n″
+    → (n′ ≡ n″) × (take (4 * n′) after ≡ take (4 * n″) after′)
     → (Equations n′ ≡ Equations n″) × (after ≡ after′)
-one-second t n before n′ after n″ after′ behind behind′ P Q =
-    let one = one-packed t n after n′ after′ n″ P Q in
-    let whole = fitting Q .whole in
-    let same = tables-same n′ after after′ (fitting P .whole) (omega (arith, one .0)) (one .1)
-    (behind ∙ sym (rw (← one .0) at behind′)) in
+one-second before n′ after n″ after′ behind behind′ one =
+    let kept = behind ∙ ap (λ k. drop (4 * k) before) (one .0) ∙ sym behind′ in
+    let same = sym (take-append-drop (4 * n′) after) ∙ ap₂ _++_ (one .1) kept ∙ take-append-drop (4 * n″) after′ in
     (ap Equations (one .0), same)
 
 -- SPEC 8.8: packing a table into a second one has one answer, and leaves one second table.
@@ -217,4 +321,4 @@ one-answer (no-room p l) (packed p′ l′ s b h) = absurd (omega arith)
 one-answer (packed p l s b h) (not-checked e) = absurd (failed-passed (sym e ∙ p))
 one-answer (packed p l s b h) (no-room p′ l′) = absurd (omega arith)
 one-answer (packed p l s b h) (packed p′ l′ s′ b′ h′) =
-    one-second _ _ _ _ _ _ _ b b′ (packs-second _ _ _ _ h) (packs-second _ _ _ _ h′)
+    one-second _ _ _ _ _ b b′ (one-front _ _ _ _ _ _ _ p (λ i u. refl) h h′)

@@ -40,7 +40,7 @@ use Rattle.packing.specs.Laws.PackAnswer.{not-checked, no-room as no-second, pa
 use Rattle.packing.specs.declared.Packed.{Packed}
 use Rattle.packing.specs.declared.Packed.the-variants.{Equations as PackedTo, Refused as NotPacked}
 use Rattle.packing.proofs.One.{one-answer as one-packing}
-use Rattle.packing.proofs.Again.{refused-packed, again}
+use Rattle.packing.proofs.Again.{refused-packed, again, behind}
 use Rattle.lustre.proofs.Theorems as lustre
 use Rattle.player.specs.Card.{printed}
 use Rattle.player.proofs.Shown.{shown, one-output}
@@ -199,6 +199,7 @@ kept =
         serves = served-table;
         packs = λ h. packed-front h refl;
         one-answer = one-packing;
+        behind = λ e h k. behind _ _ _ _ _ _ _ _ _ e h k;
         twice = λ h rest room k. again _ _ _ _ _ h rest _ _ _ room k;
       };
       round-trips = record {

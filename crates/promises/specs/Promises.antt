@@ -140,6 +140,10 @@ pub record Packing : Type 0 where
   -- (SPEC 16.4),
   pub one-answer : {t before after after′ : List ℕ} {n : ℕ} {r r′ : Packed} → PackAnswer t n before r after
       → PackAnswer t n before r′ after′ → (r ≡ r′) × (after ≡ after′)
+  -- whatever numbers stand behind it (SPEC 5.6) and in the second table,
+  pub behind : {t s before after before′ after′ : List ℕ} {n n′ n″ : ℕ} → take (4 * n) t ≡ take (4 * n) s
+      → PackAnswer t n before (PackedTo n′) after → PackAnswer s n before′ (PackedTo n″) after′
+      → (n′ ≡ n″) × (take (4 * n′) after ≡ take (4 * n″) after′)
   -- and packing it gives it again.
   pub twice : {t before after before′ after′ : List ℕ} {n n′ : ℕ} {r : Packed}
       → PackAnswer t n before (PackedTo n′) after → (rest : List ℕ) → tableRoom ≤ length before′
