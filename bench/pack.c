@@ -61,6 +61,6 @@ int main(void) {
        more of them from those before it */
     memset(table, 0, sizeof table);
     for (uint32_t i = 0; i < 4095; i++) table[4 * i] = 6, table[4 * i + 1] = i + 1;
-    report("a chain of 4,096 forward memories", 4096, 3, 1);
+    report("a chain of 4,095 forward memories", 4096, 3, 1);
     return 0;
 }

@@ -139,7 +139,7 @@ struct towerwatch_answer towerwatch_read_lustre(const uint8_t *text, size_t text
  * the other: make a fresh one.
  * table: 4 * n numbers or more, only read. packed: TOWERWATCH_TABLE_NUMBERS numbers or more, none of them the table's;
  * its front is set to the packed table's equations, four numbers each, and the rest of it is kept. It takes more than
- * 80 KiB of stack.
+ * 64 KiB of stack.
  * Result: how many equations the packed table has, at most n. It has no more memories than the given one. Refused: 10,
  * 11, 9. */
 struct towerwatch_answer towerwatch_pack(const uint32_t *table, size_t table_len, size_t n, uint32_t *packed,

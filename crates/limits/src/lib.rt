@@ -32,6 +32,9 @@ pub const CAP: u32 = 1000000;
 // The equations that a table can have.
 pub const EQUATIONS: usize = 4096;
 
+// The equations that the table of a rule can have (SPEC 12.6). Packing keeps small buffers for such tables.
+pub const RULE_EQUATIONS: usize = 619;
+
 // The numbers that a table lent for a result needs: four for each equation.
 pub const TABLE: usize = 4 * EQUATIONS;
 

@@ -32,7 +32,7 @@ use Rattle.packer.specs.Mark.{Marking, marking, unmarked, pushed, visite
 use Rattle.packer.specs.Mark.{Push, Visit, Expand, Named, Markable}
 use Rattle.packer.specs.Place.{filled}
 use Rattle.packer.proofs.Filled.{length-filled, filled-at, filled-beyond, filled-is}
-use Rattle.packer.proofs.Cleared.{length-cleared, cleared-at, cleared-beyond}
+use Rattle.packer.proofs.Cleared.{length-cleared, cleared-at, cleared-beyond, cleared-set}
 
 -- Counts of two tests that agree below k, and of two that differ at one number only.
 count-agree : (f g : ℕ → Bool) (k : ℕ) → ((i : ℕ) → i < k → f i ≡ g i) → count f k ≡ count g k
@@ -81,14 +81,16 @@ grown-on G H =
       marks = λ i e. H .marks i (G .marks i e);
     }
 
--- n equations, of which those with K are kept, and the marks m that the program was lent.
-module _ (n : ℕ) (K : ℕ → Bool) (m : List ℕ) where
-  -- Each equation is not marked, or it is kept and found. The list has what is marked, and no more than that.
+-- n equations, of which those with K are kept, and the marks m and the list f that the program was lent.
+module _ (n : ℕ) (K : ℕ → Bool) (m f : List ℕ) where
+  -- Each equation is not marked, or it is kept and found. The list has what is marked, and no more than that. All
+  -- numbers past n are kept.
   pub record Sound (w : Marking) : Type 0 where
     pub long : length (w .marks) ≡ length m
     pub room : n ≤ length (w .found)
     pub few : w .size + count (unmarked (w .marks)) n ≤ n
     pub rest : (i : ℕ) → n ≤ i → numberAt (w .marks) i ≡ numberAt m i
+    pub spare : cleared n (w .found) ≡ cleared n f
     pub each : (i : ℕ) → i < n → (numberAt (w .marks) i ≡ 0) ⊎ Kept K w i
     pub listed : (p : ℕ) → p < w .size → (numberAt (w .found) p < n) × (numberAt (w .marks) (numberAt (w .found) p) ≡ 1)
 
@@ -111,10 +113,13 @@ module _ (n : ℕ) (K : ℕ → Bool) (m : List ℕ) where
         omega arith))
         (λ i u. rw (getD-set-other (w .marks) x i 1 0 u)) n l
 
+    size-below : unmarked (w .marks) x ≡ true → w .size < n
+    size-below e = omega (arith, one-less e, S .few)
+
     pub push-room : Push w x
     push-room = (
       omega (arith, S .long),
-      λ e. omega (arith, one-less e, S .few, S .room),
+      λ e. omega (arith, size-below e, S .room),
     )
 
     -- It is marked now, or it was.
@@ -172,6 +177,7 @@ module _ (n : ℕ) (K : ℕ → Bool) (m : List ℕ) where
                 room = rw length-set (S .room);
                 few = omega (arith, one-less e, S .few);
                 rest = λ i u. other i (λ (q : i ≡ x). omega arith) ∙ S .rest i u;
+                spare = cleared-set n (w .found) (w .size) x (size-below e) ∙ S .spare;
                 each = more-each;
                 listed = more-listed;
               };
@@ -192,16 +198,16 @@ module _ (n : ℕ) (K : ℕ → Bool) (m : List ℕ) where
       unfolding pushed
       push-kept = chosen (λ (w′ : Marking). Pushed w w′ x) (unmarked (w .marks) x) push-more push-none
 
--- The loop, over the marks m that the program was lent: the first `done` of the list are passed.
-pub record Reaching (t : List ℕ) (n : ℕ) (m : List ℕ) (w : Marking) (done : ℕ) : Type 0 where
-  pub sound : Sound n (kept t n) m w
+-- The loop, over the marks m and the list f that the program was lent: the first `done` of the list are passed.
+pub record Reaching (t : List ℕ) (n : ℕ) (m f : List ℕ) (w : Marking) (done : ℕ) : Type 0 where
+  pub sound : Sound n (kept t n) m f w
   pub passed : done ≤ w .size
   pub last : (i : ℕ) → i < n → n ≤ i + closingCount → numberAt (w .marks) i ≡ 1
   pub closed : (p : ℕ) → p < done → (z : ℕ) → z < n
       → uses (keyAt t (classes t n) (numberAt (w .found) p)) z ≡ true → numberAt (w .marks) z ≡ 1
 
 -- The same of a table t whose first n equations fit, with their classes in the list l.
-module _ (t : List ℕ) (n : ℕ) (l m : List ℕ) (G : Markable t n l m) where
+module _ (t : List ℕ) (n : ℕ) (l m f : List ℕ) (G : Markable t n l m) where
   names : Named t n l
   names = G .names
 
@@ -221,7 +227,7 @@ module _ (t : List ℕ) (n : ℕ) (l m : List ℕ) (G : Markable t n l m) where
   M = marks-fit t n c fit C
 
   abbrev Good : Marking → Type 0
-  Good w = Sound n (kept t n) m w
+  Good w = Sound n (kept t n) m f w
 
   -- The numbers z that P names are marked in w′, which comes after w.
   record Marked (w w′ : Marking) (P : ℕ → Type 0) : Type 0 where
@@ -235,11 +241,11 @@ module _ (t : List ℕ) (n : ℕ) (l m : List ℕ) (G : Markable t n l m) where
     class-below = let h = C .least y u in rw (names y u) (omega arith)
 
     class-room : (y < length l) × Push w (numberAt l y)
-    class-room = (omega (arith, G .named), push-room n (kept t n) m w (numberAt l y) S class-below whole)
+    class-room = (omega (arith, G .named), push-room n (kept t n) m f w (numberAt l y) S class-below whole)
 
     class-marked : (P : ℕ → Type 0) → ((z : ℕ) → P z → c y ≡ z) → Marked w (pushed w (numberAt l y)) P
     class-marked P is =
-        let h = push-kept n (kept t n) m w (numberAt l y) S class-below whole (rw (names y u) k) in
+        let h = push-kept n (kept t n) m f w (numberAt l y) S class-below whole (rw (names y u) k) in
         record {
           sound = h .sound;
           grown = h .grown;
@@ -311,7 +317,7 @@ module _ (t : List ℕ) (n : ℕ) (l m : List ℕ) (G : Markable t n l m) where
   marked-kept w S i u e =
       ⊎-elim (λ h. absurd (let z : _≡_ {A = ℕ} 1 0 = sym e ∙ h in omega arith)) (λ h. h .is) (S .each i u)
 
-  module _ (w : Marking) (done : ℕ) (R : Reaching t n m w done) (u : done < w .size) where
+  module _ (w : Marking) (done : ℕ) (R : Reaching t n m f w done) (u : done < w .size) where
     abbrev next : ℕ
     next = numberAt (w .found) done
 
@@ -323,7 +329,7 @@ module _ (t : List ℕ) (n : ℕ) (l m : List ℕ) (G : Markable t n l m) where
     pub reach-room : Expand t next l w
     reach-room = expand-fits next (next-kept .0) w (R .sound) (next-kept .1) .0
 
-    one-passed : Reaching t n m (expanded (numberAt l) w (equationAt t next)) (done + 1)
+    one-passed : Reaching t n m f (expanded (numberAt l) w (equationAt t next)) (done + 1)
     one-passed =
         let h = expand-fits next (next-kept .0) w (R .sound) (next-kept .1) .1 in
         let g = h .grown in
@@ -340,7 +346,7 @@ module _ (t : List ℕ) (n : ℕ) (l m : List ℕ) (G : Markable t n l m) where
               ];
         }
 
-    pub reach-more : {w′ : Marking} → w′ ≡ expanded (numberAt l) w (equationAt t next) → Reaching t n m w′ (done + 1)
+    pub reach-more : {w′ : Marking} → w′ ≡ expanded (numberAt l) w (equationAt t next) → Reaching t n m f w′ (done + 1)
     reach-more e = rw e one-passed
 
     -- The next one is an equation, and fewer than n are passed.
@@ -348,7 +354,7 @@ module _ (t : List ℕ) (n : ℕ) (l m : List ℕ) (G : Markable t n l m) where
     reach-below = (next-kept .0, omega (arith, R .sound .few))
 
   -- Past the end of the list the marks are those of the equations that are kept.
-  module _ (w : Marking) (done : ℕ) (R : Reaching t n m w done) (u : w .size ≤ done) where
+  module _ (w : Marking) (done : ℕ) (R : Reaching t n m f w done) (u : w .size ≤ done) where
     abbrev one : ℕ → Bool
     one i = eqb (numberAt (w .marks) i) 1
 
@@ -370,7 +376,7 @@ module _ (t : List ℕ) (n : ℕ) (l m : List ℕ) (G : Markable t n l m) where
         (λ i v. ⊎-elim (λ z. z ∙ rw (← one-kept i v, z)) (λ k. k .mark ∙ rw (k .is)) (S .each i v)) (S .rest)
 
   -- The start: nothing is marked, then the last two are.
-  module _ (f : List ℕ) (room : n ≤ length f) where
+  module _ (room : n ≤ length f) where
     two : closingCount ≤ n
     two = G .two
 
@@ -384,6 +390,7 @@ module _ (t : List ℕ) (n : ℕ) (l m : List ℕ) (G : Markable t n l m) where
           room = room;
           few = omega (arith, count-le (unmarked (cleared n m)) n);
           rest = cleared-beyond n m;
+          spare = refl;
           each = λ i u. inl (cleared-at n m i u);
           listed = λ p u. absurd (omega arith);
         }
@@ -392,13 +399,13 @@ module _ (t : List ℕ) (n : ℕ) (l m : List ℕ) (G : Markable t n l m) where
     abbrev verdict : Marking
     verdict = pushed none (n - 1)
 
-    verdict-pushed : Pushed n (kept t n) m none verdict (n - 1)
+    verdict-pushed : Pushed n (kept t n) m f none verdict (n - 1)
     verdict-pushed =
-        push-kept n (kept t n) m none (n - 1) none-good (omega (arith, two)) whole
+        push-kept n (kept t n) m f none (n - 1) none-good (omega (arith, two)) whole
         (M .last (n - 1) (omega (arith, two)))
 
     verdict-room : Push none (n - 1)
-    verdict-room = push-room n (kept t n) m none (n - 1) none-good (omega (arith, two)) whole
+    verdict-room = push-room n (kept t n) m f none (n - 1) none-good (omega (arith, two)) whole
 
     -- and the started flow's.
     abbrev started : Marking
@@ -406,11 +413,11 @@ module _ (t : List ℕ) (n : ℕ) (l m : List ℕ) (G : Markable t n l m) where
 
     started-room : Push verdict (n - closingCount)
     started-room =
-        push-room n (kept t n) m verdict (n - closingCount) (verdict-pushed .sound) (omega (arith, two)) whole
+        push-room n (kept t n) m f verdict (n - closingCount) (verdict-pushed .sound) (omega (arith, two)) whole
 
-    reach-none : Reaching t n m started 0
+    reach-none : Reaching t n m f started 0
     reach-none =
-        let h = push-kept n (kept t n) m verdict (n - closingCount) (verdict-pushed .sound) (omega (arith, two)) whole
+        let h = push-kept n (kept t n) m f verdict (n - closingCount) (verdict-pushed .sound) (omega (arith, two)) whole
         (M .last (n - closingCount) (omega (arith, two))) in
         record {
           sound = h .sound;
@@ -431,32 +438,32 @@ module _ (t : List ℕ) (n : ℕ) (l m : List ℕ) (G : Markable t n l m) where
         pub push-started : Push u (n - closingCount)
         push-started = rw (is-verdict, is-clear) started-room
 
-        pub reach-begun : {z : Marking} → z ≡ pushed u (n - closingCount) → Reaching t n m z 0
+        pub reach-begun : {z : Marking} → z ≡ pushed u (n - closingCount) → Reaching t n m f z 0
         reach-begun is-started = rw (is-started, is-verdict, is-clear) reach-none
 
--- The marks that the loop begins with take the place of those that the program was lent: they differ below n only.
-pub begun : {t : List ℕ} {n : ℕ} {m : List ℕ} {w : Marking} {done : ℕ} → Reaching t n m w done
-    → Reaching t n (w .marks) w done
-begun R =
-    let S = R .sound in
-    record {
-      sound = record {
-        long = refl;
-        room = S .room;
-        few = S .few;
-        rest = λ i u. refl;
-        each = S .each;
-        listed = S .listed;
-      };
-      passed = R .passed;
-      last = R .last;
-      closed = R .closed;
-    }
+-- What the loop begins with takes the place of what the program was lent: they differ below n only.
+module _ {t : List ℕ} {n : ℕ} {m f : List ℕ} {w : Marking} {done : ℕ} (R : Reaching t n m f w done) where
+  pub begun : Reaching t n (w .marks) (w .found) w done
+  begun =
+      let S = R .sound in
+      record {
+        sound = record {
+          long = refl;
+          room = S .room;
+          few = S .few;
+          rest = λ i u. refl;
+          spare = refl;
+          each = S .each;
+          listed = S .listed;
+        };
+        passed = R .passed;
+        last = R .last;
+        closed = R .closed;
+      }
 
-pub begun-filled : {t : List ℕ} {n : ℕ} {m : List ℕ} {w : Marking} {done : ℕ} → Reaching t n m w done → (f : ℕ → ℕ)
-    → n ≤ length m → filled f n (w .marks) ≡ filled f n m
-begun-filled {t} {n} {m} {w} R f h =
-    let S = R .sound in
-    let h′ : n ≤ length (w .marks) = omega (arith, S .long) in
-    filled-is f n m (filled f n (w .marks)) h (length-filled f n (w .marks) ∙ S .long)
-    (λ i u. filled-at f n (w .marks) i u h′) (λ i u. filled-beyond f n (w .marks) i u ∙ S .rest i u)
+  pub begun-filled : (g : ℕ → ℕ) → n ≤ length m → filled g n (w .marks) ≡ filled g n m
+  begun-filled g h =
+      let S = R .sound in
+      let h′ : n ≤ length (w .marks) = omega (arith, S .long) in
+      filled-is g n m (filled g n (w .marks)) h (length-filled g n (w .marks) ∙ S .long)
+      (λ i u. filled-at g n (w .marks) i u h′) (λ i u. filled-beyond g n (w .marks) i u ∙ S .rest i u)

@@ -7,20 +7,20 @@ use mathlib.Core.List.{List}
 use Prim.Native.Nat.{ℕ, _*_, _-_, _≤_, _<_}
 use native.Mathlib.Omega.{arith}
 use native.Mathlib.Decide.{decLe}
-use lib.ListN.{length, take, drop, replicate, length-replicate, getD-replicate, List·getD-append}
+use lib.ListN.{length, take, drop, List·getD-append}
 use lib.Seq.{sets, length-sets, length-take-le, getD-take}
 use borrow.Author.Tests.{eq-eqb, eqb-true}
 use Rattle.lists.specs.Number.{numberAt}
 use Rattle.lists.proofs.Buffers.{sets-front}
-use Rattle.limits.specs.Limits.{equationLimit}
 use Rattle.tables.specs.Table.{all, equationFits}
 use Rattle.tables.proofs.Tests.{all-at, all-of}
 use Rattle.packing.specs.Pack.{classes}
 use Rattle.packing.proofs.Searches.{not-both, total, total-le, total-same, total-bound}
 use Rattle.packing.proofs.Classes.{Finer}
 use Rattle.packer.specs.Place.{filled}
-use Rattle.packer.specs.Round.{Quick, Fitted, Chains, chains, roundOf, sameNumber}
+use Rattle.packer.specs.Round.{Quick, Fitted, Rooms, Chains, cleared, roundOf, sameNumber}
 use Rattle.packer.proofs.Filled.{filled-is}
+use Rattle.packer.proofs.Cleared.{cleared-at, cleared-copy}
 use Rattle.packer.proofs.Quick.{quick-le, quick-finer, quick-later, quick-coarser, quick-fixed, quick-agree}
 use Rattle.packer.proofs.Turns.{Turned, turned}
 
@@ -85,28 +85,33 @@ module _ (n : ℕ) (l l′ : List ℕ) where
   differ-agreed : all (sameNumber l l′) n ≡ false → Agreed n (numberAt l) (numberAt l′) → ⊥
   differ-agreed e h = not-both _ (all-of (sameNumber l l′) n (λ i u. eq-eqb _ _ (h i u))) e
 
--- The buffers between two rounds, where `old` are the names at the start: their lengths, what is known of the classes
--- before the round, and that the names past the n equations are kept.
-pub record Rounding (t : List ℕ) (n : ℕ) (old names before next heads : List ℕ) : Type 0 where
-  pub length-names : length names ≡ length old
-  pub length-before : length before ≡ equationLimit
-  pub length-next : length next ≡ equationLimit
-  pub length-heads : length heads ≡ equationLimit
+-- The buffers between two rounds, where w₀ and before₀ are those at the start: their lengths, what is known of the
+-- classes before the round, and that all numbers past n are kept.
+pub record Rounding (t : List ℕ) (n : ℕ) (w₀ : Chains) (before₀ : List ℕ) (w : Chains) (before : List ℕ) : Type 0 where
+  pub length-names : length (w .names) ≡ length (w₀ .names)
+  pub length-before : length before ≡ length before₀
+  pub length-next : length (w .next) ≡ length (w₀ .next)
+  pub length-heads : length (w .heads) ≡ length (w₀ .heads)
   pub known : Before t n (numberAt before)
-  pub beyond : (x : ℕ) → n ≤ x → numberAt names x ≡ numberAt old x
+  pub beyond : (x : ℕ) → n ≤ x → numberAt (w .names) x ≡ numberAt (w₀ .names) x
+  pub rest-before : cleared n before ≡ cleared n before₀
+  pub rest-next : cleared n (w .next) ≡ cleared n (w₀ .next)
+  pub rest-heads : cleared n (w .heads) ≡ cleared n (w₀ .heads)
 
--- Before the first round the other buffers are cleared.
-pub rounding-none : (t : List ℕ) (n : ℕ) (old before next heads : List ℕ) → n ≤ equationLimit
-    → before ≡ replicate equationLimit 0 → length next ≡ equationLimit → length heads ≡ equationLimit
-    → Rounding t n old old before next heads
-rounding-none t n old before next heads few cleared long-next long-heads =
+-- Before the first round the classes before it are cleared.
+pub rounding-none : (t : List ℕ) (n : ℕ) (w₀ : Chains) (given : List ℕ) {before₀ : List ℕ}
+    → before₀ ≡ cleared n given → Rounding t n w₀ before₀ w₀ before₀
+rounding-none t n w₀ given e =
     record {
       length-names = refl;
-      length-before = rw cleared (length-replicate {A = ℕ} equationLimit 0);
-      length-next = long-next;
-      length-heads = long-heads;
-      known = before-none t n _ (λ i l. rw cleared (getD-replicate equationLimit i 0 0 (omega arith)));
+      length-before = refl;
+      length-next = refl;
+      length-heads = refl;
+      known = before-none t n _ (λ i l. rw e (cleared-at n given i l));
       beyond = λ x l. refl;
+      rest-before = refl;
+      rest-next = refl;
+      rest-heads = refl;
     }
 
 -- What is stored of the front of a list is there.
@@ -117,43 +122,61 @@ copied n o l u v i w =
     (List·getD-append (take n l) (drop n o) 0 i (omega arith) ∙ getD-take n l i 0 w)
 
 -- A round turns these buffers into `after`.
-pub record OneRound (t : List ℕ) (n : ℕ) (old names before next heads : List ℕ) (after : Chains) : Type 0 where
+pub record OneRound (t : List ℕ) (n : ℕ) (w₀ : Chains) (before₀ : List ℕ) (w : Chains) (before : List ℕ)
+    (after : Chains) : Type 0 where
   pub fitted : Fitted t n
-  pub room : n ≤ length old
-  pub from : Rounding t n old names before next heads
-  pub round : after ≡ roundOf t (numberAt before) n (chains names next heads) n
+  pub rooms : Rooms n (w₀ .names) before₀ (w₀ .next) (w₀ .heads)
+  pub from : Rounding t n w₀ before₀ w before
+  pub round : after ≡ roundOf t (numberAt before) n w n
 
-module _ {t : List ℕ} {n : ℕ} {old names before next heads : List ℕ} {after : Chains}
-    (R : OneRound t n old names before next heads after) where
+module _ {t : List ℕ} {n : ℕ} {w₀ : Chains} {before₀ : List ℕ} {w : Chains} {before : List ℕ} {after : Chains}
+    (R : OneRound t n w₀ before₀ w before after) where
   -- What is known of the buffers after it.
-  rounded : Turned t n (numberAt before) (chains names next heads) n after
+  rounded : Turned t n (numberAt before) w n after
   rounded =
-      let few = R .fitted .few in
+      let rooms = R .rooms in
       rw (R .round)
-      (turned t n (numberAt before) (chains names next heads) (R .fitted .equations)
-      (omega (arith, R .room, R .from .length-names)) (omega (arith, R .from .length-next))
-      (omega (arith, R .from .length-heads)) n (omega arith))
+      (turned t n (numberAt before) w (R .fitted .equations) (omega (arith, rooms .in-names, R .from .length-names))
+      (omega (arith, rooms .in-next, R .from .length-next)) (omega (arith, rooms .in-heads, R .from .length-heads)) n
+      (omega arith))
 
-  pub length-kept : length (after .names) ≡ length old
-  length-kept = rounded .names ∙ R .from .length-names
+  pub names-kept : length (after .names) ≡ length (w₀ .names)
+  names-kept = rounded .names ∙ R .from .length-names
 
-  beyond-kept : (x : ℕ) → n ≤ x → numberAt (after .names) x ≡ numberAt old x
+  next-kept : length (after .next) ≡ length (w₀ .next)
+  next-kept = rounded .next ∙ R .from .length-next
+
+  heads-kept : length (after .heads) ≡ length (w₀ .heads)
+  heads-kept = rounded .heads ∙ R .from .length-heads
+
+  beyond-kept : (x : ℕ) → n ≤ x → numberAt (after .names) x ≡ numberAt (w₀ .names) x
   beyond-kept x u = rounded .beyond x u ∙ R .from .beyond x u
 
+  -- Clearing the chains leaves what clearing those at the start would.
+  pub next-cleared : cleared n (after .next) ≡ cleared n (w₀ .next)
+  next-cleared = rounded .rest-next ∙ R .from .rest-next
+
+  pub heads-cleared : cleared n (after .heads) ≡ cleared n (w₀ .heads)
+  heads-cleared = rounded .rest-heads ∙ R .from .rest-heads
+
   -- It changes no class: the classes are found.
-  pub rounding-done : all (sameNumber before (after .names)) n ≡ true → after .names ≡ filled (classes t n) n old
+  pub rounding-done : all (sameNumber before (after .names)) n ≡ true
+      → after .names ≡ filled (classes t n) n (w₀ .names)
   rounding-done e =
-      filled-is (classes t n) n old (after .names) (R .room) length-kept
+      filled-is (classes t n) n (w₀ .names) (after .names) (R .rooms .in-names) names-kept
       (done t n (R .fitted .equations) (numberAt before) (numberAt (after .names)) (R .from .known) (rounded .quick)
       (same-agreed n before (after .names) e)) beyond-kept
 
   -- It changes one: the names are copied, and the next round follows.
   module _ {copy : List ℕ} (stored : copy ≡ sets before 0 (take n (after .names))) where
+    room-names : n ≤ length (after .names)
+    room-names = omega (arith, names-kept, R .rooms .in-names)
+
+    room-before : n ≤ length before
+    room-before = omega (arith, R .from .length-before, R .rooms .in-before)
+
     same-names : Agreed n (numberAt copy) (numberAt (after .names))
-    same-names =
-        rw stored
-        (copied n before (after .names) (omega (arith, length-kept, R .room))
-        (omega (arith, R .from .length-before, R .fitted .few)))
+    same-names = rw stored (copied n before (after .names) room-names room-before)
 
     pub rounding-less : all (sameNumber before (after .names)) n ≡ false
         → n * n - total (numberAt copy) n < n * n - total (numberAt before) n
@@ -161,15 +184,19 @@ module _ {t : List ℕ} {n : ℕ} {old names before next heads : List ℕ} {afte
         measure-less t n (R .fitted .equations) (numberAt before) (numberAt (after .names)) (R .from .known)
         (rounded .quick) (numberAt copy) same-names (differ-agreed n before (after .names) e)
 
-    pub rounding-more : Rounding t n old (after .names) copy (after .next) (after .heads)
+    pub rounding-more : Rounding t n w₀ before₀ after copy
     rounding-more =
         record {
-          length-names = length-kept;
+          length-names = names-kept;
           length-before = rw (stored, length-sets) (R .from .length-before);
-          length-next = rounded .next ∙ R .from .length-next;
-          length-heads = rounded .heads ∙ R .from .length-heads;
+          length-next = next-kept;
+          length-heads = heads-kept;
           known =
               before-more t n (R .fitted .equations) (numberAt before) (numberAt (after .names)) (R .from .known)
               (rounded .quick) (numberAt copy) same-names;
           beyond = beyond-kept;
+          rest-before =
+              rw stored (cleared-copy n before (after .names) room-names room-before) ∙ R .from .rest-before;
+          rest-next = next-cleared;
+          rest-heads = heads-cleared;
         }

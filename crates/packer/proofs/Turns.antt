@@ -1,5 +1,5 @@
 -- The turns of a round (`roundOf`): after each, the classes are those of a quicker round so far, the chains are right,
--- and all other names are kept. Assumes nothing.
+-- and the names of later equations are kept, as are all numbers of the chains past n. Assumes nothing.
 use mathlib.Core.Path.{_≡_, refl, _∙_, sym}
 use mathlib.Core.Bool.{true}
 use mathlib.Core.List.{List}
@@ -13,8 +13,8 @@ use Rattle.tables.specs.Table.{all, equationFits}
 use Rattle.packing.specs.Search.{first}
 use Rattle.packer.specs.declared.Key.{Key}
 use Rattle.packer.specs.Round.{keyOf, quickKey, sameQuickKey, Quick, bucketOf, Chains, chains, headAfter}
-use Rattle.packer.specs.Round.{entered, roundOf}
-use Rattle.packer.proofs.Cleared.{length-cleared, cleared-at}
+use Rattle.packer.specs.Round.{entered, cleared, roundOf}
+use Rattle.packer.proofs.Cleared.{length-cleared, cleared-at, cleared-set, cleared-again}
 use Rattle.packer.proofs.Quick.{quick-more}
 use Rattle.packer.proofs.Buckets.{set-kept, classIn, Buckets, buckets-none, buckets-more}
 use Rattle.packer.proofs.Spread.{bucket-below}
@@ -27,6 +27,8 @@ pub record Turned (t : List ℕ) (n : ℕ) (p : ℕ → ℕ) (w₀ : Chains) (i 
   pub quick : Quick t i p (classIn w)
   pub buckets : Buckets t (bucketOf n) n p i w
   pub beyond : (x : ℕ) → i ≤ x → classIn w x ≡ classIn w₀ x
+  pub rest-next : cleared n (w .next) ≡ cleared n (w₀ .next)
+  pub rest-heads : cleared n (w .heads) ≡ cleared n (w₀ .heads)
 
 module _ (t : List ℕ) (n : ℕ) (p : ℕ → ℕ) (w₀ : Chains) where
   -- What a turn of the program does: j is the class of equation i, x its key, b its bucket and h the new head.
@@ -56,6 +58,8 @@ module _ (t : List ℕ) (n : ℕ) (p : ℕ → ℕ) (w₀ : Chains) where
               buckets-more t n fit (bucketOf n) n (λ e. bucket-below n e (omega arith)) p w i j l room
               (omega (arith, T .next)) (omega (arith, T .heads)) (T .buckets);
           beyond = λ x u. getD-set-other (w .names) i x j 0 (λ (q : x ≡ i). omega arith) ∙ T .beyond x (omega arith);
+          rest-next = cleared-set n (w .next) i _ l ∙ T .rest-next;
+          rest-heads = cleared-set n (w .heads) _ _ (bucket-below n _ (omega arith)) ∙ T .rest-heads;
         }
 
     -- Each of the n turns.
@@ -69,5 +73,7 @@ module _ (t : List ℕ) (n : ℕ) (p : ℕ → ℕ) (w₀ : Chains) where
           quick = record { entry = λ i u. absurd (omega arith) };
           buckets = buckets-none t (bucketOf n) n p _ (cleared-at n (w₀ .heads));
           beyond = λ x u. refl;
+          rest-next = refl;
+          rest-heads = cleared-again n (w₀ .heads);
         }
     turned (suc i) l = turned-more i (roundOf t p n w₀ i) l (turned i (omega arith))

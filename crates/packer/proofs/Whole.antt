@@ -3,7 +3,7 @@
 use mathlib.Core.Path.{_≡_, _∙_, sym, subst}
 use mathlib.Core.Bool.{true, false}
 use mathlib.Core.List.{List, _++_}
-use Prim.Native.Nat.{ℕ, _+_, _*_, _≤_, _<_}
+use Prim.Native.Nat.{ℕ, _*_, _≤_, _<_}
 use native.Mathlib.Omega.{arith}
 use native.Mathlib.Nat.{zero-add}
 use lib.ListN.{length, drop}
@@ -47,10 +47,11 @@ module _ (t : List ℕ) (n : ℕ) (second : List ℕ) where
     pack-no-room l = rw (room-decides t n second passed false (lt-leb tableRoom (length second) l))
 
     -- Else the packed table is stored at the front.
-    pub pack-stored : tableRoom ≤ length second → {after : List ℕ} {size : ℕ} → after ≡ sets second 0 (packed t n)
-        → size ≡ packedCount t n → afterPack (Equations size) after ≡ packing t n second
+    pub pack-stored : tableRoom ≤ length second → {after : List ℕ} {size : ℕ}
+        → (size ≡ packedCount t n) × (after ≡ sets second 0 (packed t n))
+        → afterPack (Equations size) after ≡ packing t n second
     unfolding packing afterPacking
-    pack-stored l {after} {size} e h =
+    pack-stored l (h, e) =
         let few = checked-fitting t n passed .few in
         let long = length-packed t (classes t n) (kept t n) n in
         let less = count-le (kept t n) n in

@@ -5,9 +5,12 @@ use mathlib.Core.Path.{_≡_}
 use Prim.Native.Nat.{ℕ, zero, suc, _*_, _≤_, _<_}
 use lib.ListN.{length, set}
 use Rattle.lists.specs.Number.{numberAt}
+use Rattle.limits.specs.Limits.{tableRoom}
 use Rattle.traces.specs.Trace.{truth}
+use Rattle.tables.specs.Table.{checked}
+use Rattle.tables.specs.declared.Checked.the-variants.{Passed}
 use Rattle.packing.specs.Pack.{classes, kept, newName}
-use Rattle.packer.specs.Round.{Fitted}
+use Rattle.packer.specs.Round.{Fitted, Rooms}
 use Rattle.packer.specs.Mark.{Named}
 use Rattle.packer.specs.declared.Key.{Key}
 
@@ -42,6 +45,12 @@ pub record Storable (t : List ℕ) (n : ℕ) (m l second : List ℕ) : Type 0 wh
   pub marks : Marked t n m
   pub marked : n ≤ length m
   pub room : 4 * n ≤ length second
+
+-- What packing in lent buffers needs: a table that passes its check, and room in the second table and in each buffer.
+pub record Packable (t : List ℕ) (n : ℕ) (second names before next heads : List ℕ) : Type 0 where
+  pub passed : checked t n ≡ Passed
+  pub room : tableRoom ≤ length second
+  pub rooms : Rooms n names before next heads
 
 -- The four numbers of an equation.
 abbrev pub numbersOf : Key → List ℕ

@@ -119,6 +119,18 @@ pub record Walking (t : List ℕ) (n : ℕ) (now before next : List ℕ) (i : �
   pub quick : Quick t i (numberAt before) (numberAt now)
   pub chain : Chain t (bucketOf n) (numberAt before) (numberAt now) i (numberAt next) start
 
+-- Each of the four buffers has room for n numbers.
+pub record Rooms (n : ℕ) (names before next heads : List ℕ) : Type 0 where
+  pub in-names : n ≤ length names
+  pub in-before : n ≤ length before
+  pub in-next : n ≤ length next
+  pub in-heads : n ≤ length heads
+
+-- What finding the classes needs: a table whose n equations fit, and room.
+pub record Classifiable (t : List ℕ) (n : ℕ) (names before next heads : List ℕ) : Type 0 where
+  pub fitted : Fitted t n
+  pub rooms : Rooms n names before next heads
+
 -- Number i of both is the same.
 abbrev pub sameNumber : List ℕ → List ℕ → ℕ → Bool
 sameNumber x y i = eqb (numberAt x i) (numberAt y i)

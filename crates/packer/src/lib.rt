@@ -10,7 +10,7 @@ ghost use lib.Dec.{eqb};
 ghost use lib.ListN.{length};
 ghost use lib.Seq.{sets};
 ghost use Rattle.lists.specs.Number.{numberAt};
-ghost use Rattle.limits.specs.Limits.{equationLimit};
+ghost use Rattle.limits.specs.Limits.{equationLimit, ruleEquations, tableRoom};
 ghost use Rattle.traces.specs.Trace.{nonzero, truth};
 ghost use Rattle.tables.specs.Table.{all, equationAt, checked};
 ghost use Rattle.packing.specs.Search.{first};
@@ -18,9 +18,9 @@ ghost use Rattle.packing.specs.Pack.{sameEquation, classes, kept, packed, packe
 ghost use Rattle.packing.specs.Packing.{afterPack, packing};
 ghost use Rattle.packing.specs.Laws.{PackAnswer};
 ghost use Rattle.packer.specs.Round.{keyOf, mixedNumber, quickKey, sameQuickKey, bucketOf, cleared, headAfter};
-ghost use Rattle.packer.specs.Round.{chains, roundOf, Fitted, Walking, sameNumber};
+ghost use Rattle.packer.specs.Round.{chains, roundOf, Fitted, Walking, Classifiable, sameNumber};
 ghost use Rattle.packer.specs.Mark.{marking, pushed, visited, expanded, Push, Visit, Expand, Markable};
-ghost use Rattle.packer.specs.Place.{filled, placeAt, Placeable, Storable, numbersOf};
+ghost use Rattle.packer.specs.Place.{filled, placeAt, Placeable, Storable, Packable, numbersOf};
 
 // The kind and the numbers of an equation, with names for its operands.
 pub struct Key {
@@ -199,20 +199,32 @@ fn same(n: usize, x: &[u32], y: &[u32]) -> bool
     true
 }
 
-// The classes of the n equations (SPEC 16.2): rounds until one changes nothing.
-fn classify(table: &[u32], n: usize, names: &mut [u32])
-    requires { ⌜ Fitted (now table) n × (n ≤ length (now names)) ⌝ }
-    ensures { λ _. ⌜ now (names .exit) ≡ filled (classes (now (table .entry)) n) n (now (names .entry)) ⌝ }
+// The classes of the n equations (SPEC 16.2), in `names`: rounds until one changes nothing. The first n numbers of the
+// other buffers are cleared in the end.
+fn classify(
+    table: &[u32],
+    n: usize,
+    names: &mut [u32],
+    before: &mut [u32],
+    next: &mut [u32],
+    heads: &mut [u32],
+)
+    requires { ⌜ Classifiable (now table) n (now names) (now before) (now next) (now heads) ⌝ }
+    ensures { λ _. ⌜ (now (names .exit) ≡ filled (classes (now (table .entry)) n) n (now (names .entry)))
+        × (now (before .exit) ≡ cleared n (now (before .entry)))
+        × (now (next .exit) ≡ cleared n (now (next .entry)))
+        × (now (heads .exit) ≡ cleared n (now (heads .entry))) ⌝ }
 {
-    let mut before = [0u32; limits::EQUATIONS];
-    let mut next = [0u32; limits::EQUATIONS];
-    let mut heads = [0u32; limits::EQUATIONS];
+    clear(before, n);
     loop {
-        round(table, n, names, &before, &mut next, &mut heads);
-        if same(n, &before, names) {
+        round(table, n, names, before, next, heads);
+        if same(n, before, names) {
+            clear(before, n);
+            clear(next, n);
+            clear(heads, n);
             return;
         }
-        lists::copy(names, n, &mut before);
+        lists::copy(names, n, before);
     }
 }
 
@@ -274,28 +286,23 @@ fn expand(
     visit(classes, marks, found, second, r, table[4 * j + 3])
 }
 
-// Marks with 1 the equations that are kept (SPEC 16.3), and the others with 0.
-fn mark(table: &[u32], n: usize, classes: &[u32], marks: &mut [u32])
-    requires { ⌜ Markable (now table) n (now classes) (now marks) ⌝ }
-    ensures { λ _. ⌜ now (marks .exit)
-        ≡ filled (λ i. truth (kept (now (table .entry)) n i)) n (now (marks .entry)) ⌝ }
+// Marks with 1 the equations that are kept (SPEC 16.3), and the others with 0. The first n numbers of `found` are
+// cleared in the end.
+fn mark(table: &[u32], n: usize, classes: &[u32], marks: &mut [u32], found: &mut [u32])
+    requires { ⌜ Markable (now table) n (now classes) (now marks) × (n ≤ length (now found)) ⌝ }
+    ensures { λ _. ⌜ (now (marks .exit)
+        ≡ filled (λ i. truth (kept (now (table .entry)) n i)) n (now (marks .entry)))
+        × (now (found .exit) ≡ cleared n (now (found .entry))) ⌝ }
 {
-    let mut found = [0u32; limits::EQUATIONS];
     clear(marks, n);
-    let one = push(marks, &mut found, 0, (n - 1) as u32);
-    let mut size = push(marks, &mut found, one, (n - tables::CLOSING) as u32);
+    let one = push(marks, found, 0, (n - 1) as u32);
+    let mut size = push(marks, found, one, (n - tables::CLOSING) as u32);
     let mut done = 0;
     while done < size {
-        size = expand(
-            table,
-            found[done] as usize,
-            classes,
-            marks,
-            &mut found,
-            size,
-        );
+        size = expand(table, found[done] as usize, classes, marks, found, size);
         done += 1;
     }
+    clear(found, n);
 }
 
 // One more, if the mark is not 0.
@@ -358,6 +365,76 @@ fn emit(table: &[u32], n: usize, marks: &[u32], places: &[u32], second: &mut [u3
     }
 }
 
+// Packs a well-formed table into a second one with room, in four buffers, whose first n numbers are cleared in the end:
+// how many equations are kept.
+fn pack_within(
+    table: &[u32],
+    n: usize,
+    second: &mut [u32],
+    names: &mut [u32],
+    before: &mut [u32],
+    next: &mut [u32],
+    heads: &mut [u32],
+) -> usize
+    requires { ⌜ Packable (now table) n (now second) (now names) (now before) (now next) (now heads) ⌝ }
+    ensures { λ r. ⌜ (r ≡ packedCount (now (table .entry)) n)
+        × (now (second .exit) ≡ sets (now (second .entry)) 0 (packed (now (table .entry)) n))
+        × (now (names .exit) ≡ cleared n (now (names .entry)))
+        × (now (before .exit) ≡ cleared n (now (before .entry)))
+        × (now (next .exit) ≡ cleared n (now (next .entry)))
+        × (now (heads .exit) ≡ cleared n (now (heads .entry))) ⌝ }
+{
+    classify(table, n, names, before, next, heads);
+    mark(table, n, names, heads, next);
+    let size = place(table, n, heads, names);
+    emit(table, n, heads, names, second);
+    clear(names, n);
+    clear(heads, n);
+    size
+}
+
+// Packs a well-formed table that has no more equations than a rule's.
+fn pack_small(table: &[u32], n: usize, second: &mut [u32]) -> usize
+    requires { ⌜ (checked (now table) n ≡ Checked.Passed) × (tableRoom ≤ length (now second)) × (n ≤ ruleEquations) ⌝ }
+    ensures { λ r. ⌜ (r ≡ packedCount (now (table .entry)) n)
+        × (now (second .exit) ≡ sets (now (second .entry)) 0 (packed (now (table .entry)) n)) ⌝ }
+{
+    let mut names = [0u32; limits::RULE_EQUATIONS];
+    let mut before = [0u32; limits::RULE_EQUATIONS];
+    let mut next = [0u32; limits::RULE_EQUATIONS];
+    let mut heads = [0u32; limits::RULE_EQUATIONS];
+    pack_within(
+        table,
+        n,
+        second,
+        &mut names,
+        &mut before,
+        &mut next,
+        &mut heads,
+    )
+}
+
+// Packs any well-formed table.
+fn pack_large(table: &[u32], n: usize, second: &mut [u32]) -> usize
+    requires { ⌜ (checked (now table) n ≡ Checked.Passed) × (tableRoom ≤ length (now second)) ⌝ }
+    ensures { λ r. ⌜ (r ≡ packedCount (now (table .entry)) n)
+        × (now (second .exit) ≡ sets (now (second .entry)) 0 (packed (now (table .entry)) n)) ⌝ }
+{
+    let mut names = [0u32; limits::EQUATIONS];
+    let mut before = [0u32; limits::EQUATIONS];
+    let mut next = [0u32; limits::EQUATIONS];
+    let mut heads = [0u32; limits::EQUATIONS];
+    pack_within(
+        table,
+        n,
+        second,
+        &mut names,
+        &mut before,
+        &mut next,
+        &mut heads,
+    )
+}
+
 // Packs a well-formed table, if the second table has room.
 fn pack_checked(table: &[u32], n: usize, second: &mut [u32]) -> Packed
     requires { ⌜ checked (now table) n ≡ Checked.Passed ⌝ }
@@ -366,13 +443,10 @@ fn pack_checked(table: &[u32], n: usize, second: &mut [u32]) -> Packed
     if second.len() < limits::TABLE {
         return Packed::Refused(9);
     }
-    let mut names = [0u32; limits::EQUATIONS];
-    let mut marks = [0u32; limits::EQUATIONS];
-    classify(table, n, &mut names);
-    mark(table, n, &names, &mut marks);
-    let size = place(table, n, &marks, &mut names);
-    emit(table, n, &marks, &names, second);
-    Packed::Equations(size)
+    if n <= limits::RULE_EQUATIONS {
+        return Packed::Equations(pack_small(table, n, second));
+    }
+    Packed::Equations(pack_large(table, n, second))
 }
 
 // Packs a table into a second one (SPEC 8.8).
