@@ -1,5 +1,5 @@
--- Two tables that run as Lustre and say the same on every trace: on every list of calls of which the first refuses none,
--- both answer alike, the second also with values of its own. Assumes nothing.
+-- Two tables that run as Lustre and say the same on every trace: on every list of calls of which the first refuses
+-- none, both answer alike, the second also with values of its own. Assumes nothing.
 use mathlib.Core.Path.{_≡_, refl, _∙_, sym, subst}
 use mathlib.Core.List.{List, [], _∷_}
 use Prim.Native.Nat.{ℕ, suc, _≤_}

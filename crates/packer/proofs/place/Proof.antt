@@ -53,7 +53,8 @@ loop-again : tie.Need-loop-again Inv-loop μ-loop
 loop-again c =
     let at = c .before .before .before .before .before in
     let pre = start at .pre in
-    place-more _ _ (pre .fitted) _ (pre .names) (pre .named) (at .loop .inv) (c .before .before .before .before .loop-test .taken)
+    let taken = c .before .before .before .before .loop-test .taken in
+    place-more _ _ (pre .fitted) _ (pre .names) (pre .named) (at .loop .inv) taken
     (start at .args .marks .now) (pre .marks) (c .before .before .place-of .ensures) (c .counted .ensures)
 
 size-fits : tie.Need-cast-result Inv-loop μ-loop
