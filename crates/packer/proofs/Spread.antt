@@ -14,10 +14,10 @@ part-below x n h = mul-lt-mul-of-pos-right (mod-lt x (omega arith)) h
 pub bucket-below : (n : ℕ) (e : Equation) → 0 < n → bucketOf n e < n
 unfolding bucketOf
 bucket-below n e h =
-    omega (arith, part-below ((e .kind + 13 * e .a + 101 * e .b + 257 * e .c) % spread * factor) n h)
+    omega (arith, part-below ((e .kind + 13 * e .a + 101 * e .b + 257 * e .c) * factor) n h)
 
 -- The bucket by the four numbers of a key.
 pub bucket-is : (n : ℕ) (e : Equation) {k a b c : ℕ} → k ≡ e .kind → a ≡ e .a → b ≡ e .b → c ≡ e .c
-    → ((k + 13 * a + 101 * b + 257 * c) % spread * factor % spread) * n / spread ≡ bucketOf n e
+    → ((k + 13 * a + 101 * b + 257 * c) * factor % spread) * n / spread ≡ bucketOf n e
 unfolding bucketOf
 bucket-is n e p q r s = rw (p, q, r, s)

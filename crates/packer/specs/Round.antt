@@ -58,11 +58,11 @@ abbrev pub spread : ℕ
 spread = 4294967296
 
 abbrev pub factor : ℕ
-factor = 2654435769
+factor = 10368889
 
 -- A bucket below n for a key. Which one it is does not matter.
 unfoldable pub bucketOf : ℕ → Equation → ℕ
-bucketOf n e = ((e .kind + 13 * e .a + 101 * e .b + 257 * e .c) % spread * factor % spread) * n / spread
+bucketOf n e = ((e .kind + 13 * e .a + 101 * e .b + 257 * e .c) * factor % spread) * n / spread
 
 -- The buffers of a round: the classes found so far, for each equation one more than the class before it in its bucket,
 -- and for each bucket one more than its last class; 0 is none.

@@ -97,7 +97,7 @@ fn wide(x: u32) -> u64
 // How many parts the numbers of keys are spread over before they are fitted to n buckets, and the factor.
 const SPREAD: u64 = 4294967296;
 
-const FACTOR: u64 = 2654435769;
+const FACTOR: u64 = 10368889;
 
 // A bucket below n for a key.
 fn bucket_of(x: Key, n: usize) -> usize
@@ -105,7 +105,7 @@ fn bucket_of(x: Key, n: usize) -> usize
     ensures { λ r. ⌜ (r ≡ bucketOf n (keyOf x)) × (r < n) ⌝ }
 {
     let sum = wide(x.kind) + 13 * wide(x.a) + 101 * wide(x.b) + 257 * wide(x.c);
-    let part = sum % SPREAD * FACTOR % SPREAD;
+    let part = sum * FACTOR % SPREAD;
     (part * n as u64 / SPREAD) as usize
 }
 
