@@ -1,5 +1,5 @@
--- Compiled, loaded and packed tables have at most 4,096 equations, and a table's text is short: C's answer has room for each
--- number. Assumes nothing.
+-- Compiled, loaded and packed tables have at most 4,096 equations, and a table's text is short: C's answer has room for
+-- each number. Assumes nothing.
 use mathlib.Core.List.{List, []}
 use mathlib.Core.Path.{_≡_, sym, ap}
 use Prim.Native.Nat.{ℕ, _<_}

@@ -23,7 +23,7 @@ filled f (suc i) l = set (filled f i l) i (f i)
 abbrev pub Marked : List ℕ → ℕ → List ℕ → Type 0
 Marked t n l = (i : ℕ) → i < n → numberAt l i ≡ truth (kept t n i)
 
--- The number in the packed table of what stands for equation i.
+-- How many equations are kept before the class of equation i: where the class is kept, its number in the packed table.
 abbrev pub placeAt : List ℕ → ℕ → ℕ → ℕ
 placeAt t n i = newName t (classes t n) (kept t n) i
 

@@ -1,4 +1,4 @@
--- The rounds of the program: they find the classes of SPEC 16.2 in fewer turns than the definition's, and look for an
+-- The rounds of the program: they find the classes of SPEC 16.2 in fewer rounds than the definition's, and look for an
 -- equation's key in chains of the classes found so far. Definitions only.
 use mathlib.Core.Bool.{Bool, true, cond}
 use mathlib.Core.List.{List, _++_}

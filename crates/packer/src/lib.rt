@@ -322,7 +322,8 @@ fn place_of(names: &[u32], i: usize, c: u32, size: u32) -> u32
     if j == i { size } else { names[j] }
 }
 
-// Replaces the class of each of the n equations by its place in the packed table (SPEC 16.4): how many are kept.
+// Replaces the class of each of the n equations by how many are kept before it, which is its place in the packed table
+// where it is kept (SPEC 16.4): how many are kept.
 fn place(table: &[u32], n: usize, marks: &[u32], names: &mut [u32]) -> usize
     requires { ⌜ Placeable (now table) n (now marks) (now names) ⌝ }
     ensures { λ r. ⌜ (now (names .exit) ≡ filled (placeAt (now (table .entry)) n) n (now (names .entry)))

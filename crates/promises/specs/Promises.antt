@@ -125,8 +125,8 @@ pub record Compiling : Type 0 where
       → (rest : List ℕ) → Observes standardCap (take (4 * n) after ++ rest) n f
 
 -- SPEC 16.1 (packing). A table with a refusal of 10 or 11 gets that, one that passes with too short a second table 9
--- (SPEC 7.9), and both leave the second table as it was. Else the n′ equations at the front of the second table, whatever
--- stands after them, are the given table's, packed.
+-- (SPEC 7.9), and both leave the second table as it was. Else the n′ equations at the front of the second table,
+-- whatever stands after them, are the given table's, packed.
 pub record Packing : Type 0 where
   pub refuses : {t before after : List ℕ} {n k : ℕ} {r : Packed} → PackAnswer t n before r after
       → checked t n ≡ Failed k → (r ≡ NotPacked k) × (after ≡ before)
@@ -140,11 +140,11 @@ pub record Packing : Type 0 where
   -- (SPEC 16.4),
   pub one-answer : {t before after after′ : List ℕ} {n : ℕ} {r r′ : Packed} → PackAnswer t n before r after
       → PackAnswer t n before r′ after′ → (r ≡ r′) × (after ≡ after′)
-  -- whatever numbers stand behind it (SPEC 5.6) and in the second table,
+  -- whatever stands behind the given table's numbers (SPEC 5.6) and in the second table, where both are packed,
   pub behind : {t s before after before′ after′ : List ℕ} {n n′ n″ : ℕ} → take (4 * n) t ≡ take (4 * n) s
       → PackAnswer t n before (PackedTo n′) after → PackAnswer s n before′ (PackedTo n″) after′
       → (n′ ≡ n″) × (take (4 * n′) after ≡ take (4 * n″) after′)
-  -- and packing it gives it again.
+  -- and packing the packed table gives it again.
   pub twice : {t before after before′ after′ : List ℕ} {n n′ : ℕ} {r : Packed}
       → PackAnswer t n before (PackedTo n′) after → (rest : List ℕ) → tableRoom ≤ length before′
       → PackAnswer (take (4 * n′) after ++ rest) n′ before′ r after′
