@@ -15,7 +15,8 @@ use Rattle.formulas.specs.Formula.Num.{literal, parameter}
 use Rattle.formulas.specs.Formula.Test.{begin, end, point, held, kept}
 use Rattle.formulas.specs.Formula.Count.{sum, age}
 use Rattle.formulas.specs.Tree.{Tree}
-use Rattle.formulas.specs.Tree.Tree.{constant, signal, neg, and, or, then, chop, exists, test, len, count, lag}
+use Rattle.formulas.specs.Tree.Tree.{constant, signal, velocity, neg, and, or, then, chop, exists, test, len}
+use Rattle.formulas.specs.Tree.Tree.{count, lag}
 use Rattle.formulas.specs.Arena.{NOT, AND, OR, TEST, COUNT, RUN, FINE, ALWAYS, LEAD-END, THEN, CHOP, EXISTS}
 use Rattle.formulas.specs.Arena.{testNumber, countNumber, LITERAL, numKind, numValue, row, flat}
 
@@ -65,6 +66,7 @@ readers a b c =
     ∷ none
     ∷ none
     ∷ two then
+    ∷ (λ st. velocity (opOf a) b ∷ st)
     ∷ none
     ∷ two chop
     ∷ one (exists a)
@@ -89,6 +91,12 @@ back-num (parameter n) = refl
 back-constant : (c : Bool) (r : List ℕ) (st : Stack) → back (flat (constant c) ++ r) st ≡ back r (constant c ∷ st)
 unfolding back
 back-constant c r st = ap (λ (x : Bool). back r (constant x ∷ st)) (nonzero-truth c)
+
+-- a velocity test;
+back-velocity : (o : Op) (n : ℕ) (r : List ℕ) (st : Stack) →
+    back (flat (velocity o n) ++ r) st ≡ back r (velocity o n ∷ st)
+unfolding back
+back-velocity o n r st = rw (op-number o)
 
 -- a test's record, after its P;
 back-test : (k : Test) (p : Tree) (r : List ℕ) (st : Stack) →
@@ -132,6 +140,7 @@ back-flat : (t : Tree) (r : List ℕ) (st : Stack) → back (flat t ++ r) st ≡
 unfolding back
 back-flat (constant c) r st = back-constant c r st
 back-flat (signal j) r st = refl
+back-flat (velocity o n) r st = back-velocity o n r st
 back-flat (neg t) r st = after-one (flat t) (row NOT 0 0 0) r st ∙ back-flat t (row NOT 0 0 0 ++ r) st
 back-flat (and a b) r st =
     after-two (flat a) (flat b) (row AND 0 0 0) r st

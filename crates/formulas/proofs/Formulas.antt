@@ -4,12 +4,14 @@ use mathlib.Core.Option.{Option, none, some, Option·none-ne-some}
 use Rattle.formulas.specs.Formula.{Prop, Formula}
 use Rattle.formulas.specs.Tree.{Tree, map, map₂, propOf, formulaOf}
 pub use Rattle.formulas.specs.Raw.{rawP, raw}
-use Rattle.formulas.specs.Tree.Tree.{constant, signal, neg, and, or, then, chop, exists, test, len, count, lag}
+use Rattle.formulas.specs.Tree.Tree.{constant, signal, velocity, neg, and, or, then, chop, exists, test, len}
+use Rattle.formulas.specs.Tree.Tree.{count, lag}
 
 -- They are read back.
 pub prop-rawP : (p : Prop) → propOf (rawP p) ≡ some p
 prop-rawP (Prop.constant c) = refl
 prop-rawP (Prop.signal j) = refl
+prop-rawP (Prop.velocity o n) = refl
 prop-rawP (Prop.negP p) = ap (map Prop.negP) (prop-rawP p)
 prop-rawP (Prop.andP p q) = ap₂ (map₂ Prop.andP) (prop-rawP p) (prop-rawP q)
 prop-rawP (Prop.orP p q) = ap₂ (map₂ Prop.orP) (prop-rawP p) (prop-rawP q)
@@ -53,6 +55,7 @@ map₂-some f (some a) (some a′) b e = record { left = a; right = a′; there 
 pub prop-raw : (t : Tree) (p : Prop) → propOf t ≡ some p → t ≡ rawP p
 prop-raw (constant c) p e = let f : Prop.constant c ≡ p = cc in ap rawP f
 prop-raw (signal j) p e = let f : Prop.signal j ≡ p = cc in ap rawP f
+prop-raw (velocity o n) p e = let f : Prop.velocity o n ≡ p = cc in ap rawP f
 prop-raw (neg t) p e =
     let m = map-some Prop.negP (propOf t) p e in
     ap neg (prop-raw t (m .part) (m .there)) ∙ ap rawP (m .made)
@@ -74,6 +77,7 @@ prop-raw (lag a n b) p e = absurd (Option·none-ne-some p e)
 pub formula-raw : (t : Tree) (f : Formula) → formulaOf t ≡ some f → t ≡ raw f
 formula-raw (constant c) f e = absurd (Option·none-ne-some f e)
 formula-raw (signal j) f e = absurd (Option·none-ne-some f e)
+formula-raw (velocity o n) f e = absurd (Option·none-ne-some f e)
 formula-raw (neg t) f e =
     let m = map-some Formula.neg (formulaOf t) f e in
     ap neg (formula-raw t (m .part) (m .there)) ∙ ap raw (m .made)

@@ -317,6 +317,7 @@ module _ (trace : Trace) where
         zero-at = λ i. false≢true;
         one-at = λ i. refl;
         signal-at = λ j i. bit-iff ((trace i) .signals) j;
+        velocity-at = λ o n i. compared o ((trace i) .velocity) n;
         not-at = λ p i. not-iff (at trace p i);
         and-at = λ p q i. and-eq-true-iff (at trace p i) (at trace q i);
         or-at = λ p q i. or-iff (at trace p i) (at trace q i);

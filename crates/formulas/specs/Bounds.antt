@@ -1,5 +1,6 @@
--- The numbers that a rule can name: signals and parameters (SPEC 2.6), and literals (SPEC 2.7) below a limit, which is
--- `literalCount` where a text is read. Definitions only.
+-- The numbers that a rule can name: signals and parameters (SPEC 2.6), literals (SPEC 2.7) below a limit, which is
+-- `literalCount` where a text is read, and literals of velocity tests below how many velocities there are (SPEC 2.11).
+-- Definitions only.
 use mathlib.Core.Bool.{Bool, true, _&&_}
 use Prim.Native.Nat.{ℕ}
 use lib.Dec.{ltb}
@@ -7,12 +8,13 @@ use Rattle.limits.specs.Limits.{signalCount, parameterCount}
 use Rattle.formulas.specs.Formula.{Num}
 use Rattle.formulas.specs.Formula.Num.{literal, parameter}
 use Rattle.formulas.specs.Tree.{Tree}
-use Rattle.formulas.specs.Tree.Tree.{constant, signal, neg, and, or, then, chop, exists, test, len, count, lag}
+use Rattle.formulas.specs.Tree.Tree.{constant, signal, velocity, neg, and, or, then, chop, exists, test, len}
+use Rattle.formulas.specs.Tree.Tree.{count, lag}
 
 abbrev pub signalBound : ℕ → Bool
 signalBound j = ltb j signalCount
 
-module _ (limit : ℕ) where
+module _ (limit velocities : ℕ) where
   abbrev pub numBound : Num → Bool
   numBound (literal n) = ltb n limit
   numBound (parameter j) = ltb j parameterCount
@@ -21,6 +23,7 @@ module _ (limit : ℕ) where
   abbrev pub bounded : Tree → Bool
   bounded (constant c) = true
   bounded (signal j) = signalBound j
+  bounded (velocity o n) = ltb n velocities
   bounded (neg t) = bounded t
   bounded (and a b) = bounded a && bounded b
   bounded (or a b) = bounded a && bounded b

@@ -9,10 +9,11 @@ use Rattle.formulas.specs.Formula.{Num, Prop, Test, Count, Formula}
 use Rattle.formulas.specs.Formula.Test.{begin, end, point, held, kept}
 use Rattle.formulas.specs.Formula.Count.{sum, age}
 
--- `!`, `&` and `|` stand inside and outside square brackets, constants and signals only inside.
+-- `!`, `&` and `|` stand inside and outside square brackets, constants, signals and velocity tests only inside.
 pub data Tree : Type 0 where
   constant : Bool → Tree
   signal : ℕ → Tree
+  velocity : Op → ℕ → Tree
   neg : Tree → Tree
   and : Tree → Tree → Tree
   or : Tree → Tree → Tree
@@ -28,6 +29,7 @@ pub data Tree : Type 0 where
 abbrev pub nodes : Tree → ℕ
 nodes (constant c) = 0
 nodes (signal j) = 0
+nodes (velocity o n) = 0
 nodes (neg t) = nodes t + 1
 nodes (and a b) = nodes a + nodes b + 1
 nodes (or a b) = nodes a + nodes b + 1
@@ -51,6 +53,7 @@ testMemories kept = 1
 abbrev pub memoriesOf : Tree → ℕ
 memoriesOf (constant c) = 0
 memoriesOf (signal j) = 0
+memoriesOf (velocity o n) = 0
 memoriesOf (neg t) = memoriesOf t
 memoriesOf (and a b) = memoriesOf a + memoriesOf b
 memoriesOf (or a b) = memoriesOf a + memoriesOf b
@@ -91,6 +94,7 @@ leadCount age = false
 abbrev pub lead : Tree → Bool
 lead (constant c) = false
 lead (signal j) = false
+lead (velocity o n) = false
 lead (neg t) = false
 lead (and a b) = lead a && lead b
 lead (or a b) = lead a && lead b
@@ -106,6 +110,7 @@ lead (lag p n q) = true
 abbrev pub leads : Tree → Bool
 leads (constant c) = true
 leads (signal j) = true
+leads (velocity o n) = true
 leads (neg t) = leads t
 leads (and a b) = leads a && leads b
 leads (or a b) = leads a && leads b
@@ -131,6 +136,7 @@ map₂ f (some a) (some b) = some (f a b)
 abbrev pub propOf : Tree → Option Prop
 propOf (constant c) = some (Prop.constant c)
 propOf (signal j) = some (Prop.signal j)
+propOf (velocity o n) = some (Prop.velocity o n)
 propOf (neg t) = map Prop.negP (propOf t)
 propOf (and a b) = map₂ Prop.andP (propOf a) (propOf b)
 propOf (or a b) = map₂ Prop.orP (propOf a) (propOf b)
@@ -146,6 +152,7 @@ propOf (lag p n q) = none
 abbrev pub formulaOf : Tree → Option Formula
 formulaOf (constant c) = none
 formulaOf (signal j) = none
+formulaOf (velocity o n) = none
 formulaOf (neg t) = map Formula.neg (formulaOf t)
 formulaOf (and a b) = map₂ Formula.and (formulaOf a) (formulaOf b)
 formulaOf (or a b) = map₂ Formula.or (formulaOf a) (formulaOf b)

@@ -12,7 +12,7 @@ use Rattle.traces.specs.Trace.{Trace, tickOf, traceOf}
 use Rattle.traces.specs.declared.Op.the-variants.{AtMost as le, Below as lt, Equal as eq, Above as gt, AtLeast as ge}
 use Rattle.formulas.specs.Formula.{Prop, Formula}
 use Rattle.formulas.specs.Formula.Num.{literal, parameter}
-use Rattle.formulas.specs.Formula.Prop.{constant, signal, negP, andP, orP}
+use Rattle.formulas.specs.Formula.Prop.{constant, signal, velocity, negP, andP, orP}
 use Rattle.formulas.specs.Formula.Test.{begin, end, point, held, kept}
 use Rattle.formulas.specs.Formula.Count.{sum, age}
 use Rattle.formulas.specs.Formula.Formula.{test, len, count, lag, neg, and, or, then}
@@ -72,6 +72,8 @@ trials =
 -- counts the present tick. More of `lag`: P not from the start on; Q missing only where it is due a second time; a
 -- start that ends what was false, and one that cuts a run of P; a parameter; under `!`; as a second part. Idle: no
 -- start at all, and a `!`, which leaves it as it is. SPEC 12.8: a sum that comes up twice, whose memories are two.
+-- SPEC 14.6: each comparison of a velocity test, and tests in a count, in a `lag`, beside signals, and in both parts of
+-- a `then`.
 abbrev pub furtherTrials : List Trial
 furtherTrials =
     trial "end[!s0]" (test end (negP s0)) 1 1 first (five 0 0 1 0 0)
@@ -116,6 +118,17 @@ furtherTrials =
     (five 1 1 0 0 0)
     ∷ trial "sum[s0] <= 1 | sum[s0] <= 2" (or (count sum s0 le (literal 1)) (count sum s0 le (literal 2))) 3 3 first
     (five 1 1 1 1 0)
+    ∷ trial "end[v>=64]" (test end (velocity ge 64)) 1 1 first (five 0 1 1 0 1)
+    ∷ trial "end[v>63]" (test end (velocity gt 63)) 1 1 first (five 0 1 1 0 1)
+    ∷ trial "end[v=127]" (test end (velocity eq 127)) 1 1 first (five 0 0 1 0 0)
+    ∷ trial "end[v<64]" (test end (velocity lt 64)) 1 1 first (five 1 0 0 1 0)
+    ∷ trial "end[v<=0]" (test end (velocity le 0)) 1 1 first (five 1 0 0 0 0)
+    ∷ trial "sum[v>0] >= 2" (count sum (velocity gt 0) ge (literal 2)) 1 2 first (five 0 0 0 1 1)
+    ∷ trial "lag[v>=64,1,s0]" (lag (velocity ge 64) (literal 1) s0) 1 3 first (five 1 1 0 0 0)
+    ∷ trial "end[v>=64 & s0 | v=0]" (test end (orP (andP (velocity ge 64) s0) (velocity eq 0))) 1 1 first
+    (five 1 1 0 0 1)
+    ∷ trial "kept[v<64] then end[v<64]" (then (test kept (velocity lt 64)) (test end (velocity lt 64))) 3 4 first
+    (five 0 0 0 1 0)
     ∷ []
 
 -- No row: what stands past the last one.
@@ -130,21 +143,26 @@ signals = five 1 1 2 1 3
 abbrev pub noughts : List ℕ
 noughts = replicate parameterCount 0
 
-abbrev pub tick : ℕ → ℕ → Tick
-tick s g = tickOf s g noughts
+abbrev pub tick : ℕ → ℕ → ℕ → Tick
+tick s g v = tickOf s g v noughts
 
--- The ticks with these starts and these signals, in order.
-abbrev pub ticksOf : List ℕ → List ℕ → List Tick
-ticksOf [] gs = []
-ticksOf (s ∷ ss) [] = []
-ticksOf (s ∷ ss) (g ∷ gs) = tick s g ∷ ticksOf ss gs
+-- SPEC 14.6: the velocities at the five ticks.
+abbrev pub strengths : List ℕ
+strengths = five 0 64 127 63 90
+
+-- The ticks with these starts, signals and velocities, in order.
+abbrev pub ticksOf : List ℕ → List ℕ → List ℕ → List Tick
+ticksOf [] gs vs = []
+ticksOf (s ∷ ss) [] vs = []
+ticksOf (s ∷ ss) (g ∷ gs) [] = []
+ticksOf (s ∷ ss) (g ∷ gs) (v ∷ vs) = tick s g v ∷ ticksOf ss gs vs
 
 -- A row's ticks, and its trace.
 abbrev pub ticksIn : Trial → List Tick
-ticksIn r = ticksOf (r .starts) signals
+ticksIn r = ticksOf (r .starts) signals strengths
 
 abbrev pub traceIn : Trial → Trace
-traceIn r = traceOf (tick 0 0) (ticksIn r)
+traceIn r = traceOf (tick 0 0 0) (ticksIn r)
 
 -- The verdicts of a formula at the n ticks from i on.
 abbrev pub verdictsFrom : Trace → Formula → ℕ → ℕ → List ℕ

@@ -32,12 +32,14 @@ pub const LEAD_END: u32 = 16;
 
 pub const THEN: u32 = 17;
 
+pub const VELOCITY: u32 = 18;
+
 // A whole rule: no tree's record has this kind.
-pub const WHOLE: u32 = 18;
+pub const WHOLE: u32 = 19;
 
-pub const CHOP: u32 = 19;
+pub const CHOP: u32 = 20;
 
-pub const EXISTS: u32 = 20;
+pub const EXISTS: u32 = 21;
 
 // What a record compares a count with.
 pub const LITERAL: u32 = 0;

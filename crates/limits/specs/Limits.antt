@@ -36,6 +36,11 @@ literalCount = 1000000
 abbrev pub lastLiteral : ℕ
 lastLiteral = literalCount - 1
 
+-- SPEC 1.1: how many velocities a stroke can have, from 0 on. The definitions of a text's words, of a table's check, of
+-- a step and of a tick line take any number.
+abbrev pub velocityCount : ℕ
+velocityCount = 128
+
 -- SPEC 2.6: how many parameters there are, numbered from 0.
 abbrev pub parameterCount : ℕ
 parameterCount = 8

@@ -1,5 +1,7 @@
 // The numbers of the specification that several crates name, each in this one place. specs/Limits.antt has the same
 // numbers, with their clauses.
+ghost use mathlib.Core.Path.{_≡_};
+ghost use Rattle.limits.specs.Context.{standardContext};
 
 // The bytes that a rule text can have.
 pub const TEXT: usize = 2048;
@@ -23,6 +25,10 @@ pub const LITERALS: u32 = 1000000;
 
 pub const PARAMETERS: usize = 8;
 
+// How many velocities a stroke can have (SPEC 1.1). The definitions take any number, and this is the one of the
+// specification.
+pub const VELOCITIES: u32 = 128;
+
 // The highest literal, and the highest number of a card.
 pub const LAST_LITERAL: u32 = LITERALS - 1;
 
@@ -40,3 +46,17 @@ pub const TABLE: usize = 4 * EQUATIONS;
 
 // The bytes that a line of a card can have, its byte 10 included.
 pub const LINE: usize = 4096;
+
+// What a text is read in: how many velocities there are.
+pub struct Context {
+    pub velocities: u32,
+}
+
+// The context of the specification.
+pub fn standard() -> Context
+    ensures { λ r. ⌜ r ≡ standardContext ⌝ }
+{
+    Context {
+        velocities: VELOCITIES,
+    }
+}

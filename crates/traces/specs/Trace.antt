@@ -36,8 +36,9 @@ abbrev pub starts : Tick → Bool
 starts k = nonzero (k .start)
 
 -- SPEC 1.1: a tick of its numbers.
-abbrev pub tickOf : ℕ → ℕ → List ℕ → Tick
-tickOf start signals ps = record { start = start; signals = signals; parameters = ps }
+abbrev pub tickOf : ℕ → ℕ → ℕ → List ℕ → Tick
+tickOf start signals velocity ps =
+    record { start = start; signals = signals; velocity = velocity; parameters = ps }
 
 -- SPEC 1.2: a trace gives the tick of each number, from 0 on.
 abbrev pub Trace : Type 0

@@ -31,20 +31,28 @@ pub enum Op {
 // SPEC 4.10: the verdict of a watch that has not been started yet, idle.
 pub const IDLE: u32 = 2;
 
-// One tick of a trace (SPEC 1.1): the start, which 0 alone is not, a bit for each signal, and the parameters.
+// One tick of a trace (SPEC 1.1): the start, which 0 alone is not, a bit for each signal, the velocity of the hardest
+// stroke, and the parameters.
 pub struct Tick {
     pub start: u32,
     pub signals: u64,
+    pub velocity: u32,
     pub parameters: [u32; limits::PARAMETERS],
 }
 
 // A tick of its numbers: the one place where a tick is built.
-pub fn tick_of(start: u32, signals: u64, parameters: [u32; limits::PARAMETERS]) -> Tick
-    ensures { λ r. ⌜ r ≡ tickOf start signals parameters ⌝ }
+pub fn tick_of(
+    start: u32,
+    signals: u64,
+    velocity: u32,
+    parameters: [u32; limits::PARAMETERS],
+) -> Tick
+    ensures { λ r. ⌜ r ≡ tickOf start signals velocity parameters ⌝ }
 {
     Tick {
         start,
         signals,
+        velocity,
         parameters,
     }
 }

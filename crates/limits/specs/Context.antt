@@ -1,0 +1,7 @@
+-- What a text is read in (SPEC 8.1). Definitions only.
+use Rattle.limits.specs.Limits.{velocityCount}
+use Rattle.limits.specs.declared.Context.{Context}
+
+-- SPEC 1.1: the velocities of the specification.
+abbrev pub standardContext : Context
+standardContext = record { velocities = velocityCount }
