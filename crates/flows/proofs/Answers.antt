@@ -25,10 +25,11 @@ use Rattle.flows.proofs.Checks.{step-passed, step-admitted}
 use Rattle.flows.proofs.Ranges.{flows-range}
 
 -- The verdict's flow of a table that passes its check is boolean.
-pub verdict-boolean : (t : List ℕ) (n : ℕ) → checked t n ≡ Passed → booleanAt t (verdictOf n) ≡ true
+pub verdict-boolean : (velocities : ℕ) (t : List ℕ) (n : ℕ) → checked velocities t n ≡ Passed
+    → booleanAt t (verdictOf n) ≡ true
 unfolding equationsFit closes
-verdict-boolean t n e =
-    let last = and-true (all (equationFits t n) n) _ (passed-both t n e .1) .1 in
+verdict-boolean velocities t n e =
+    let last = and-true (all (equationFits velocities t n) n) _ (passed-both velocities t n e .1) .1 in
     and-true (booleanAt t (startedOf n)) _ (and-true (leb closingCount n) _ last .1) .1
 
 -- A boolean is 0 or 1,
@@ -47,18 +48,19 @@ answer-low n flow low = go (nonzero (flow (startedOf n)))
     go false = omega arith
 
 -- SPEC 8.5: a step that is not refused, of whatever table, answers 0, 1 or 2.
-pub answers-low : (cap : ℕ) (t : List ℕ) (n : ℕ) (state values : List ℕ) (k : Tick) (v : ℕ)
-    → stepped cap t n state values k .answer ≡ Verdict v → v ≤ idleVerdict
+pub answers-low : (cap velocities : ℕ) (t : List ℕ) (n : ℕ) (state values : List ℕ) (k : Tick) (v : ℕ)
+    → stepped cap velocities t n state values k .answer ≡ Verdict v → v ≤ idleVerdict
 unfolding stepped afterTick
-answers-low cap t n state values k v e = go (stepChecked cap t n state values k) refl e
+answers-low cap velocities t n state values k v e = go (stepChecked cap velocities t n state values k) refl e
   where
-    go : (c : Checked) → stepChecked cap t n state values k ≡ c
+    go : (c : Checked) → stepChecked cap velocities t n state values k ≡ c
         → steppedIf c cap t n state values k .answer ≡ Verdict v → v ≤ idleVerdict
     go Passed passed answers =
-        let p = step-passed t n cap state values k passed in
+        let p = step-passed cap velocities t n state values k passed in
         let flow = numberAt (flows cap t k state n) in
-        let range = flows-range cap t n (p .0 .equations) k state (p .3) (verdictOf n) (omega (arith, p .0 .closed)) in
-        let boolean = verdict-boolean t n (step-admitted t n cap state values k passed .0) in
+        let range =
+        flows-range cap velocities t n (p .0 .equations) k state (p .3) (verdictOf n) (omega (arith, p .0 .closed)) in
+        let boolean = verdict-boolean velocities t n (step-admitted cap velocities t n state values k passed .0) in
         let is : answerOf n flow ≡ v = cc in
         subst (λ (x : ℕ). x ≤ idleVerdict) is
         (answer-low n flow (boolean-low cap (sortOf (kindAt t (verdictOf n))) (flow (verdictOf n)) boolean range))

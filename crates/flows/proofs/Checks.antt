@@ -14,33 +14,33 @@ use Rattle.tables.proofs.Tests.{and-true}
 use Rattle.tables.proofs.Checks.{Fitting, passed-one, passed-table}
 use Rattle.flows.specs.Step.{parameterFits, cellsFit, stepTests, freshChecked, stepChecked}
 
-module _ (t : List ℕ) (n : ℕ) where
-  pub fresh-passed : (state : List ℕ) → freshChecked t n state ≡ Passed → Fitting t n × (n ≤ length state)
-  unfolding freshChecked
-  fresh-passed state e =
-      let p = passed-table t n (test 12 (leb n (length state)) ∷ []) e in
-      (p .0, leb-true n (length state) (passed-one (leb n (length state)) Passed 12 (p .1) .0))
+pub fresh-passed : (velocities : ℕ) (t : List ℕ) (n : ℕ) (state : List ℕ) → freshChecked velocities t n state ≡ Passed
+    → Fitting velocities t n × (n ≤ length state)
+unfolding freshChecked
+fresh-passed velocities t n state e =
+    let p = passed-table velocities t n (test 12 (leb n (length state)) ∷ []) e in
+    (p .0, leb-true n (length state) (passed-one (leb n (length state)) Passed 12 (p .1) .0))
 
-  pub step-passed : (cap : ℕ) (state values : List ℕ) (k : Tick) → stepChecked cap t n state values k ≡ Passed
-      → Fitting t n × (n ≤ length state) × (n ≤ length values) × (cellsFit cap t n state ≡ true)
+module _ (cap velocities : ℕ) (t : List ℕ) (n : ℕ) (state values : List ℕ) (k : Tick)
+    (e : stepChecked cap velocities t n state values k ≡ Passed) where
+  pub step-passed : Fitting velocities t n × (n ≤ length state) × (n ≤ length values) × (cellsFit cap t n state ≡ true)
   unfolding stepChecked
-  step-passed cap state values k e =
-      let p = passed-table t n (drop 2 (stepTests cap t n state values k)) e in
+  step-passed =
+      let p = passed-table velocities t n (drop 2 (stepTests cap velocities t n state values k)) e in
       let q = passed-one (leb n (length state) && leb n (length values)) _ 12 (p .1) in
       let l = and-true (leb n (length state)) _ (q .0) in
       let m = passed-one (all (parameterFits cap k) parameterCount) _ 13 (q .1) in (
         p .0,
         leb-true n (length state) (l .0),
         leb-true n (length values) (l .1),
-        passed-one (cellsFit cap t n state) Passed 14 (m .1) .0,
+        passed-one (cellsFit cap t n state) _ 14 (m .1) .0,
       )
 
   -- What the table and the parameters alone decide.
-  pub step-admitted : (cap : ℕ) (state values : List ℕ) (k : Tick) → stepChecked cap t n state values k ≡ Passed
-      → (checked t n ≡ Passed) × (all (parameterFits cap k) parameterCount ≡ true)
+  pub step-admitted : (checked velocities t n ≡ Passed) × (all (parameterFits cap k) parameterCount ≡ true)
   unfolding stepChecked checked
-  step-admitted cap state values k e =
+  step-admitted =
       let p = passed-one (lengthFits t n) _ 10 e in
-      let q = passed-one (equationsFit t n) _ 11 (p .1) in
+      let q = passed-one (equationsFit velocities t n) _ 11 (p .1) in
       let r = passed-one (leb n (length state) && leb n (length values)) _ 12 (q .1) in
       (rw (p .0, q .0), passed-one (all (parameterFits cap k) parameterCount) _ 13 (r .1) .0)

@@ -17,7 +17,7 @@ use Rattle.tables.specs.Table.{all, Equation, equationAt, Kind, kindAt, shapeOf
 use Rattle.tables.specs.Table.{sameSort, isFlow, operandFits, shapeFits, equationFits}
 use Rattle.limits.specs.Limits.{truthCount}
 use Rattle.tables.specs.Table.Kind.{signal, start, constant, negation, conjunction, disjunction, booleanPre}
-use Rattle.tables.specs.Table.Kind.{countPre, capped, ifElse, compareLiteral, compareParameter, unknown}
+use Rattle.tables.specs.Table.Kind.{countPre, capped, ifElse, compareLiteral, compareParameter, velocity, unknown}
 use Rattle.flows.specs.Flow.{increased, valueOf, flows, memoriesSet, initial, initialAt, freshState}
 use Rattle.tables.specs.Table.{isMemory}
 use Rattle.flows.specs.Flow.{operandAt, nextState, inRange}
@@ -42,6 +42,7 @@ memory-kind capped e = inl cc
 memory-kind ifElse e = inl cc
 memory-kind compareLiteral e = inl cc
 memory-kind compareParameter e = inl cc
+memory-kind velocity e = inl cc
 memory-kind unknown e = inl cc
 
 -- An operand is one of the first m equations, of its sort.
@@ -91,9 +92,10 @@ module _ (cap : ℕ) where
   cell-range q x m e = rw m at e
 
   -- The value of an equation that fits is in range, if the flows that it reads and its cell are.
-  module _ (t : List ℕ) (n i : ℕ) (k : Tick) (flow : ℕ → ℕ) (cell : ℕ) (earlier : Ranged t i flow) where
-    value-range : (q : Kind) (e : Equation) → shapeFits t n i (shapeOf q) e ≡ true → cellFits cap q cell ≡ true
-        → inRange cap (sortOf q) (valueOf cap k flow cell q e) ≡ true
+  module _ (velocities : ℕ) (t : List ℕ) (n i : ℕ) (k : Tick) (flow : ℕ → ℕ) (cell : ℕ)
+      (earlier : Ranged t i flow) where
+    value-range : (q : Kind) (e : Equation) → shapeFits velocities t n i (shapeOf q) e ≡ true
+        → cellFits cap q cell ≡ true → inRange cap (sortOf q) (valueOf cap k flow cell q e) ≡ true
     unfolding shapeFits shapeOf operandFits valueOf isMemory inRange
     value-range signal e f h = truth-range (signalAt k (e .a))
     value-range start e f h = truth-range (starts k)
@@ -112,11 +114,12 @@ module _ (cap : ℕ) where
         (operand-range t i flow earlier Count (e .b) (and-true (isFlow t i Count (e .b)) _ g .0))
     value-range compareLiteral e f h = truth-range (compares (opOf (e .b)) (flow (e .a)) (e .c))
     value-range compareParameter e f h = truth-range (compares (opOf (e .b)) (flow (e .a)) (parameterAt k (e .c)))
+    value-range velocity e f h = truth-range (compares (opOf (e .a)) (k .velocity) (e .b))
     value-range unknown e f h = truth-range false
 
   -- What is written to a memory's cell, the initial value or the flow of the operand, is in range.
-  module _ (t : List ℕ) (n i : ℕ) (e : Equation) where
-    boolean-initial : shapeFits t n i (shapeOf booleanPre) e ≡ true
+  module _ (velocities : ℕ) (t : List ℕ) (n i : ℕ) (e : Equation) where
+    boolean-initial : shapeFits velocities t n i (shapeOf booleanPre) e ≡ true
         → inRange cap (sortOf booleanPre) (initial (sortOf booleanPre) (e .c)) ≡ true
     unfolding shapeFits shapeOf operandFits initial inRange
     boolean-initial f = and-true (eqb (e .b) 0) _ (and-true (isFlow t n Boolean (e .a)) _ f .1) .1
@@ -125,22 +128,23 @@ module _ (cap : ℕ) where
     unfolding shapeOf initial inRange
     count-initial = le-leb 0 cap (omega arith)
 
-    initial-range : (q : Kind) → shapeFits t n i (shapeOf q) e ≡ true → isMemory q ≡ true
+    initial-range : (q : Kind) → shapeFits velocities t n i (shapeOf q) e ≡ true → isMemory q ≡ true
         → inRange cap (sortOf q) (initial (sortOf q) (e .c)) ≡ true
     initial-range q f m =
         ⊎-elim (λ z. rw z (boolean-initial (rw z at f))) (λ z. rw z count-initial) (memory-kind q m)
 
     module _ (flow : ℕ → ℕ) (ranged : Ranged t n flow) where
-      boolean-next : shapeFits t n i (shapeOf booleanPre) e ≡ true
+      boolean-next : shapeFits velocities t n i (shapeOf booleanPre) e ≡ true
           → inRange cap (sortOf booleanPre) (flow (e .a)) ≡ true
       unfolding shapeFits shapeOf operandFits
       boolean-next f = operand-range t n flow ranged Boolean (e .a) (and-true (isFlow t n Boolean (e .a)) _ f .0)
 
-      count-next : shapeFits t n i (shapeOf countPre) e ≡ true → inRange cap (sortOf countPre) (flow (e .a)) ≡ true
+      count-next : shapeFits velocities t n i (shapeOf countPre) e ≡ true
+          → inRange cap (sortOf countPre) (flow (e .a)) ≡ true
       unfolding shapeFits shapeOf operandFits
       count-next f = operand-range t n flow ranged Count (e .a) (and-true (isFlow t n Count (e .a)) _ f .0)
 
-      next-range : (q : Kind) → shapeFits t n i (shapeOf q) e ≡ true → isMemory q ≡ true
+      next-range : (q : Kind) → shapeFits velocities t n i (shapeOf q) e ≡ true → isMemory q ≡ true
           → inRange cap (sortOf q) (flow (e .a)) ≡ true
       next-range q f m =
           ⊎-elim (λ z. rw z (boolean-next (rw z at f))) (λ z. rw z (count-next (rw z at f))) (memory-kind q m)
@@ -149,7 +153,7 @@ module _ (cap : ℕ) where
   cell-fits true x h = h refl
   cell-fits false x h = refl
 
-  module _ (t : List ℕ) (n : ℕ) (fit : all (equationFits t n) n ≡ true) where
+  module _ (velocities : ℕ) (t : List ℕ) (n : ℕ) (fit : all (equationFits velocities t n) n ≡ true) where
     -- By induction on a bound m of i.
     ranged-below : (k : Tick) (state : List ℕ) → cellsFit cap t n state ≡ true → (m i : ℕ) → i < m → m ≤ n
         → inRange cap (sortOf (kindAt t i)) (numberAt (flows cap t k state n) i) ≡ true
@@ -160,8 +164,9 @@ module _ (cap : ℕ) where
         λ j r. rw (← flows-kept cap t k state n i j r (omega arith))
         (ranged-below k state h m j (omega arith) (omega arith)) in
         rw (flows-at cap t k state n i (omega arith))
-        (value-range t n i k before (numberAt state i) earlier (kindAt t i) (equationAt t i)
-        (all-at (equationFits t n) n fit i (omega arith)) (all-at (cellFitsAt cap t state) n h i (omega arith)))
+        (value-range velocities t n i k before (numberAt state i) earlier (kindAt t i) (equationAt t i)
+        (all-at (equationFits velocities t n) n fit i (omega arith))
+        (all-at (cellFitsAt cap t state) n h i (omega arith)))
 
     -- The flows of a tick are in range.
     pub flows-range : (k : Tick) (state : List ℕ) → cellsFit cap t n state ≡ true
@@ -181,7 +186,8 @@ module _ (cap : ℕ) where
     pub fresh-fits : (old : List ℕ) → n ≤ length old → cellsFit cap t n (freshState t n old) ≡ true
     fresh-fits old room =
         set-fits (initialAt t) old room
-        (λ i l m. initial-range t n i (equationAt t i) (kindAt t i) (all-at (equationFits t n) n fit i l) m)
+        (λ i l m. initial-range velocities t n i (equationAt t i) (kindAt t i)
+        (all-at (equationFits velocities t n) n fit i l) m)
 
     -- and a tick leaves the cells in range.
     pub next-fits : (k : Tick) (state : List ℕ) → n ≤ length state → cellsFit cap t n state ≡ true
@@ -189,5 +195,5 @@ module _ (cap : ℕ) where
     next-fits k state room h =
         let fs = flows cap t k state n in
         set-fits (operandAt t fs) state room
-        (λ i l m. next-range t n i (equationAt t i) (numberAt fs) (flows-range k state h) (kindAt t i)
-        (all-at (equationFits t n) n fit i l) m)
+        (λ i l m. next-range velocities t n i (equationAt t i) (numberAt fs) (flows-range k state h) (kindAt t i)
+        (all-at (equationFits velocities t n) n fit i l) m)

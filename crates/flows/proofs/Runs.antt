@@ -14,7 +14,7 @@ use Rattle.tables.specs.Table.{all, Equation, equationAt, Kind, kindAt, shapeOf
 use Rattle.tables.specs.Table.{isFlow, operandFits, shapeFits, equationFits, checked}
 use Rattle.tables.specs.Table.{closingCount, startedOf, verdictOf}
 use Rattle.tables.specs.Table.Kind.{signal, start, constant, negation, conjunction, disjunction, booleanPre}
-use Rattle.tables.specs.Table.Kind.{countPre, capped, ifElse, compareLiteral, compareParameter, unknown}
+use Rattle.tables.specs.Table.Kind.{countPre, capped, ifElse, compareLiteral, compareParameter, velocity, unknown}
 use Rattle.flows.specs.Flow.{valueOf, flows, answerOf, initialAt, operandAt, freshState, nextState}
 use Rattle.tables.specs.Table.{isMemory}
 use Rattle.flows.specs.Step.{cellsFit}
@@ -52,13 +52,13 @@ unfolding answerOf
 answer-same n f g closed same = rw (same (startedOf n) (omega arith), same (verdictOf n) (omega arith))
 
 -- The value of an equation that fits at i depends only on the flows before i, and on the cell if it is a memory.
-module _ (cap : ℕ) (t : List ℕ) (n i : ℕ) (k : Tick) (flow flow′ : ℕ → ℕ) (cell cell′ : ℕ)
+module _ (cap velocities : ℕ) (t : List ℕ) (n i : ℕ) (k : Tick) (flow flow′ : ℕ → ℕ) (cell cell′ : ℕ)
     (same : (j : ℕ) → j < i → flow j ≡ flow′ j) where
   -- An operand that is the first of two tests.
   same-operand : (s : Sort) (x : ℕ) (b : Bool) → (isFlow t i s x && b) ≡ true → flow x ≡ flow′ x
   same-operand s x b e = same x (flow-below t i s x (and-true (isFlow t i s x) b e .0))
 
-  pub value-same : (q : Kind) (e : Equation) → shapeFits t n i (shapeOf q) e ≡ true
+  pub value-same : (q : Kind) (e : Equation) → shapeFits velocities t n i (shapeOf q) e ≡ true
       → (isMemory q ≡ true → cell ≡ cell′) → valueOf cap k flow cell q e ≡ valueOf cap k flow′ cell′ q e
   unfolding shapeFits shapeOf operandFits valueOf isMemory
   value-same signal e f h = refl
@@ -81,6 +81,7 @@ module _ (cap : ℕ) (t : List ℕ) (n i : ℕ) (k : Tick) (flow flow′ : ℕ �
       rw (same-operand Boolean (e .a) _ f, same-operand Count (e .b) _ g)
   value-same compareLiteral e f h = rw (same-operand Count (e .a) _ f)
   value-same compareParameter e f h = rw (same-operand Count (e .a) _ f)
+  value-same velocity e f h = refl
   value-same unknown e f h = refl
 
 module _ (cap : ℕ) (t : List ℕ) (n : ℕ) (old : List ℕ) (trace : Trace) (room : n ≤ length old) where
@@ -103,45 +104,50 @@ module _ (cap : ℕ) (t : List ℕ) (n : ℕ) (old : List ℕ) (trace : Trace) (
       let state = stateAt cap t n old trace k in
       set-cell t (operandAt t (flows cap t (trace k) state n)) n i state h (state-room k) m
 
-  module _ (fit : all (equationFits t n) n ≡ true) where
-    -- The cells of a run are in range at every tick.
-    pub state-fits : (k : ℕ) → cellsFit cap t n (stateAt cap t n old trace k) ≡ true
-    unfolding stateAt
-    state-fits zero = fresh-fits cap t n fit old room
-    state-fits (suc k) = next-fits cap t n fit (trace k) (stateAt cap t n old trace k) (state-room k) (state-fits k)
+module _ (cap velocities : ℕ) (t : List ℕ) (n : ℕ) (old : List ℕ) (trace : Trace) (room : n ≤ length old)
+    (fit : all (equationFits velocities t n) n ≡ true) where
+  -- The cells of a run are in range at every tick.
+  pub state-fits : (k : ℕ) → cellsFit cap t n (stateAt cap t n old trace k) ≡ true
+  unfolding stateAt
+  state-fits zero = fresh-fits cap velocities t n fit old room
+  state-fits (suc k) =
+      next-fits cap velocities t n fit (trace k) (stateAt cap t n old trace k) (state-room cap t n old trace room k)
+      (state-fits k)
 
-    satisfied : (i k : ℕ) → i < n → Satisfied cap t trace (flowAt cap t n old trace) i k
-    unfolding flowAt
-    satisfied i k h =
-        let state = stateAt cap t n old trace k in
-        let fs = flows cap t (trace k) state in
-        record {
-          equation =
-              flows-at cap t (trace k) state n i h
-              ∙ value-same cap t n i (trace k) (numberAt (fs i)) (numberAt (fs n)) (numberAt state i) _
-              (λ j g. sym (flows-kept cap t (trace k) state n i j g (omega arith)))
-              (kindAt t i) (equationAt t i) (all-at (equationFits t n) n fit i h) (cell-at k i h);
-          range = flows-range cap t n fit (trace k) state (state-fits k) i h;
-        }
+  satisfied : (i k : ℕ) → i < n → Satisfied cap t trace (flowAt cap t n old trace) i k
+  unfolding flowAt
+  satisfied i k h =
+      let state = stateAt cap t n old trace k in
+      let fs = flows cap t (trace k) state in
+      record {
+        equation =
+            flows-at cap t (trace k) state n i h
+            ∙ value-same cap velocities t n i (trace k) (numberAt (fs i)) (numberAt (fs n)) (numberAt state i) _
+            (λ j g. sym (flows-kept cap t (trace k) state n i j g (omega arith)))
+            (kindAt t i) (equationAt t i) (all-at (equationFits velocities t n) n fit i h)
+            (cell-at cap t n old trace room k i h);
+        range = flows-range cap velocities t n fit (trace k) state (state-fits k) i h;
+      }
 
 -- The flows of a run satisfy the equations of the table.
-pub lustre : (cap : ℕ) (t : List ℕ) (n : ℕ) (old : List ℕ) (trace : Trace) → checked t n ≡ Passed → n ≤ length old
-    → Lustre cap t n trace (flowAt cap t n old trace)
-lustre cap t n old trace e room i k h = satisfied cap t n old trace room (checked-fitting t n e .equations) i k h
+pub lustre : (cap velocities : ℕ) (t : List ℕ) (n : ℕ) (old : List ℕ) (trace : Trace)
+    → checked velocities t n ≡ Passed → n ≤ length old → Lustre cap t n trace (flowAt cap t n old trace)
+lustre cap velocities t n old trace e room i k h =
+    satisfied cap velocities t n old trace room (checked-fitting velocities t n e .equations) i k h
 
 -- ---- no other flows satisfy them
 
 -- The operand of a memory is one of the n flows.
-memory-operand : (t : List ℕ) (n i : ℕ) (q : Kind) (e : Equation) → isMemory q ≡ true
-    → shapeFits t n i (shapeOf q) e ≡ true → e .a < n
+memory-operand : (velocities : ℕ) (t : List ℕ) (n i : ℕ) (q : Kind) (e : Equation) → isMemory q ≡ true
+    → shapeFits velocities t n i (shapeOf q) e ≡ true → e .a < n
 unfolding shapeFits shapeOf operandFits
-memory-operand t n i q e m f =
+memory-operand velocities t n i q e m f =
     ⊎-elim
     (λ p. flow-below t n Boolean (e .a) (and-true (isFlow t n Boolean (e .a)) _ (rw p at f) .0))
     (λ p. flow-below t n Count (e .a) (and-true (isFlow t n Count (e .a)) _ (rw p at f) .0))
     (memory-kind q m)
 
-module _ (cap : ℕ) (t : List ℕ) (n : ℕ) (trace : Trace) (fit : all (equationFits t n) n ≡ true)
+module _ (cap velocities : ℕ) (t : List ℕ) (n : ℕ) (trace : Trace) (fit : all (equationFits velocities t n) n ≡ true)
     (f g : ℕ → ℕ → ℕ) (F : Solves cap t n trace f) (G : Solves cap t n trace g) where
   -- The flows of the tick before k are the same.
   Before : ℕ → Type 0
@@ -152,16 +158,17 @@ module _ (cap : ℕ) (t : List ℕ) (n : ℕ) (trace : Trace) (fit : all (equati
   unfolding Before
   cells-same zero i before l m = refl
   cells-same (suc k) i before l m =
-      before _ (memory-operand t n i (kindAt t i) (equationAt t i) m (all-at (equationFits t n) n fit i l))
+      before _
+      (memory-operand velocities t n i (kindAt t i) (equationAt t i) m (all-at (equationFits velocities t n) n fit i l))
 
   -- So are the first m flows of tick k.
   tick-same : (k : ℕ) → Before k → (m i : ℕ) → i < m → i < n → f k i ≡ g k i
   tick-same k before zero i h l = absurd (omega arith)
   tick-same k before (suc m) i h l =
       F i k l
-      ∙ value-same cap t n i (trace k) (f k) (g k) (remembered t f i k) (remembered t g i k)
+      ∙ value-same cap velocities t n i (trace k) (f k) (g k) (remembered t f i k) (remembered t g i k)
       (λ j b. tick-same k before m j (omega arith) (omega arith)) (kindAt t i) (equationAt t i)
-      (all-at (equationFits t n) n fit i l) (cells-same k i before l)
+      (all-at (equationFits velocities t n) n fit i l) (cells-same k i before l)
       ∙ sym (G i k l)
 
   pub flows-same : (k i : ℕ) → i < n → f k i ≡ g k i

@@ -11,7 +11,7 @@ use Rattle.lists.specs.Number.{numberAt}
 use Rattle.tables.specs.Table.{isMemory, Equation, equationAt, Kind, kindAt, sortOf, startedOf, verdictOf}
 use Rattle.limits.specs.Limits.{truthCount}
 use Rattle.tables.specs.Table.Kind.{signal, start, constant, negation, conjunction, disjunction, booleanPre}
-use Rattle.tables.specs.Table.Kind.{countPre, capped, ifElse, compareLiteral, compareParameter, unknown}
+use Rattle.tables.specs.Table.Kind.{countPre, capped, ifElse, compareLiteral, compareParameter, velocity, unknown}
 use Rattle.tables.specs.declared.Sort.{Sort}
 use Rattle.tables.specs.declared.Sort.the-variants.{Boolean, Count}
 
@@ -34,6 +34,7 @@ valueOf cap k flow cell capped e = increased cap (flow (e .a)) (nonzero (flow (e
 valueOf cap k flow cell ifElse e = cond (nonzero (flow (e .a))) (flow (e .b)) 0
 valueOf cap k flow cell compareLiteral e = truth (compares (opOf (e .b)) (flow (e .a)) (e .c))
 valueOf cap k flow cell compareParameter e = truth (compares (opOf (e .b)) (flow (e .a)) (parameterAt k (e .c)))
+valueOf cap k flow cell velocity e = truth (compares (opOf (e .a)) (k .velocity) (e .b))
 valueOf cap k flow cell unknown e = 0
 
 -- The value of equation i, after the flows before it.

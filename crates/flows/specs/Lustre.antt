@@ -52,8 +52,8 @@ pub record Leaves (n : ℕ) (flow : ℕ → ℕ → ℕ) (k : ℕ) (s : Taken) :
   pub values : s .left .values ≡ firsts (flow k) n ++ drop n (s .call .values)
   pub answer : s .left .answer ≡ Verdict (answerOf n (flow k))
 
--- SPEC 6.4, SPEC 12.2 (demand 2), of a table of n equations with counts up to the cap:
-pub record RunsAsLustre (cap : ℕ) (t : List ℕ) (n : ℕ) : Type 0 where
+-- SPEC 6.4, SPEC 12.2 (demand 2), of a table of n equations with counts up to the cap and so many velocities:
+pub record RunsAsLustre (cap velocities : ℕ) (t : List ℕ) (n : ℕ) : Type 0 where
   -- On every trace there are flows that satisfy the equations and are in range,
   pub flow : Trace → ℕ → ℕ → ℕ
   pub solves : (trace : Trace) → Lustre cap t n trace (flow trace)
@@ -63,7 +63,7 @@ pub record RunsAsLustre (cap : ℕ) (t : List ℕ) (n : ℕ) : Type 0 where
   -- From the fresh state over any old cells, over every list of calls, refused ones included, each tick's step leaves
   -- the flows that Lustre gives at that tick. Past the last tick, where no step looks, the trace is as d.
   pub leaves : (old : List ℕ) → n ≤ length old → (calls : List Call) (d : Tick) (f : ℕ → ℕ → ℕ)
-      → Solves cap t n (traceOf d (ticks (fromFresh cap t n old calls))) f
-      → EachTick (Leaves n f) 0 (fromFresh cap t n old calls)
+      → Solves cap t n (traceOf d (ticks (fromFresh cap velocities t n old calls))) f
+      → EachTick (Leaves n f) 0 (fromFresh cap velocities t n old calls)
   pub decides : (old : List ℕ) → n ≤ length old → (calls : List Call)
-      → CallsDecide cap n calls (fromFresh cap t n old calls)
+      → CallsDecide cap velocities n calls (fromFresh cap velocities t n old calls)

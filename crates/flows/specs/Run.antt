@@ -6,7 +6,7 @@ use lib.Dec.{leb}
 use lib.ListN.{length}
 use Rattle.traces.specs.declared.Tick.{Tick}
 use Rattle.tables.specs.Table.{test, firstFailed}
-use Rattle.flows.specs.Step.{AfterFresh, freshened, AfterStep, parameterTest, stepped}
+use Rattle.flows.specs.Step.{AfterFresh, freshened, AfterStep, parameterTest, velocityTest, stepped}
 use Rattle.tables.specs.declared.Checked.{Checked}
 use Rattle.tables.specs.declared.Checked.the-variants.{Passed, Refused as Failed}
 use Rattle.flows.specs.declared.Stepped.{Stepped}
@@ -18,8 +18,8 @@ pub record Call : Type 0 where
   pub values : List ℕ
 
 -- What a call does to a state.
-abbrev pub called : ℕ → List ℕ → ℕ → List ℕ → Call → AfterStep
-called cap t n state x = stepped cap t n state (x .values) (x .tick)
+abbrev pub called : ℕ → ℕ → List ℕ → ℕ → List ℕ → Call → AfterStep
+called cap velocities t n state x = stepped cap velocities t n state (x .values) (x .tick)
 
 -- A step of a list: what it was given, and what it answered and left.
 pub record Taken : Type 0 where
@@ -27,14 +27,15 @@ pub record Taken : Type 0 where
   pub left : AfterStep
 
 -- SPEC 6.1: the steps of a list of calls, each on the state that is left by the one before.
-unfoldable pub steps : ℕ → List ℕ → ℕ → List ℕ → List Call → List Taken
-steps cap t n state [] = []
-steps cap t n state (x ∷ xs) =
-    record { call = x; left = called cap t n state x } ∷ steps cap t n (called cap t n state x .state) xs
+unfoldable pub steps : ℕ → ℕ → List ℕ → ℕ → List ℕ → List Call → List Taken
+steps cap velocities t n state [] = []
+steps cap velocities t n state (x ∷ xs) =
+    record { call = x; left = called cap velocities t n state x }
+    ∷ steps cap velocities t n (called cap velocities t n state x .state) xs
 
 -- The same from the fresh state over the cells `old`.
-abbrev pub fromFresh : ℕ → List ℕ → ℕ → List ℕ → List Call → List Taken
-fromFresh cap t n old calls = steps cap t n (freshened t n old .state) calls
+abbrev pub fromFresh : ℕ → ℕ → List ℕ → ℕ → List ℕ → List Call → List Taken
+fromFresh cap velocities t n old calls = steps cap velocities t n (freshened velocities t n old .state) calls
 
 abbrev pub answered : List Taken → List Stepped
 answered ss = map (λ (s : Taken). s .left .answer) ss
@@ -57,16 +58,17 @@ pub data EachTick (P : ℕ → Taken → Type 0) : ℕ → List Taken → Type 0
       → EachTick P k (s ∷ ss)
 
 -- The tests of a step that its call alone decides.
-unfoldable pub callChecked : ℕ → ℕ → List ℕ → Tick → Checked
-callChecked cap n values k = firstFailed (test 12 (leb n (length values)) ∷ parameterTest cap k ∷ [])
+unfoldable pub callChecked : ℕ → ℕ → ℕ → List ℕ → Tick → Checked
+callChecked cap velocities n values k =
+    firstFailed (test 12 (leb n (length values)) ∷ parameterTest cap k ∷ velocityTest velocities k ∷ [])
 
-abbrev pub admits : ℕ → ℕ → Call → Checked
-admits cap n x = callChecked cap n (x .values) (x .tick)
+abbrev pub admits : ℕ → ℕ → ℕ → Call → Checked
+admits cap velocities n x = callChecked cap velocities n (x .values) (x .tick)
 
 abbrev pub refusalIn : Stepped → Checked
 refusalIn (Verdict v) = Passed
 refusalIn (Refused r) = Failed r
 
 -- SPEC 6.5: each step is refused, or not, as these tests of its call say.
-abbrev pub CallsDecide : ℕ → ℕ → List Call → List Taken → Type 0
-CallsDecide cap n calls ss = map refusalIn (answered ss) ≡ map (admits cap n) calls
+abbrev pub CallsDecide : ℕ → ℕ → ℕ → List Call → List Taken → Type 0
+CallsDecide cap velocities n calls ss = map refusalIn (answered ss) ≡ map (admits cap velocities n) calls

@@ -30,9 +30,10 @@ abbrev pub stepReply : Stepped → Reply
 stepReply (Verdict v) = gives v
 stepReply (Refused r) = refused r
 
--- SPEC 8.4: the tests of a fresh state, in order. The test of refusal 12 (SPEC 7.12): each equation has a cell.
-abbrev pub freshTests : List ℕ → ℕ → List ℕ → List Test
-freshTests t n state = tableTests t n ++ (test 12 (leb n (length state)) ∷ [])
+-- SPEC 8.4: the tests of a fresh state, in order, where there are so many velocities. The test of refusal 12
+-- (SPEC 7.12): each equation has a cell.
+abbrev pub freshTests : ℕ → List ℕ → ℕ → List ℕ → List Test
+freshTests velocities t n state = tableTests velocities t n ++ (test 12 (leb n (length state)) ∷ [])
 
 -- The test of refusal 12 of a step (SPEC 7.12): each equation has a cell, and a place among the values.
 abbrev pub roomTest : ℕ → List ℕ → List ℕ → Test
@@ -60,18 +61,24 @@ cellsFit cap t n state = all (cellFitsAt cap t state) n
 abbrev pub cellTest : ℕ → List ℕ → ℕ → List ℕ → Test
 cellTest cap t n state = test 14 (cellsFit cap t n state)
 
+-- The test of refusal 19 (SPEC 7.19): the tick's velocity is below how many there are, which is `velocityCount` in that
+-- clause.
+abbrev pub velocityTest : ℕ → Tick → Test
+velocityTest velocities k = test 19 (ltb (k .velocity) velocities)
+
 -- SPEC 8.5: the tests of a step, in order.
-abbrev pub stepTests : ℕ → List ℕ → ℕ → List ℕ → List ℕ → Tick → List Test
-stepTests cap t n state values k =
-    tableTests t n ++ (roomTest n state values ∷ parameterTest cap k ∷ cellTest cap t n state ∷ [])
+abbrev pub stepTests : ℕ → ℕ → List ℕ → ℕ → List ℕ → List ℕ → Tick → List Test
+stepTests cap velocities t n state values k =
+    tableTests velocities t n
+    ++ (roomTest n state values ∷ parameterTest cap k ∷ cellTest cap t n state ∷ velocityTest velocities k ∷ [])
 
 -- What the tests of a fresh state say of a call: the first refusal, or none.
-unfoldable pub freshChecked : List ℕ → ℕ → List ℕ → Checked
-freshChecked t n state = firstFailed (freshTests t n state)
+unfoldable pub freshChecked : ℕ → List ℕ → ℕ → List ℕ → Checked
+freshChecked velocities t n state = firstFailed (freshTests velocities t n state)
 
 -- The same of a step.
-unfoldable pub stepChecked : ℕ → List ℕ → ℕ → List ℕ → List ℕ → Tick → Checked
-stepChecked cap t n state values k = firstFailed (stepTests cap t n state values k)
+unfoldable pub stepChecked : ℕ → ℕ → List ℕ → ℕ → List ℕ → List ℕ → Tick → Checked
+stepChecked cap velocities t n state values k = firstFailed (stepTests cap velocities t n state values k)
 
 -- What making a fresh state answers, and the state that it leaves.
 pub record AfterFresh : Type 0 where
@@ -87,8 +94,8 @@ freshenedIf Passed t n state = afterFresh Made (freshState t n state)
 freshenedIf (Failed r) t n state = afterFresh (NotMade r) state
 
 -- SPEC 8.4: the whole effect of making a fresh state.
-unfoldable pub freshened : List ℕ → ℕ → List ℕ → AfterFresh
-freshened t n state = freshenedIf (freshChecked t n state) t n state
+unfoldable pub freshened : ℕ → List ℕ → ℕ → List ℕ → AfterFresh
+freshened velocities t n state = freshenedIf (freshChecked velocities t n state) t n state
 
 -- What a step answers, and the state and the values that it leaves.
 pub record AfterStep : Type 0 where
@@ -115,5 +122,6 @@ steppedIf Passed cap t n state values k = afterTick cap t n state values k
 steppedIf (Failed r) cap t n state values k = afterStep (Refused r) state values
 
 -- SPEC 8.5: the whole effect of a step.
-unfoldable pub stepped : ℕ → List ℕ → ℕ → List ℕ → List ℕ → Tick → AfterStep
-stepped cap t n state values k = steppedIf (stepChecked cap t n state values k) cap t n state values k
+unfoldable pub stepped : ℕ → ℕ → List ℕ → ℕ → List ℕ → List ℕ → Tick → AfterStep
+stepped cap velocities t n state values k =
+    steppedIf (stepChecked cap velocities t n state values k) cap t n state values k

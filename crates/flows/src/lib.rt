@@ -1,5 +1,5 @@
 // The flows of an equation table: a fresh state (SPEC 8.4), and the step that runs a table for one tick (SPEC 8.5),
-// refusals 10 to 14. What they mean is in specs/.
+// refusals 10 to 14 and 19. What they mean is in specs/.
 use tables::Checked;
 use tables::Sort;
 use traces::Tick;
@@ -8,7 +8,7 @@ ghost use mathlib.Core.Bool.{_&&_, _||_, cond};
 ghost use mathlib.Core.List.{_++_};
 ghost use Prim.Native.Nat.{_+_, _*_, _≤_, _<_};
 ghost use lib.ListN.{length, drop};
-ghost use Rattle.limits.specs.Limits.{parameterCount, standardCap};
+ghost use Rattle.limits.specs.Limits.{parameterCount, standardCap, velocityCount};
 ghost use Rattle.traces.specs.Trace.{truth, nonzero, parameterAt, bit};
 ghost use Rattle.traces.specs.Compare.{opOf, compares};
 ghost use Rattle.lists.specs.Number.{numberAt};
@@ -136,6 +136,7 @@ fn value(cap: u32, table: &[u32], i: usize, tick: Tick, cell: u32, before: &[u32
         tables::IF => gate(number_at(before, a), number_at(before, b)),
         tables::COMPARE_LITERAL => number(compare(b, number_at(before, a), c)),
         tables::COMPARE_PARAMETER => number(compare(b, number_at(before, a), parameter(tick, c))),
+        tables::VELOCITY => number(compare(a, tick.velocity, b)),
         _ => 0,
     }
 }
@@ -243,10 +244,10 @@ fn cells_fit(cap: u32, table: &[u32], n: usize, state: &[u32]) -> bool
 }
 
 // The refusals of a fresh state: 10 to 12.
-fn check_fresh(table: &[u32], n: usize, state: &[u32]) -> Checked
-    ensures { λ r. ⌜ r ≡ freshChecked (now (table .entry)) n (now (state .entry)) ⌝ }
+fn check_fresh(velocities: u32, table: &[u32], n: usize, state: &[u32]) -> Checked
+    ensures { λ r. ⌜ r ≡ freshChecked velocities (now (table .entry)) n (now (state .entry)) ⌝ }
 {
-    let checked = tables::check_table(table, n);
+    let checked = tables::check_table(velocities, table, n);
     let Checked::Passed = checked else {
         return checked;
     };
@@ -256,9 +257,10 @@ fn check_fresh(table: &[u32], n: usize, state: &[u32]) -> Checked
     Checked::Passed
 }
 
-// The refusals of a step: 10 to 14.
+// The refusals of a step: 10 to 14, then 19.
 fn check_step(
     cap: u32,
+    velocities: u32,
     table: &[u32],
     n: usize,
     state: &[u32],
@@ -266,9 +268,9 @@ fn check_step(
     tick: Tick,
 ) -> Checked
     ensures { λ r. ⌜ r
-        ≡ stepChecked cap (now (table .entry)) n (now (state .entry)) (now (values .entry)) tick ⌝ }
+        ≡ stepChecked cap velocities (now (table .entry)) n (now (state .entry)) (now (values .entry)) tick ⌝ }
 {
-    let checked = tables::check_table(table, n);
+    let checked = tables::check_table(velocities, table, n);
     let Checked::Passed = checked else {
         return checked;
     };
@@ -283,6 +285,9 @@ fn check_step(
     }
     if !cells_fit(cap, table, n, state) {
         return Checked::Refused(14);
+    }
+    if velocities <= tick.velocity {
+        return Checked::Refused(19);
     }
     Checked::Passed
 }
@@ -313,9 +318,10 @@ fn run(cap: u32, table: &[u32], n: usize, state: &mut [u32], values: &mut [u32],
 
 // Makes a fresh state.
 pub fn fresh_state(table: &[u32], n: usize, state: &mut [u32]) -> Fresh
-    ensures { λ r. ⌜ afterFresh r (now (state .exit)) ≡ freshened (now (table .entry)) n (now (state .entry)) ⌝ }
+    ensures { λ r. ⌜ afterFresh r (now (state .exit))
+        ≡ freshened velocityCount (now (table .entry)) n (now (state .entry)) ⌝ }
 {
-    let Checked::Refused(number) = check_fresh(table, n, state) else {
+    let Checked::Refused(number) = check_fresh(limits::VELOCITIES, table, n, state) else {
         reset(table, n, state);
         return Fresh::Made;
     };
@@ -325,9 +331,17 @@ pub fn fresh_state(table: &[u32], n: usize, state: &mut [u32]) -> Fresh
 // One step: a tick of the table.
 pub fn step(table: &[u32], n: usize, state: &mut [u32], values: &mut [u32], tick: Tick) -> Stepped
     ensures { λ r. ⌜ afterStep r (now (state .exit)) (now (values .exit))
-        ≡ stepped standardCap (now (table .entry)) n (now (state .entry)) (now (values .entry)) tick ⌝ }
+        ≡ stepped standardCap velocityCount (now (table .entry)) n (now (state .entry)) (now (values .entry)) tick ⌝ }
 {
-    let Checked::Refused(number) = check_step(limits::CAP, table, n, state, values, tick) else {
+    let Checked::Refused(number) = check_step(
+        limits::CAP,
+        limits::VELOCITIES,
+        table,
+        n,
+        state,
+        values,
+        tick,
+    ) else {
         return Stepped::Verdict(run(limits::CAP, table, n, state, values, tick));
     };
     Stepped::Refused(number)
@@ -335,14 +349,22 @@ pub fn step(table: &[u32], n: usize, state: &mut [u32], values: &mut [u32], tick
 
 // What a step answers to these arguments: its refusal, or that it has none. No step is run.
 pub fn step_checked(table: &[u32], n: usize, state: &[u32], values: &[u32], tick: Tick) -> Checked
-    ensures { λ r. ⌜ r
-        ≡ stepChecked standardCap (now (table .entry)) n (now (state .entry)) (now (values .entry)) tick ⌝ }
+    ensures { λ r. ⌜ r ≡ stepChecked standardCap velocityCount
+        (now (table .entry)) n (now (state .entry)) (now (values .entry)) tick ⌝ }
 {
-    check_step(limits::CAP, table, n, state, values, tick)
+    check_step(
+        limits::CAP,
+        limits::VELOCITIES,
+        table,
+        n,
+        state,
+        values,
+        tick,
+    )
 }
 
 // A step that is known to have no refusal: its answer. After `step_checked` has passed, every further step with the
-// same parameters is such a step.
+// same parameters and a velocity below `limits::VELOCITIES` is such a step.
 pub fn step_passed(
     table: &[u32],
     n: usize,
@@ -350,9 +372,9 @@ pub fn step_passed(
     values: &mut [u32],
     tick: Tick,
 ) -> u32
-    requires { ⌜ stepChecked standardCap (now table) n (now state) (now values) tick ≡ Checked.Passed ⌝ }
+    requires { ⌜ stepChecked standardCap velocityCount (now table) n (now state) (now values) tick ≡ Checked.Passed ⌝ }
     ensures { λ r. ⌜ afterStep (Stepped.Verdict r) (now (state .exit)) (now (values .exit))
-        ≡ stepped standardCap (now (table .entry)) n (now (state .entry)) (now (values .entry)) tick ⌝ }
+        ≡ stepped standardCap velocityCount (now (table .entry)) n (now (state .entry)) (now (values .entry)) tick ⌝ }
 {
     run(limits::CAP, table, n, state, values, tick)
 }

@@ -37,6 +37,9 @@ COMPARE-LITERAL = 10
 abbrev pub COMPARE-PARAMETER : ℕ
 COMPARE-PARAMETER = 11
 
+abbrev pub VELOCITY : ℕ
+VELOCITY = 12
+
 -- SPEC 5.3: how many kinds there are.
 abbrev pub kindCount : ℕ
-kindCount = 12
+kindCount = 13

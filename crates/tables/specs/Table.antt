@@ -1,4 +1,4 @@
--- Equation tables: the numbers of an equation, the twelve kinds, and which tables are well formed. Definitions only.
+-- Equation tables: the numbers of an equation, the thirteen kinds, and which tables are well formed. Definitions only.
 use mathlib.Core.Bool.{Bool, true, false, _&&_, cond}
 use mathlib.Core.List.{List, [], _∷_}
 use Prim.Native.Nat.{ℕ, zero, suc, _+_, _*_, _-_}
@@ -9,7 +9,7 @@ use Rattle.limits.specs.Limits.{signalCount, truthCount, comparisonCount, liter
 use Rattle.tables.specs.declared.Sort.{Sort}
 use Rattle.tables.specs.declared.Sort.the-variants.{Boolean, Count}
 use Rattle.tables.specs.declared.Operand.{Operand}
-use Rattle.tables.specs.declared.Operand.the-variants.{Unused, Earlier, Anywhere, Below}
+use Rattle.tables.specs.declared.Operand.the-variants.{Unused, Earlier, Anywhere, Below, Velocity}
 use Rattle.tables.specs.declared.Shape.{Shape}
 use Rattle.tables.specs.declared.Checked.{Checked}
 use Rattle.tables.specs.declared.Checked.the-variants.{Passed, Refused}
@@ -39,16 +39,16 @@ equationAt t i =
       c = numberAt t (4 * i + 3);
     }
 
--- The twelve kinds, and one for every number that is the number of none of them.
+-- The thirteen kinds, and one for every number that is the number of none of them.
 pub data Kind : Type 0 where
   signal start constant negation conjunction disjunction booleanPre countPre capped ifElse : Kind
-  compareLiteral compareParameter unknown : Kind
+  compareLiteral compareParameter velocity unknown : Kind
 
 -- SPEC 5.3: the kinds in the order of their numbers.
 abbrev pub kinds : List Kind
 kinds =
     signal ∷ start ∷ constant ∷ negation ∷ conjunction ∷ disjunction ∷ booleanPre ∷ countPre ∷ capped ∷ ifElse
-    ∷ compareLiteral ∷ compareParameter ∷ []
+    ∷ compareLiteral ∷ compareParameter ∷ velocity ∷ []
 
 -- The kind of that number.
 unfoldable pub kindOf : ℕ → Kind
@@ -77,6 +77,7 @@ shapeOf capped = row (Earlier Count) (Earlier Boolean) Unused Count
 shapeOf ifElse = row (Earlier Boolean) (Earlier Count) Unused Count
 shapeOf compareLiteral = row (Earlier Count) (Below comparisonCount) (Below literalCount) Boolean
 shapeOf compareParameter = row (Earlier Count) (Below comparisonCount) (Below parameterCount) Boolean
+shapeOf velocity = row (Below comparisonCount) Velocity Unused Boolean
 shapeOf unknown = row (Below 0) Unused Unused Boolean
 
 -- The sort of a kind's flow.
@@ -104,6 +105,7 @@ isMemory capped = false
 isMemory ifElse = false
 isMemory compareLiteral = false
 isMemory compareParameter = false
+isMemory velocity = false
 isMemory unknown = false
 
 -- SPEC 5.7: how many of the first equations of a table are memories.
@@ -115,21 +117,24 @@ memories t (suc i) = cond (isMemory (kindAt t i)) (suc (memories t i)) (memories
 unfoldable pub isFlow : List ℕ → ℕ → Sort → ℕ → Bool
 isFlow t m s x = ltb x m && sameSort (sortOf (kindAt t x)) s
 
--- SPEC 5.4: the number x can be such an operand in equation i of n; SPEC 5.1: it is 0 where none is used.
-unfoldable pub operandFits : List ℕ → ℕ → ℕ → Operand → ℕ → Bool
-operandFits t n i Unused x = eqb x 0
-operandFits t n i (Earlier s) x = isFlow t i s x
-operandFits t n i (Anywhere s) x = isFlow t n s x
-operandFits t n i (Below m) x = ltb x m
+-- SPEC 5.4: the number x can be such an operand in equation i of n, where there are so many velocities; SPEC 5.1: it is
+-- 0 where none is used.
+unfoldable pub operandFits : ℕ → List ℕ → ℕ → ℕ → Operand → ℕ → Bool
+operandFits velocities t n i Unused x = eqb x 0
+operandFits velocities t n i (Earlier s) x = isFlow t i s x
+operandFits velocities t n i (Anywhere s) x = isFlow t n s x
+operandFits velocities t n i (Below m) x = ltb x m
+operandFits velocities t n i Velocity x = ltb x velocities
 
 -- The three numbers of the equation e, i of n, are what its kind's row asks for.
-unfoldable pub shapeFits : List ℕ → ℕ → ℕ → Shape → Equation → Bool
-shapeFits t n i s e =
-    operandFits t n i (s .a) (e .a) && (operandFits t n i (s .b) (e .b) && operandFits t n i (s .c) (e .c))
+unfoldable pub shapeFits : ℕ → List ℕ → ℕ → ℕ → Shape → Equation → Bool
+shapeFits velocities t n i s e =
+    operandFits velocities t n i (s .a) (e .a)
+    && (operandFits velocities t n i (s .b) (e .b) && operandFits velocities t n i (s .c) (e .c))
 
 -- Equation i of n keeps the rules of its kind.
-abbrev pub equationFits : List ℕ → ℕ → ℕ → Bool
-equationFits t n i = shapeFits t n i (shapeOf (kindAt t i)) (equationAt t i)
+abbrev pub equationFits : ℕ → List ℕ → ℕ → ℕ → Bool
+equationFits velocities t n i = shapeFits velocities t n i (shapeOf (kindAt t i)) (equationAt t i)
 
 -- The test of refusal 10 (SPEC 7.10): n is neither 0 nor above the limit (SPEC 5.6), and the table has n equations'
 -- numbers.
@@ -155,8 +160,8 @@ unfoldable pub closes : List ℕ → ℕ → Bool
 closes t n = leb closingCount n && (booleanAt t (startedOf n) && booleanAt t (verdictOf n))
 
 -- The test of refusal 11 (SPEC 7.11): each equation keeps the rules of its kind, and the last two those of SPEC 5.5.
-unfoldable pub equationsFit : List ℕ → ℕ → Bool
-equationsFit t n = all (equationFits t n) n && closes t n
+unfoldable pub equationsFit : ℕ → List ℕ → ℕ → Bool
+equationsFit velocities t n = all (equationFits velocities t n) n && closes t n
 
 -- A test and the refusal of a call that fails it.
 pub record Test : Type 0 where
@@ -171,10 +176,10 @@ abbrev pub firstFailed : List Test → Checked
 firstFailed [] = Passed
 firstFailed (x ∷ xs) = cond (x .passed) (firstFailed xs) (Refused (x .refusal))
 
--- The tests of a table of n equations.
-abbrev pub tableTests : List ℕ → ℕ → List Test
-tableTests t n = test 10 (lengthFits t n) ∷ test 11 (equationsFit t n) ∷ []
+-- The tests of a table of n equations, where there are so many velocities.
+abbrev pub tableTests : ℕ → List ℕ → ℕ → List Test
+tableTests velocities t n = test 10 (lengthFits t n) ∷ test 11 (equationsFit velocities t n) ∷ []
 
 -- What the check of a table answers.
-unfoldable pub checked : List ℕ → ℕ → Checked
-checked t n = firstFailed (tableTests t n)
+unfoldable pub checked : ℕ → List ℕ → ℕ → Checked
+checked velocities t n = firstFailed (tableTests velocities t n)

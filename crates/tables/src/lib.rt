@@ -24,6 +24,8 @@ pub enum Operand {
     Anywhere(Sort),
     // A number below that one.
     Below(u32),
+    // A velocity: a number below how many there are.
+    Velocity,
 }
 
 // A row of the table of kinds: what A, B and C have to be, and the sort of the flow.
@@ -65,8 +67,10 @@ pub const COMPARE_LITERAL: u32 = 10;
 
 pub const COMPARE_PARAMETER: u32 = 11;
 
+pub const VELOCITY: u32 = 12;
+
 // How many kinds there are.
-pub const KIND_COUNT: usize = 12;
+pub const KIND_COUNT: usize = 13;
 
 // SPEC 5.5: how many equations close a table, the started flow's and then the verdict's.
 pub const CLOSING: usize = 2;
@@ -157,6 +161,13 @@ const KINDS: [Shape; KIND_COUNT] = [
         c: Operand::Below(limits::PARAMETERS as u32),
         gives: Sort::Boolean,
     },
+    // 12: the velocity compared with a literal.
+    Shape {
+        a: Operand::Below(limits::COMPARISONS),
+        b: Operand::Velocity,
+        c: Operand::Unused,
+        gives: Sort::Boolean,
+    },
 ];
 
 // The row of kind k.
@@ -186,6 +197,7 @@ pub fn row_of(k: u32) -> Shape
         IF => shape_at(IF),
         COMPARE_LITERAL => shape_at(COMPARE_LITERAL),
         COMPARE_PARAMETER => shape_at(COMPARE_PARAMETER),
+        VELOCITY => shape_at(VELOCITY),
         _ => Shape {
             a: Operand::Below(0),
             b: Operand::Unused,
@@ -249,6 +261,7 @@ pub fn sort_of(k: u32) -> Sort
         IF => gives(IF),
         COMPARE_LITERAL => gives(COMPARE_LITERAL),
         COMPARE_PARAMETER => gives(COMPARE_PARAMETER),
+        VELOCITY => gives(VELOCITY),
         _ => Sort::Boolean,
     }
 }
@@ -280,16 +293,17 @@ fn is_flow(table: &[u32], m: usize, s: Sort, x: u32) -> bool
     }
 }
 
-// Whether x can be such an operand in equation i of n.
-fn operand_fits(table: &[u32], n: usize, i: usize, o: Operand, x: u32) -> bool
+// Whether x can be such an operand in equation i of n, where there are so many velocities.
+fn operand_fits(velocities: u32, table: &[u32], n: usize, i: usize, o: Operand, x: u32) -> bool
     requires { ⌜ (i < n) × (4 * n ≤ length (now table)) ⌝ }
-    ensures { λ r. ⌜ r ≡ operandFits (now (table .entry)) n i o x ⌝ }
+    ensures { λ r. ⌜ r ≡ operandFits velocities (now (table .entry)) n i o x ⌝ }
 {
     match o {
         Operand::Unused => x == 0,
         Operand::Earlier(s) => is_flow(table, i, s, x),
         Operand::Anywhere(s) => is_flow(table, n, s, x),
         Operand::Below(m) => x < m,
+        Operand::Velocity => x < velocities,
     }
 }
 
@@ -305,37 +319,47 @@ fn all_three(p: bool, q: bool, r: bool) -> bool
     false
 }
 
-// Whether A, B and C of equation i of n can be such operands.
-fn operands_fit(table: &[u32], n: usize, i: usize, a: Operand, b: Operand, c: Operand) -> bool
+// Whether A, B and C of equation i of n can be such operands, where there are vs velocities.
+fn operands_fit(
+    vs: u32,
+    table: &[u32],
+    n: usize,
+    i: usize,
+    a: Operand,
+    b: Operand,
+    c: Operand,
+) -> bool
     requires { ⌜ (i < n) × (4 * n ≤ length (now table)) ⌝ }
-    ensures { λ r. ⌜ r ≡ (operandFits (now (table .entry)) n i a (equationAt (now (table .entry)) i .a)
-        && (operandFits (now (table .entry)) n i b (equationAt (now (table .entry)) i .b)
-        && operandFits (now (table .entry)) n i c (equationAt (now (table .entry)) i .c))) ⌝ }
+    ensures { λ r. ⌜ r ≡ (operandFits vs (now (table .entry)) n i a (equationAt (now (table .entry)) i .a)
+        && (operandFits vs (now (table .entry)) n i b (equationAt (now (table .entry)) i .b)
+        && operandFits vs (now (table .entry)) n i c (equationAt (now (table .entry)) i .c))) ⌝ }
 {
-    let first = operand_fits(table, n, i, a, table[4 * i + 1]);
-    let second = operand_fits(table, n, i, b, table[4 * i + 2]);
-    let third = operand_fits(table, n, i, c, table[4 * i + 3]);
+    let first = operand_fits(vs, table, n, i, a, table[4 * i + 1]);
+    let second = operand_fits(vs, table, n, i, b, table[4 * i + 2]);
+    let third = operand_fits(vs, table, n, i, c, table[4 * i + 3]);
     all_three(first, second, third)
 }
 
-// Whether equation i of n keeps the rules of its kind. In each arm the row is known as the program is compiled.
-fn equation_fits(table: &[u32], n: usize, i: usize) -> bool
-    requires { ⌜ (i < n) × (4 * n ≤ length (now table)) ⌝ }
-    ensures { λ r. ⌜ r ≡ equationFits (now (table .entry)) n i ⌝ }
+// Whether equation i of n of the table t keeps the rules of its kind, where there are vs velocities. In each arm the
+// row is known as the program is compiled.
+fn equation_fits(vs: u32, t: &[u32], n: usize, i: usize) -> bool
+    requires { ⌜ (i < n) × (4 * n ≤ length (now t)) ⌝ }
+    ensures { λ r. ⌜ r ≡ equationFits vs (now (t .entry)) n i ⌝ }
 {
-    match table[4 * i] {
-        SIGNAL => operands_fit(table, n, i, a(SIGNAL), b(SIGNAL), c(SIGNAL)),
-        START => operands_fit(table, n, i, a(START), b(START), c(START)),
-        CONSTANT => operands_fit(table, n, i, a(CONSTANT), b(CONSTANT), c(CONSTANT)),
-        NOT => operands_fit(table, n, i, a(NOT), b(NOT), c(NOT)),
-        AND => operands_fit(table, n, i, a(AND), b(AND), c(AND)),
-        OR => operands_fit(table, n, i, a(OR), b(OR), c(OR)),
-        BOOLEAN_PRE => operands_fit(table, n, i, a(BOOLEAN_PRE), b(BOOLEAN_PRE), c(BOOLEAN_PRE)),
-        COUNT_PRE => operands_fit(table, n, i, a(COUNT_PRE), b(COUNT_PRE), c(COUNT_PRE)),
-        CAPPED => operands_fit(table, n, i, a(CAPPED), b(CAPPED), c(CAPPED)),
-        IF => operands_fit(table, n, i, a(IF), b(IF), c(IF)),
+    match t[4 * i] {
+        SIGNAL => operands_fit(vs, t, n, i, a(SIGNAL), b(SIGNAL), c(SIGNAL)),
+        START => operands_fit(vs, t, n, i, a(START), b(START), c(START)),
+        CONSTANT => operands_fit(vs, t, n, i, a(CONSTANT), b(CONSTANT), c(CONSTANT)),
+        NOT => operands_fit(vs, t, n, i, a(NOT), b(NOT), c(NOT)),
+        AND => operands_fit(vs, t, n, i, a(AND), b(AND), c(AND)),
+        OR => operands_fit(vs, t, n, i, a(OR), b(OR), c(OR)),
+        BOOLEAN_PRE => operands_fit(vs, t, n, i, a(BOOLEAN_PRE), b(BOOLEAN_PRE), c(BOOLEAN_PRE)),
+        COUNT_PRE => operands_fit(vs, t, n, i, a(COUNT_PRE), b(COUNT_PRE), c(COUNT_PRE)),
+        CAPPED => operands_fit(vs, t, n, i, a(CAPPED), b(CAPPED), c(CAPPED)),
+        IF => operands_fit(vs, t, n, i, a(IF), b(IF), c(IF)),
         COMPARE_LITERAL => operands_fit(
-            table,
+            vs,
+            t,
             n,
             i,
             a(COMPARE_LITERAL),
@@ -343,25 +367,27 @@ fn equation_fits(table: &[u32], n: usize, i: usize) -> bool
             c(COMPARE_LITERAL),
         ),
         COMPARE_PARAMETER => operands_fit(
-            table,
+            vs,
+            t,
             n,
             i,
             a(COMPARE_PARAMETER),
             b(COMPARE_PARAMETER),
             c(COMPARE_PARAMETER),
         ),
+        VELOCITY => operands_fit(vs, t, n, i, a(VELOCITY), b(VELOCITY), c(VELOCITY)),
         _ => false,
     }
 }
 
 // Whether each of the n equations keeps the rules of its kind.
-fn equations_fit(table: &[u32], n: usize) -> bool
+fn equations_fit(velocities: u32, table: &[u32], n: usize) -> bool
     requires { ⌜ 4 * n ≤ length (now table) ⌝ }
-    ensures { λ r. ⌜ r ≡ all (equationFits (now (table .entry)) n) n ⌝ }
+    ensures { λ r. ⌜ r ≡ all (equationFits velocities (now (table .entry)) n) n ⌝ }
 {
     let mut i = 0;
     while i < n {
-        if !equation_fits(table, n, i) {
+        if !equation_fits(velocities, table, n, i) {
             return false;
         }
         i += 1;
@@ -383,9 +409,9 @@ fn closes(table: &[u32], n: usize) -> bool
     !is_count(table[4 * (n - 1)])
 }
 
-// The check of a table of n equations: refusals 10 and 11.
-pub fn check_table(table: &[u32], n: usize) -> Checked
-    ensures { λ r. ⌜ r ≡ checked (now (table .entry)) n ⌝ }
+// The check of a table of n equations, where there are so many velocities: refusals 10 and 11.
+pub fn check_table(velocities: u32, table: &[u32], n: usize) -> Checked
+    ensures { λ r. ⌜ r ≡ checked velocities (now (table .entry)) n ⌝ }
 {
     if n == 0 {
         return Checked::Refused(10);
@@ -396,7 +422,7 @@ pub fn check_table(table: &[u32], n: usize) -> Checked
     if table.len() < 4 * n {
         return Checked::Refused(10);
     }
-    if !equations_fit(table, n) {
+    if !equations_fit(velocities, table, n) {
         return Checked::Refused(11);
     }
     if !closes(table, n) {

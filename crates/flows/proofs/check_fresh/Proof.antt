@@ -13,21 +13,21 @@ unfolding freshChecked
 table-refused c =
     let args = c .before .before .before .before .before .args in
     let told = c .enum-told2 .given .1 in
-    let others = drop 2 (freshTests (args .table .now) (args .n) (args .state .now)) in
-    told ∙ sym (refused-table _ _ _ others (sym (c .before .before .check-table .ensures) ∙ told))
+    let others = drop 2 (freshTests (args .velocities) (args .table .now) (args .n) (args .state .now)) in
+    told ∙ sym (refused-table _ _ _ _ others (sym (c .before .before .check-table .ensures) ∙ told))
 
 state-short : tie.Need-returns-2
 unfolding freshChecked
 state-short c =
     let told = c .before .enum-told .given .1 in
-    let p = passed-both _ _ (sym (c .before .before .before .check-table .ensures) ∙ told) in
+    let p = passed-both _ _ _ (sym (c .before .before .before .check-table .ensures) ∙ told) in
     rw (p .0, p .1, lt-leb _ _ (c .if1 .taken))
 
 all-passed : tie.Need-returns-3
 unfolding freshChecked
 all-passed c =
     let told = c .before .enum-told .given .1 in
-    let p = passed-both _ _ (sym (c .before .before .before .check-table .ensures) ∙ told) in
+    let p = passed-both _ _ _ (sym (c .before .before .before .check-table .ensures) ∙ told) in
     rw (p .0, p .1, le-leb _ _ (c .if1 .left))
 
 pub check-fresh-spec : {M : Type 1} → statement M

@@ -14,7 +14,7 @@ checked c = c .before .before
 reset-requires : tie.Need-reset-requires
 reset-requires c κs =
     let told = c .before .enum-told .given .1 in
-    let p = fresh-passed _ _ _ (sym (checked (c .before) .check-fresh .ensures) ∙ told) in
+    let p = fresh-passed _ _ _ _ (sym (checked (c .before) .check-fresh .ensures) ∙ told) in
     (p .0 .whole, p .1)
 
 made : tie.Need-returns

@@ -16,7 +16,7 @@ passed c = c .before .before .before
 run-requires : tie.Need-run-requires
 run-requires c κs =
     let told = c .before .before in
-    let p = step-passed _ _ _ _ _ _ (sym (checked told .check-step .ensures) ∙ told .enum-told .given .1) in
+    let p = step-passed _ _ _ _ _ _ _ (sym (checked told .check-step .ensures) ∙ told .enum-told .given .1) in
     (p .0 .closed, p .0 .whole, p .1, p .2)
 
 verdict : tie.Need-returns

@@ -88,7 +88,12 @@ of-compare-parameter c =
     rw (c .before .before .before .before .match .keys12, ← x .ensures, ← y .ensures)
     (c .number4 .ensures ∙ ap truth (c .before .compare2 .ensures))
 
-of-no-kind : tie.Need-returns-13
+of-velocity : tie.Need-returns-13
+unfolding valueOf kindOf
+of-velocity c =
+    rw (c .before .before .match .keys13) (c .number5 .ensures ∙ ap truth (c .before .compare3 .ensures))
+
+of-no-kind : tie.Need-returns-14
 unfolding valueOf
 of-no-kind c = rw (kind-beyond _ (none-below _ kindCount (c .match .rest)))
 
@@ -134,6 +139,8 @@ value-spec =
     (λ c κs. search needs)
     (λ c κs. search needs)
     (λ c κs. search needs)
+    (λ c κs. search needs)
+    (λ c κs. search needs)
     of-signal
     of-start
     of-constant
@@ -146,4 +153,5 @@ value-spec =
     of-if
     of-compare-literal
     of-compare-parameter
+    of-velocity
     of-no-kind)

@@ -16,22 +16,23 @@ abbrev start : tie.After-equations-fit → tie.Start
 start c = c .before .before .before .before .before
 
 decide : (c : tie.After-equations-fit) → (
+    let velocities = start c .args .velocities in
     let t = start c .args .table .now in
     let n = start c .args .n in
-    (b l : Bool) → all (equationFits t n) n ≡ b → closes t n ≡ l
-    → checked t n ≡ cond (b && l) Passed (Refused 11))
-decide c = long-enough _ _ (omega arith) (omega arith) (omega arith)
+    (b l : Bool) → all (equationFits velocities t n) n ≡ b → closes t n ≡ l
+    → checked velocities t n ≡ cond (b && l) Passed (Refused 11))
+decide c = long-enough _ _ _ (omega arith) (omega arith) (omega arith)
 
 no-equations : tie.Need-returns
-no-equations c = too-few _ _ (c .if1 .taken)
+no-equations c = too-few _ _ _ (c .if1 .taken)
 
 over-limit : tie.Need-returns-2
-over-limit c = too-many _ _ (c .if2 .taken)
+over-limit c = too-many _ _ _ (c .if2 .taken)
 
 short-table : tie.Need-returns-3
 short-table c =
     let args = c .before .before .before .before .args in
-    too-short (args .table .now) (args .n) (omega arith) (omega arith) (c .if3 .taken)
+    too-short (args .velocities) (args .table .now) (args .n) (omega arith) (omega arith) (c .if3 .taken)
 
 ill-formed : tie.Need-returns-4
 ill-formed c =
@@ -40,7 +41,8 @@ ill-formed c =
 
 -- The equations fit, where it is asked how the table closes.
 fits : (c : tie.After-closes) → (
-    let args = start (c .before .before) .args in all (equationFits (args .table .now) (args .n)) (args .n) ≡ true)
+    let args = start (c .before .before) .args in
+    all (equationFits (args .velocities) (args .table .now) (args .n)) (args .n) ≡ true)
 fits c =
     let fit = c .before .before .equations-fit in
     sym (fit .ensures) ∙ not-false (fit .result) (c .before .if4 .left)

@@ -11,10 +11,10 @@ use Rattle.tables.proofs.equations_fit.Statement.{statement}
 use Rattle.tables.proofs.equations_fit.Tie as tie
 
 abbrev Inv-loop : tie.InvT-loop
-Inv-loop table n i₀ i = (i ≤ n) × (all (equationFits table n) i ≡ true)
+Inv-loop velocities table n i₀ i = (i ≤ n) × (all (equationFits velocities table n) i ≡ true)
 
 abbrev μ-loop : tie.MeasureT-loop
-μ-loop table n i₀ i = n - i
+μ-loop velocities table n i₀ i = n - i
 
 loop-holds : tie.Need-loop-holds Inv-loop μ-loop
 loop-holds c = (omega arith, all-none _)

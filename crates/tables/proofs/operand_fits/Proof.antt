@@ -20,6 +20,10 @@ below : tie.Need-returns-4
 unfolding operandFits
 below c = rw (c .before .o3 .given .1)
 
+a-velocity : tie.Need-returns-5
+unfolding operandFits
+a-velocity c = rw (c .enum-told2 .given .1)
+
 pub operand-fits-spec : {M : Type 1} → statement M
 operand-fits-spec =
     tie.close
@@ -30,7 +34,9 @@ operand-fits-spec =
     (λ c. search needs)
     (λ c κs. search needs)
     (λ c. search needs)
+    (λ c. search needs)
     unused
     earlier
     anywhere
-    below)
+    below
+    a-velocity)
