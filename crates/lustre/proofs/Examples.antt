@@ -1,11 +1,13 @@
 -- The texts that SPEC 5.3 has for the kinds, those of the comparisons (SPEC 9.4), and a whole text (SPEC 9.1): the
--- definitions write them so. Tables that do not close as SPEC 5.5 says, which writing refuses. Assumes nothing.
+-- definitions write them so. Tables that do not close as SPEC 5.5 says, which writing refuses. The highest velocity.
+-- Assumes nothing.
 use mathlib.Core.List.{List, [], _∷_, map}
 use mathlib.Core.Path.{_≡_, refl}
 use Prim.Native.Nat.{ℕ}
 use Rattle.lists.specs.Text.{bytes}
 use Rattle.tables.specs.Table.{all, kindOf, shapeOf, sameSort, isFlow, operandFits, shapeFits}
-use Rattle.tables.specs.Table.{lengthFits, closes, equationsFit}
+use Rattle.tables.specs.Table.{lengthFits, closes, equationsFit, checked}
+use Rattle.tables.specs.declared.Checked.the-variants.{Passed, Refused as Failed}
 use Rattle.lustre.specs.Numerals.{digits, numberText}
 use Rattle.lustre.specs.Text.{valueText, lineRest, lineText, lines, foot, textOf}
 use Rattle.lustre.specs.Write.{writeChecked, afterWrite, writeEffect}
@@ -29,6 +31,7 @@ record Column : Type 0 where
   kind9 : endOf 9 3 7 0 ≡ bytes "if f3 then f7 else 0"
   kind10 : endOf 10 9 0 12 ≡ bytes "f9<=12"
   kind11 : endOf 11 9 0 3 ≡ bytes "f9<=k3"
+  kind12 : endOf 12 4 90 0 ≡ bytes "v>=90"
 
 column : Column
 unfolding valueText kindOf digits numberText
@@ -46,9 +49,10 @@ column =
       kind9 = refl;
       kind10 = refl;
       kind11 = refl;
+      kind12 = refl;
     }
 
--- SPEC 9.4: the five comparisons by number, of kinds 10 and 11.
+-- SPEC 9.4: the five comparisons by number, of kinds 10, 11 and 12.
 abbrev five : (ℕ → List ℕ) → List (List ℕ)
 five f = map f (0 ∷ 1 ∷ 2 ∷ 3 ∷ 4 ∷ [])
 
@@ -62,6 +66,11 @@ parameters-spelled : five (λ b. endOf 11 9 b 7)
 unfolding valueText kindOf digits numberText
 parameters-spelled = refl
 
+velocities-spelled : five (λ a. endOf 12 a 7 0)
+    ≡ bytes "v<=7" ∷ bytes "v<7" ∷ bytes "v=7" ∷ bytes "v>7" ∷ bytes "v>=7" ∷ []
+unfolding valueText kindOf digits numberText
+velocities-spelled = refl
+
 -- SPEC 9.1: a text of two equations, which close the table (SPEC 5.5).
 whole : textOf (1 ∷ 0 ∷ 0 ∷ 0 ∷ 3 ∷ 0 ∷ 0 ∷ 0 ∷ []) 2 ≡ bytes "let\nf0=b;\nf1=not f0;\nw=f0;\na=f1;\ntel\n"
 unfolding textOf lines lineText lineRest foot valueText kindOf digits numberText
@@ -72,10 +81,10 @@ twelve : foot 12 ≡ bytes "w=f10;\na=f11;\ntel\n"
 unfolding foot digits numberText
 twelve = refl
 
--- SPEC 8.6, whatever buffer is lent: no equation is refused by 10 (SPEC 7.10), one alone by 11 (SPEC 7.11), and so are
--- two of which the started flow's, or the verdict's, is a count.
+-- SPEC 8.6, whatever buffer is lent, and however many velocities there are: no equation is refused by 10 (SPEC 7.10),
+-- one alone by 11 (SPEC 7.11), and so are two of which the started flow's, or the verdict's, is a count.
 abbrev refuses : ℕ → List ℕ → ℕ → Type 0
-refuses r t n = (buffer : List ℕ) → writeEffect t n buffer ≡ afterWrite (Refused r) buffer
+refuses r t n = (velocities : ℕ) (buffer : List ℕ) → writeEffect velocities t n buffer ≡ afterWrite (Refused r) buffer
 
 record Unclosed : Type 0 where
   none : refuses 10 (1 ∷ 0 ∷ 0 ∷ 0 ∷ []) 0
@@ -88,8 +97,17 @@ unfolding writeEffect writeChecked lengthFits equationsFit closes all isFlow ope
     sameSort kindOf
 unclosed =
     record {
-      none = λ b. refl;
-      alone = λ b. refl;
-      started-count = λ b. refl;
-      verdict-count = λ b. refl;
+      none = λ v b. refl;
+      alone = λ v b. refl;
+      started-count = λ v b. refl;
+      verdict-count = λ v b. refl;
     }
+
+-- SPEC 7.11: the literal of kind 12 is a velocity; of eight, 7 is the highest.
+record Highest : Type 0 where
+  seven : checked 8 (12 ∷ 4 ∷ 7 ∷ 0 ∷ 1 ∷ 0 ∷ 0 ∷ 0 ∷ []) 2 ≡ Passed
+  eight : checked 8 (12 ∷ 4 ∷ 8 ∷ 0 ∷ 1 ∷ 0 ∷ 0 ∷ 0 ∷ []) 2 ≡ Failed 11
+
+highest : Highest
+unfolding checked lengthFits equationsFit closes all isFlow operandFits shapeFits shapeOf sameSort kindOf
+highest = record { seven = refl; eight = refl }

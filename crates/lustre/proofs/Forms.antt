@@ -15,11 +15,11 @@ use borrow.Author.Tests.{ltb-true, leb-true, eqb-true, ne-eqb}
 use Rattle.lists.specs.Decimal.{isDigit}
 use Rattle.lists.proofs.Choice.{false-true}
 use Rattle.tables.specs.Kind.{SIGNAL, START, CONSTANT, NOT, AND, OR, BOOLEAN-PRE, COUNT-PRE, CAPPED, IF}
-use Rattle.tables.specs.Kind.{COMPARE-LITERAL, COMPARE-PARAMETER, kindCount}
+use Rattle.tables.specs.Kind.{COMPARE-LITERAL, COMPARE-PARAMETER, VELOCITY, kindCount}
 use Rattle.tables.specs.Table.{all, Equation, kinds, kindOf, shapeOf, isFlow, operandFits, shapeFits}
 use Rattle.limits.specs.Limits.{equationLimit, literalCount, lastLiteral, truthCount, comparisonCount}
 use Rattle.tables.specs.declared.Operand.{Operand}
-use Rattle.tables.specs.declared.Operand.the-variants.{Unused, Earlier, Anywhere, Below}
+use Rattle.tables.specs.declared.Operand.the-variants.{Unused, Earlier, Anywhere, Below, Velocity}
 use Rattle.tables.proofs.Tests.{and-true, all-at}
 use Rattle.tables.proofs.Numbers.{kind-beyond}
 use Rattle.lustre.specs.Text.{valueText, lineRest}
@@ -151,6 +151,11 @@ each-gives =
     also of-form 19 (λ e w. rw (w .kinds, b-settled w refl) (record { form = refl; text = rw (assoc, assoc, assoc) }))
     also of-form 20 (λ e w. rw (w .kinds, b-settled w refl) (record { form = refl; text = rw (assoc, assoc, assoc) }))
     also of-form 21 (λ e w. rw (w .kinds, b-settled w refl) (record { form = refl; text = rw (assoc, assoc, assoc) }))
+    also of-form 22 (λ e w. rw (w .kinds, a-settled w refl) (record { form = refl; text = refl }))
+    also of-form 23 (λ e w. rw (w .kinds, a-settled w refl) (record { form = refl; text = refl }))
+    also of-form 24 (λ e w. rw (w .kinds, a-settled w refl) (record { form = refl; text = refl }))
+    also of-form 25 (λ e w. rw (w .kinds, a-settled w refl) (record { form = refl; text = refl }))
+    also of-form 26 (λ e w. rw (w .kinds, a-settled w refl) (record { form = refl; text = refl }))
     also end
 
 gives : (f : ℕ) → f < formCount → Gives f
@@ -169,23 +174,25 @@ end-form e w = gives (formOf e) (w .known) e (w .fits .agrees) .text
 pub end-as : (f : ℕ) (e : Equation) → f < formCount → Fits (formAt f) e → lineRest e ≡ render e (formText (formAt f))
 end-as f e h w = gives f h e (w .agrees) .text
 
--- What a kind's row says of a number, without the table.
+-- What a kind's row says of a number, without the table, where no velocity is above the highest literal.
 abbrev Admits : Operand → ℕ → Type 0
 Admits Unused x = x ≡ 0
 Admits (Earlier s) x = x < equationLimit
 Admits (Anywhere s) x = x < equationLimit
 Admits (Below m) x = x < m
+Admits Velocity x = x < literalCount
 
 flow-admitted : (t : List ℕ) (m x : ℕ) (b : Bool) → m ≤ equationLimit → (ltb x m && b) ≡ true → x < equationLimit
 flow-admitted t m x b h e = omega (arith, ltb-true x m (and-true (ltb x m) b e .0))
 
-admitted : (t : List ℕ) (n i : ℕ) (o : Operand) (x : ℕ) → n ≤ equationLimit → i ≤ equationLimit
-    → operandFits t n i o x ≡ true → Admits o x
+admitted : (velocities : ℕ) (t : List ℕ) (n i : ℕ) (o : Operand) (x : ℕ) → velocities ≤ literalCount → n ≤ equationLimit
+    → i ≤ equationLimit → operandFits velocities t n i o x ≡ true → Admits o x
 unfolding operandFits isFlow
-admitted t n i Unused x hn hi e = eqb-true x 0 e
-admitted t n i (Earlier s) x hn hi e = flow-admitted t i x _ hi e
-admitted t n i (Anywhere s) x hn hi e = flow-admitted t n x _ hn e
-admitted t n i (Below m) x hn hi e = ltb-true x m e
+admitted velocities t n i Unused x hv hn hi e = eqb-true x 0 e
+admitted velocities t n i (Earlier s) x hv hn hi e = flow-admitted t i x _ hi e
+admitted velocities t n i (Anywhere s) x hv hn hi e = flow-admitted t n x _ hn e
+admitted velocities t n i (Below m) x hv hn hi e = ltb-true x m e
+admitted velocities t n i Velocity x hv hn hi e = omega (arith, ltb-true x velocities e)
 
 -- Where a letter stands nowhere in the form, the equation has the number that the form settles.
 abbrev Keeps : Bool → ℕ → ℕ → Type 0
@@ -251,7 +258,19 @@ pres a b p q =
     also having BOOLEAN-PRE 1 a b 1 refl tt q refl (omega arith)
     also end
 
--- and a comparison has five: they settle its kind and its operator, and have the letters of the other two numbers.
+-- a test of the velocity has five,
+tests : (b c : ℕ) → b < literalCount → c ≡ 0 → Each (λ a. Plain (equation VELOCITY a b c)) comparisonCount 0
+unfolding formAt forms padded absent firstOf firstForm
+tests b c q r =
+    having VELOCITY 0 0 b c refl refl tt r (omega arith)
+    also having VELOCITY 1 1 b c refl refl tt r (omega arith)
+    also having VELOCITY 2 2 b c refl refl tt r (omega arith)
+    also having VELOCITY 3 3 b c refl refl tt r (omega arith)
+    also having VELOCITY 4 4 b c refl refl tt r (omega arith)
+    also end
+
+-- and a comparison of a count has five: they settle its kind and its operator, and have the letters of the other two
+-- numbers.
 abbrev comparing : ℕ → ℕ → Bool
 comparing k b =
     let f = formAt (firstForm k + b) in
@@ -297,22 +316,23 @@ each-formed =
     also of-kind IF (λ a b c p q r. having IF 0 a b c refl tt tt r (omega arith))
     also of-kind COMPARE-LITERAL (compared COMPARE-LITERAL literals)
     also of-kind COMPARE-PARAMETER (λ a b c p q r. compared COMPARE-PARAMETER parameters a b c p q (omega arith))
+    also of-kind VELOCITY (λ a b c p q r. each (tests b c q r) a (omega arith) p)
     also end
 
 no-kind : (k a : ℕ) → kindCount ≤ k → Admits (shapeOf (kindOf k) .a) a → ⊥
 unfolding shapeOf
 no-kind k a h p = let z = rw (kind-beyond k h) at p in omega (arith, z)
 
-pub fitting-plain : (t : List ℕ) (n i : ℕ) (e : Equation) → n ≤ equationLimit → i ≤ equationLimit
-    → shapeFits t n i (shapeOf (kindOf (e .kind))) e ≡ true → Plain e
+pub fitting-plain : (velocities : ℕ) (t : List ℕ) (n i : ℕ) (e : Equation) → velocities ≤ literalCount
+    → n ≤ equationLimit → i ≤ equationLimit → shapeFits velocities t n i (shapeOf (kindOf (e .kind))) e ≡ true → Plain e
 unfolding shapeFits
-fitting-plain t n i e hn hi h =
+fitting-plain velocities t n i e hv hn hi h =
     let s = shapeOf (kindOf (e .kind)) in
-    let p = and-true (operandFits t n i (s .a) (e .a)) _ h in
-    let q = and-true (operandFits t n i (s .b) (e .b)) _ (p .1) in
-    let a = admitted t n i (s .a) (e .a) hn hi (p .0) in
-    let b = admitted t n i (s .b) (e .b) hn hi (q .0) in
-    let c = admitted t n i (s .c) (e .c) hn hi (q .1) in
+    let p = and-true (operandFits velocities t n i (s .a) (e .a)) _ h in
+    let q = and-true (operandFits velocities t n i (s .b) (e .b)) _ (p .1) in
+    let a = admitted velocities t n i (s .a) (e .a) hv hn hi (p .0) in
+    let b = admitted velocities t n i (s .b) (e .b) hv hn hi (q .0) in
+    let c = admitted velocities t n i (s .c) (e .c) hv hn hi (q .1) in
     elim (decLt (e .kind) kindCount) [
       | yes k ↦ each each-formed (e .kind) (omega arith) k (e .a) (e .b) (e .c) a b c
       | no k ↦ absurd (no-kind (e .kind) (e .a) (omega arith) a)

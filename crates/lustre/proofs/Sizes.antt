@@ -13,7 +13,7 @@ use Rattle.traces.specs.declared.Op.the-variants.{AtMost as le, Below as lt, Eq
 use Rattle.traces.specs.Trace.{nonzero}
 use Rattle.tables.specs.Table.{Equation, equationAt, Kind, kindOf, startedOf, verdictOf}
 use Rattle.tables.specs.Table.Kind.{signal, start, constant, negation, conjunction, disjunction, booleanPre}
-use Rattle.tables.specs.Table.Kind.{countPre, capped, ifElse, compareLiteral, compareParameter, unknown}
+use Rattle.tables.specs.Table.Kind.{countPre, capped, ifElse, compareLiteral, compareParameter, velocity, unknown}
 use Rattle.tables.proofs.Checks.{checked-fitting}
 use Rattle.tables.specs.declared.Checked.{Checked}
 use Rattle.tables.specs.declared.Checked.the-variants.{Passed, Refused as Failed}
@@ -59,6 +59,7 @@ value-few compareLiteral e w =
     simp length-append (omega (arith, digits-short (e .a) (w .a), op-few (opOf (e .b)), digits-short (e .c) (w .c)))
 value-few compareParameter e w =
     simp length-append (omega (arith, digits-short (e .a) (w .a), op-few (opOf (e .b)), digits-short (e .c) (w .c)))
+value-few velocity e w = simp length-append (omega (arith, op-few (opOf (e .a)), digits-short (e .b) (w .b)))
 value-few unknown e w = omega arith
 
 module _ (t : List ℕ) (small : (i : ℕ) → numberAt t i < 4294967296) where
@@ -83,12 +84,13 @@ module _ (t : List ℕ) (small : (i : ℕ) → numberAt t i < 4294967296) where
       simp length-append (omega (arith, lines-few n h))
 
   -- What a call wrote.
-  pub written-few : (n l : ℕ) (buffer : List ℕ) → writeEffect t n buffer .answer ≡ Length l → l ≤ lengthLimit
+  pub written-few : (velocities n l : ℕ) (buffer : List ℕ) → writeEffect velocities t n buffer .answer ≡ Length l
+      → l ≤ lengthLimit
   unfolding writeEffect afterText
-  written-few n l buffer e = go (writeChecked t n buffer) e
+  written-few velocities n l buffer e = go (writeChecked velocities t n buffer) e
     where
       few : length (textOf t n) ≤ lengthLimit
-      few = text-few n (checked-fitting t n (text-written t n l buffer e .0) .few)
+      few = text-few n (checked-fitting velocities t n (text-written velocities t n l buffer e .0) .few)
 
       go : (c : Checked) → effectIf c t n buffer .answer ≡ Length l → l ≤ lengthLimit
       go Passed q = let k : length (textOf t n) ≡ l = cc in omega (arith, few)

@@ -16,11 +16,11 @@ use Rattle.lists.specs.Number.{numberAt}
 use Rattle.tables.specs.Table.{all, Equation, equationAt, kindOf, kindAt, shapeOf, isFlow}
 use Rattle.tables.specs.Table.{operandFits, shapeFits, equationFits, equationsFit, checked}
 use Rattle.tables.specs.Table.{startedOf, verdictOf, closes}
-use Rattle.limits.specs.Limits.{equationLimit, lastLiteral}
+use Rattle.limits.specs.Limits.{equationLimit, literalCount, lastLiteral}
 use Rattle.tables.specs.declared.Sort.{Sort}
 use Rattle.tables.specs.declared.Shape.{Shape}
 use Rattle.tables.specs.declared.Operand.{Operand}
-use Rattle.tables.specs.declared.Operand.the-variants.{Unused, Earlier, Anywhere, Below}
+use Rattle.tables.specs.declared.Operand.the-variants.{Unused, Earlier, Anywhere, Below, Velocity}
 use Rattle.tables.specs.declared.Checked.the-variants.{Passed}
 use Rattle.tables.proofs.Tests.{and-true, all-at, all-of}
 use Rattle.tables.proofs.Checks.{checked-fitting, passed-both, long-enough}
@@ -30,16 +30,17 @@ use Rattle.lustre.specs.Form.{Plain, PlainTable, NoLine}
 use Rattle.lustre.proofs.Numerals.{same-number}
 use Rattle.lustre.proofs.Forms.{fitting-plain, one-end}
 
--- Every equation of a well-formed table has a form.
-pub well-plain : (t : List ℕ) (n : ℕ) → checked t n ≡ Passed → PlainTable t n
-well-plain t n e =
-    let w = checked-fitting t n e in
+-- Every equation of a well-formed table has a form, if velocities are literals.
+pub well-plain : (velocities : ℕ) (t : List ℕ) (n : ℕ) → velocities ≤ literalCount → checked velocities t n ≡ Passed
+    → PlainTable t n
+well-plain velocities t n v e =
+    let w = checked-fitting velocities t n e in
     record {
       closed = w .closed;
       few = w .few;
       plain = λ j h.
-          fitting-plain t n j (equationAt t j) (w .few) (omega (arith, w .few))
-          (all-at (equationFits t n) n (w .equations) j h);
+          fitting-plain velocities t n j (equationAt t j) v (w .few) (omega (arith, w .few))
+          (all-at (equationFits velocities t n) n (w .equations) j h);
     }
 
 -- A line begins with `f`, its number and `=`.
@@ -174,35 +175,40 @@ module _ (t u : List ℕ) (n : ℕ) (same : (j : ℕ) → j < n → equationAt t
       let l = ltb-true x m (p .0) in
       rw (p .0, ← kind-same x (omega arith)) (p .1)
 
-  operand-same : (i : ℕ) (o : Operand) (x : ℕ) → i ≤ n → operandFits t n i o x ≡ true → operandFits u n i o x ≡ true
+-- and the same check, if there is room for them.
+module _ (velocities : ℕ) (t u : List ℕ) (n : ℕ) (same : (j : ℕ) → j < n → equationAt t j ≡ equationAt u j) where
+  operand-same : (i : ℕ) (o : Operand) (x : ℕ) → i ≤ n → operandFits velocities t n i o x ≡ true
+      → operandFits velocities u n i o x ≡ true
   unfolding operandFits
   operand-same i Unused x h e = e
-  operand-same i (Earlier s) x h e = flow-same i s x h e
-  operand-same i (Anywhere s) x h e = flow-same n s x (omega arith) e
+  operand-same i (Earlier s) x h e = flow-same t u n same i s x h e
+  operand-same i (Anywhere s) x h e = flow-same t u n same n s x (omega arith) e
   operand-same i (Below m) x h e = e
+  operand-same i Velocity x h e = e
 
-  shape-same : (i : ℕ) (s : Shape) (e : Equation) → i ≤ n → shapeFits t n i s e ≡ true → shapeFits u n i s e ≡ true
+  shape-same : (i : ℕ) (s : Shape) (e : Equation) → i ≤ n → shapeFits velocities t n i s e ≡ true
+      → shapeFits velocities u n i s e ≡ true
   unfolding shapeFits
   shape-same i s e h f =
-      let p = and-true (operandFits t n i (s .a) (e .a)) _ f in
-      let q = and-true (operandFits t n i (s .b) (e .b)) _ (p .1) in
+      let p = and-true (operandFits velocities t n i (s .a) (e .a)) _ f in
+      let q = and-true (operandFits velocities t n i (s .b) (e .b)) _ (p .1) in
       rw (operand-same i (s .a) (e .a) h (p .0), operand-same i (s .b) (e .b) h (q .0))
       (operand-same i (s .c) (e .c) h (q .1))
 
-  equation-same : (i : ℕ) → i < n → equationFits t n i ≡ true → equationFits u n i ≡ true
+  equation-same : (i : ℕ) → i < n → equationFits velocities t n i ≡ true → equationFits velocities u n i ≡ true
   equation-same i h f =
-      subst (λ (e : Equation). shapeFits u n i (shapeOf (kindOf (e .kind))) e ≡ true) (same i h)
+      subst (λ (e : Equation). shapeFits velocities u n i (shapeOf (kindOf (e .kind))) e ≡ true) (same i h)
       (shape-same i (shapeOf (kindAt t i)) (equationAt t i) (omega arith) f)
 
-  -- and the same check, if there is room for them.
-  pub same-check : 4 * n ≤ length u → checked t n ≡ Passed → checked u n ≡ Passed
+  pub same-check : 4 * n ≤ length u → checked velocities t n ≡ Passed → checked velocities u n ≡ Passed
   unfolding equationsFit closes
   same-check l e =
-      let w = checked-fitting t n e in
-      let p = and-true (all (equationFits t n) n) _ (passed-both t n e .1) in
-      long-enough u n (omega (arith, w .closed)) (w .few) l true true
-      (all-of (equationFits u n) n (λ i h. equation-same i h (all-at (equationFits t n) n (p .0) i h)))
+      let w = checked-fitting velocities t n e in
+      let p = and-true (all (equationFits velocities t n) n) _ (passed-both velocities t n e .1) in
+      long-enough velocities u n (omega (arith, w .closed)) (w .few) l true true
+      (all-of (equationFits velocities u n) n (λ i h.
+      equation-same i h (all-at (equationFits velocities t n) n (p .0) i h)))
       (rw (
-        ← kind-same (startedOf n) (omega (arith, w .closed)),
-        ← kind-same (verdictOf n) (omega (arith, w .closed)),
+        ← kind-same t u n same (startedOf n) (omega (arith, w .closed)),
+        ← kind-same t u n same (verdictOf n) (omega (arith, w .closed)),
       ) (p .1))

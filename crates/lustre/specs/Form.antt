@@ -13,10 +13,10 @@ use Rattle.traces.specs.Compare.{opNumber}
 use Rattle.traces.specs.declared.Op.the-variants.{AtMost as le, Below as lt, Equal as eq, Above as gt, AtLeast as ge}
 use Rattle.limits.specs.Limits.{equationLimit, lastLiteral}
 use Rattle.tables.specs.Kind.{SIGNAL, START, CONSTANT, NOT, AND, OR, BOOLEAN-PRE, COUNT-PRE, CAPPED, IF}
-use Rattle.tables.specs.Kind.{COMPARE-LITERAL, COMPARE-PARAMETER}
+use Rattle.tables.specs.Kind.{COMPARE-LITERAL, COMPARE-PARAMETER, VELOCITY}
 use Rattle.tables.specs.Table.{Equation, equation, equationAt, Kind, kindOf, closingCount, startedOf, verdictOf}
 use Rattle.tables.specs.Table.Kind.{signal, start, constant, negation, conjunction, disjunction, booleanPre}
-use Rattle.tables.specs.Table.Kind.{countPre, capped, ifElse, compareLiteral, compareParameter, unknown}
+use Rattle.tables.specs.Table.Kind.{countPre, capped, ifElse, compareLiteral, compareParameter, velocity, unknown}
 use Rattle.lustre.specs.Numerals.{numberText}
 use Rattle.lustre.specs.Text.{lineText}
 use Rattle.lustre.specs.declared.Numbers.{Numbers}
@@ -127,10 +127,15 @@ forms =
     ∷ form (numbers COMPARE-PARAMETER 0 (opNumber eq) 0) "fA=kC;\n"
     ∷ form (numbers COMPARE-PARAMETER 0 (opNumber gt) 0) "fA>kC;\n"
     ∷ form (numbers COMPARE-PARAMETER 0 (opNumber ge) 0) "fA>=kC;\n"
+    ∷ form (numbers VELOCITY (opNumber le) 0 0) "v<=B;\n"
+    ∷ form (numbers VELOCITY (opNumber lt) 0 0) "v<B;\n"
+    ∷ form (numbers VELOCITY (opNumber eq) 0 0) "v=B;\n"
+    ∷ form (numbers VELOCITY (opNumber gt) 0 0) "v>B;\n"
+    ∷ form (numbers VELOCITY (opNumber ge) 0 0) "v>=B;\n"
     ∷ []
 
 abbrev pub formCount : ℕ
-formCount = 22
+formCount = 27
 
 abbrev pub noForm : Form
 noForm = record { settled = numbers 0 0 0 0; len = 0; text = [] }
@@ -169,6 +174,7 @@ formNumber capped e = firstForm CAPPED
 formNumber ifElse e = firstForm IF
 formNumber compareLiteral e = firstForm COMPARE-LITERAL + e .b
 formNumber compareParameter e = firstForm COMPARE-PARAMETER + e .b
+formNumber velocity e = firstForm VELOCITY + e .a
 formNumber unknown e = 0
 
 abbrev pub formOf : Equation → ℕ

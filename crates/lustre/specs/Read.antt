@@ -17,17 +17,18 @@ abbrev pub loadReply : Loaded → Reply
 loadReply (Equations n) = gives n
 loadReply (Refused r) = refused r
 
--- The table t of n equations is well formed, and writes exactly these bytes.
-pub record Writes (t : List ℕ) (n : ℕ) (text : List ℕ) : Type 0 where
-  pub well-formed : checked t n ≡ Passed
+-- The table t of n equations is well formed, where there are so many velocities, and writes exactly these bytes.
+pub record Writes (velocities : ℕ) (t : List ℕ) (n : ℕ) (text : List ℕ) : Type 0 where
+  pub well-formed : checked velocities t n ≡ Passed
   pub exactly : textOf t n ≡ text
 
 -- What reading answers, and the table that it leaves, by the lent text and the table as it was lent.
-pub data AfterRead (text table : List ℕ) : Loaded → List ℕ → Type 0 where
+pub data AfterRead (velocities : ℕ) (text table : List ℕ) : Loaded → List ℕ → Type 0 where
   -- SPEC 7.16: these bytes are the text of no table. A refusal keeps the table (SPEC 1.4).
-  unread : ((t : List ℕ) (n : ℕ) → Writes t n text → ⊥) → AfterRead text table (Refused 16) table
+  unread : ((t : List ℕ) (n : ℕ) → Writes velocities t n text → ⊥) → AfterRead velocities text table (Refused 16) table
   -- SPEC 7.9: the lent table has no room for the largest result.
-  no-room : {t : List ℕ} {n : ℕ} → Writes t n text → length table < tableRoom → AfterRead text table (Refused 9) table
+  no-room : {t : List ℕ} {n : ℕ} → Writes velocities t n text → length table < tableRoom
+      → AfterRead velocities text table (Refused 9) table
   -- The first 4 n numbers are those of such a table. What stands behind them is kept (SPEC 1.5).
-  read : {t : List ℕ} {n : ℕ} → Writes t n text → tableRoom ≤ length table
-      → AfterRead text table (Equations n) (take (4 * n) t ++ drop (4 * n) table)
+  read : {t : List ℕ} {n : ℕ} → Writes velocities t n text → tableRoom ≤ length table
+      → AfterRead velocities text table (Equations n) (take (4 * n) t ++ drop (4 * n) table)

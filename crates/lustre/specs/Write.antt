@@ -16,13 +16,15 @@ abbrev pub writeReply : Written → Reply
 writeReply (Length l) = gives l
 writeReply (Refused r) = refused r
 
--- The refusals of SPEC 8.6 in order: those of the table, then 15, where the buffer is too short (SPEC 7.15).
-abbrev pub writeTests : List ℕ → ℕ → List ℕ → List Test
-writeTests t n buffer = tableTests t n ++ (test 15 (leb (length (textOf t n)) (length buffer)) ∷ [])
+-- The refusals of SPEC 8.6 in order, where there are so many velocities: those of the table, then 15, where the buffer
+-- is too short (SPEC 7.15).
+abbrev pub writeTests : ℕ → List ℕ → ℕ → List ℕ → List Test
+writeTests velocities t n buffer =
+    tableTests velocities t n ++ (test 15 (leb (length (textOf t n)) (length buffer)) ∷ [])
 
 -- The first refusal that applies, or none.
-unfoldable pub writeChecked : List ℕ → ℕ → List ℕ → Checked
-writeChecked t n buffer = firstFailed (writeTests t n buffer)
+unfoldable pub writeChecked : ℕ → List ℕ → ℕ → List ℕ → Checked
+writeChecked velocities t n buffer = firstFailed (writeTests velocities t n buffer)
 
 -- What writing answers, and the buffer that it leaves.
 pub record AfterWrite : Type 0 where
@@ -42,5 +44,5 @@ effectIf Passed t n buffer = afterText (textOf t n) buffer
 effectIf (Failed r) t n buffer = afterWrite (Refused r) buffer
 
 -- The whole effect of writing.
-unfoldable pub writeEffect : List ℕ → ℕ → List ℕ → AfterWrite
-writeEffect t n buffer = effectIf (writeChecked t n buffer) t n buffer
+unfoldable pub writeEffect : ℕ → List ℕ → ℕ → List ℕ → AfterWrite
+writeEffect velocities t n buffer = effectIf (writeChecked velocities t n buffer) t n buffer

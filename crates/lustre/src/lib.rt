@@ -61,8 +61,10 @@ pub const LITERAL_FORM: usize = IF_FORM + 1;
 
 pub const PARAMETER_FORM: usize = LITERAL_FORM + COMPARISON_FORMS;
 
+pub const VELOCITY_FORM: usize = PARAMETER_FORM + COMPARISON_FORMS;
+
 // How many forms there are.
-pub const FORM_COUNT: usize = PARAMETER_FORM + COMPARISON_FORMS;
+pub const FORM_COUNT: usize = VELOCITY_FORM + COMPARISON_FORMS;
 
 // A form: a text that can follow `fN=` in a line, with the letters A, B and C where numbers stand, and the kind and the
 // numbers that it settles. The first len bytes of its text count.
@@ -305,6 +307,57 @@ const FORMS: [Form; FORM_COUNT] = [
         },
         len: 8,
         text: *b"fA>=kC;\n              ",
+    },
+    // 12: the velocity and a literal, a form for each comparison.
+    Form {
+        settled: Numbers {
+            kind: tables::VELOCITY,
+            a: traces::AT_MOST,
+            b: 0,
+            c: 0,
+        },
+        len: 6,
+        text: *b"v<=B;\n                ",
+    },
+    Form {
+        settled: Numbers {
+            kind: tables::VELOCITY,
+            a: traces::BELOW,
+            b: 0,
+            c: 0,
+        },
+        len: 5,
+        text: *b"v<B;\n                 ",
+    },
+    Form {
+        settled: Numbers {
+            kind: tables::VELOCITY,
+            a: traces::EQUAL,
+            b: 0,
+            c: 0,
+        },
+        len: 5,
+        text: *b"v=B;\n                 ",
+    },
+    Form {
+        settled: Numbers {
+            kind: tables::VELOCITY,
+            a: traces::ABOVE,
+            b: 0,
+            c: 0,
+        },
+        len: 5,
+        text: *b"v>B;\n                 ",
+    },
+    Form {
+        settled: Numbers {
+            kind: tables::VELOCITY,
+            a: traces::AT_LEAST,
+            b: 0,
+            c: 0,
+        },
+        len: 6,
+        text: *b"v>=B;\n                ",
     },
 ];
 

@@ -264,6 +264,22 @@ fn parameters() {
     );
 }
 
+// Kind 12, with each comparison and the highest velocity.
+fn velocities() {
+    writes(
+        b"velocities, op 0 to 2",
+        &[12, 0, 0, 0, 12, 1, 127, 0, 12, 2, 10, 0],
+        3,
+        b"let\nf0=v<=0;\nf1=v<127;\nf2=v=10;\nw=f1;\na=f2;\ntel\n",
+    );
+    writes(
+        b"velocities, op 3 and 4",
+        &[12, 3, 7, 0, 12, 4, 90, 0],
+        2,
+        b"let\nf0=v>7;\nf1=v>=90;\nw=f0;\na=f1;\ntel\n",
+    );
+}
+
 // Writing refused by 10 (SPEC 7.10),
 fn write_sizes() {
     writes(b"no equation", &[1, 0, 0, 0], 0, b"");
@@ -276,12 +292,19 @@ fn write_sizes() {
 fn write_rules() {
     writes(
         b"unknown kind",
-        &[12, 0, 0, 0, 1, 0, 0, 0, 1, 0, 0, 0],
+        &[13, 0, 0, 0, 1, 0, 0, 0, 1, 0, 0, 0],
         3,
         b"",
     );
     writes(b"unused number", &[1, 0, 0, 1, 1, 0, 0, 0], 2, b"");
     writes(b"operand not earlier", &[3, 0, 0, 0, 1, 0, 0, 0], 2, b"");
+}
+
+// numbers that kind 12 does not have,
+fn write_velocities() {
+    writes(b"velocity 128", &[12, 4, 128, 0, 1, 0, 0, 0], 2, b"");
+    writes(b"velocity, op 5", &[12, 5, 90, 0, 1, 0, 0, 0], 2, b"");
+    writes(b"velocity, C not 0", &[12, 4, 90, 1, 1, 0, 0, 0], 2, b"");
 }
 
 // SPEC 5.5 broken,
@@ -308,6 +331,10 @@ fn read_room() {
     reads(
         b"eleven",
         b"let\nf0=b;\nf1=b;\nf2=b;\nf3=b;\nf4=b;\nf5=b;\nf6=b;\nf7=b;\nf8=b;\nf9=b;\nf10=not f9;\nw=f9;\na=f10;\ntel\n",
+    );
+    reads(
+        b"velocity 127",
+        b"let\nf0=v>=127;\nf1=b;\nw=f0;\na=f1;\ntel\n",
     );
     reads_short(
         b"one number short",
@@ -439,6 +466,30 @@ fn wrong_closing() {
     );
 }
 
+// a velocity above the highest, in another spelling, or compared with something else than a literal,
+fn wrong_velocities() {
+    reads(
+        b"velocity 128",
+        b"let\nf0=v>=128;\nf1=b;\nw=f0;\na=f1;\ntel\n",
+    );
+    reads(
+        b"velocity with spaces",
+        b"let\nf0=v >= 90;\nf1=b;\nw=f0;\na=f1;\ntel\n",
+    );
+    reads(
+        b"needless 0 in a velocity",
+        b"let\nf0=v>=090;\nf1=b;\nw=f0;\na=f1;\ntel\n",
+    );
+    reads(
+        b"velocity and no literal",
+        b"let\nf0=v>=;\nf1=b;\nw=f0;\na=f1;\ntel\n",
+    );
+    reads(
+        b"velocity and a parameter",
+        b"let\nf0=v>=k0;\nf1=b;\nw=f0;\na=f1;\ntel\n",
+    );
+}
+
 // numbers above the ranges of SPEC 5.3.
 fn wrong_ranges() {
     reads(b"signal 64", b"let\nf0=s64;\nf1=b;\nw=f0;\na=f1;\ntel\n");
@@ -463,8 +514,10 @@ fn main() {
     compiled();
     literals();
     parameters();
+    velocities();
     write_sizes();
     write_rules();
+    write_velocities();
     write_closing();
     write_room();
     read_room();
@@ -476,5 +529,6 @@ fn main() {
     wrong_spellings();
     wrong_operands();
     wrong_closing();
+    wrong_velocities();
     wrong_ranges();
 }

@@ -73,10 +73,10 @@ pub record Proposed (text u : List ℕ) (n : ℕ) : Type 0 where
   pub says : textOf u n ≡ text
 
 abbrev pub proposalSeen : List ℕ → List ℕ → Proposal → Type 0
-proposalSeen text u Nothing = (t : List ℕ) (n : ℕ) → Writes t n text → ⊥
+proposalSeen text u Nothing = (t : List ℕ) (n : ℕ) → Proposed text t n → ⊥
 proposalSeen text u (Table n) = Proposed text u n
 
--- The same of a table that is well formed.
-abbrev pub tableSeen : List ℕ → List ℕ → Proposal → Type 0
-tableSeen text u Nothing = (t : List ℕ) (n : ℕ) → Writes t n text → ⊥
-tableSeen text u (Table n) = Writes u n text
+-- The same of a table that is well formed, where there are so many velocities.
+abbrev pub tableSeen : ℕ → List ℕ → List ℕ → Proposal → Type 0
+tableSeen velocities text u Nothing = (t : List ℕ) (n : ℕ) → Writes velocities t n text → ⊥
+tableSeen velocities text u (Table n) = Writes velocities u n text

@@ -13,7 +13,7 @@ use tables::check_table;
 ghost use mathlib.Core.Path.{_≡_};
 ghost use Prim.Native.Nat.{_+_, _*_, _≤_, _<_};
 ghost use lib.ListN.{length, drop};
-ghost use Rattle.limits.specs.Limits.{equationLimit, tableRoom};
+ghost use Rattle.limits.specs.Limits.{equationLimit, literalCount, velocityCount, tableRoom};
 ghost use Rattle.lustre.specs.Read.{AfterRead};
 ghost use Rattle.lustre.specs.Form.{equationOf, put};
 ghost use Rattle.lustre.specs.Scan.{scan};
@@ -215,16 +215,16 @@ fn read_proposal(text: &[u8], table: &mut [u32]) -> Proposal
     Proposal::Table(n)
 }
 
-// The table whose text this is, if there is one.
-fn read_table(text: &[u8], table: &mut [u32]) -> Proposal
-    requires { ⌜ tableRoom ≤ length (now table) ⌝ }
-    ensures { λ r. ⌜ tableSeen (now (text .entry)) (now (table .exit)) r ⌝ }
+// The table whose text this is, if there is one, where there are so many velocities.
+fn read_table(velocities: u32, text: &[u8], table: &mut [u32]) -> Proposal
+    requires { ⌜ (velocities ≤ literalCount) × (tableRoom ≤ length (now table)) ⌝ }
+    ensures { λ r. ⌜ tableSeen velocities (now (text .entry)) (now (table .exit)) r ⌝ }
 {
     let proposal = read_proposal(text, table);
     let Proposal::Table(n) = proposal else {
         return Proposal::Nothing;
     };
-    let Checked::Passed = check_table(table, n) else {
+    let Checked::Passed = check_table(velocities, table, n) else {
         return Proposal::Nothing;
     };
     Proposal::Table(n)
@@ -233,10 +233,10 @@ fn read_table(text: &[u8], table: &mut [u32]) -> Proposal
 // Reads Lustre text into a table (SPEC 8.7). The text is read into a table of its own first, so that a refusal changes
 // nothing (SPEC 1.4).
 pub fn read_lustre(text: &[u8], table: &mut [u32]) -> Loaded
-    ensures { λ r. ⌜ AfterRead (now (text .entry)) (now (table .entry)) r (now (table .exit)) ⌝ }
+    ensures { λ r. ⌜ AfterRead velocityCount (now (text .entry)) (now (table .entry)) r (now (table .exit)) ⌝ }
 {
     let mut own = [0u32; limits::TABLE];
-    let found = read_table(text, &mut own);
+    let found = read_table(limits::VELOCITIES, text, &mut own);
     let Proposal::Table(n) = found else {
         return Loaded::Refused(16);
     };

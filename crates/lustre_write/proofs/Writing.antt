@@ -56,29 +56,30 @@ text-placed t n q u d f w c v c′ e x =
     (placed-as (ap (λ (y : Equation). render y closing) e ∙ foot-text n) x)
 
 -- What writing does, by its cases: the table is refused,
-pub write-refused : (t b : List ℕ) (n r : ℕ) → checked t n ≡ Failed r → afterWrite (Refused r) b ≡ writeEffect t n b
+pub write-refused : (velocities : ℕ) (t b : List ℕ) (n r : ℕ) → checked velocities t n ≡ Failed r
+    → afterWrite (Refused r) b ≡ writeEffect velocities t n b
 unfolding writeEffect writeChecked
-write-refused t b n r e = rw (refused-table t n r _ e)
+write-refused velocities t b n r e = rw (refused-table velocities t n r _ e)
 
 -- the buffer is too short,
 nothing-placed : {l : ℕ} {text z : List ℕ} {r : ℕ} → Placed l text [] z r → z ≡ []
 nothing-placed {l} {text} w = w .buffer ∙ sets-out [] 0 text (omega arith)
 
-pub write-short : (t b : List ℕ) (n : ℕ) {l : ℕ} {z : List ℕ} {r : ℕ} → checked t n ≡ Passed
-    → Placed l (textOf t n) [] z r → length b < r → afterWrite (Refused 15) (z ++ b) ≡ writeEffect t n b
+pub write-short : (velocities : ℕ) (t b : List ℕ) (n : ℕ) {l : ℕ} {z : List ℕ} {r : ℕ} → checked velocities t n ≡ Passed
+    → Placed l (textOf t n) [] z r → length b < r → afterWrite (Refused 15) (z ++ b) ≡ writeEffect velocities t n b
 unfolding writeEffect writeChecked
-write-short t b n {l} {z} {r} e w h =
-    let p = passed-both t n e in
+write-short velocities t b n {l} {z} {r} e w h =
+    let p = passed-both velocities t n e in
     let g : length b < length (textOf t n) = omega (arith, w .result) in
     rw (p .0, p .1, lt-leb (length (textOf t n)) (length b) g, nothing-placed w)
 
 -- the text is written.
-pub write-done : (t b : List ℕ) (n : ℕ) {l l′ : ℕ} {z a : List ℕ} {r k : ℕ} → checked t n ≡ Passed
-    → Placed l (textOf t n) [] z r → r ≤ length b → Placed l′ (textOf t n) (z ++ b) a k
-    → afterWrite (Length r) a ≡ writeEffect t n b
+pub write-done : (velocities : ℕ) (t b : List ℕ) (n : ℕ) {l l′ : ℕ} {z a : List ℕ} {r k : ℕ}
+    → checked velocities t n ≡ Passed → Placed l (textOf t n) [] z r → r ≤ length b
+    → Placed l′ (textOf t n) (z ++ b) a k → afterWrite (Length r) a ≡ writeEffect velocities t n b
 unfolding afterText
-write-done t b n {l} {l′} {z} {a} {r} {k} e w h v =
+write-done velocities t b n {l} {l′} {z} {a} {r} {k} e w h v =
     let y : z ++ b ≡ b = rw (nothing-placed w) in
     let i : a ≡ textOf t n ++ drop (length (textOf t n)) b =
     v .buffer ∙ rw y (sets-eq (textOf t n) b 0 (omega (arith, w .result)) ∙ rw zero-add) in
-    rw (write-passed t b n e (omega (arith, w .result)), i, w .result)
+    rw (write-passed velocities t b n e (omega (arith, w .result)), i, w .result)

@@ -12,7 +12,7 @@ use tables::check_table;
 ghost use mathlib.Core.Path.{_≡_};
 ghost use Prim.Native.Nat.{_+_, _*_, _≤_, _<_};
 ghost use lib.ListN.{length, set};
-ghost use Rattle.limits.specs.Limits.{equationLimit};
+ghost use Rattle.limits.specs.Limits.{equationLimit, literalCount, velocityCount};
 ghost use Rattle.tables.specs.Table.{equationAt, checked};
 ghost use Rattle.lustre.specs.Numerals.{numberText};
 ghost use Rattle.lustre.specs.Text.{lineRest, lineText, lines, textOf};
@@ -111,6 +111,7 @@ fn form_of(e: Numbers) -> usize
         tables::IF => lustre::IF_FORM,
         tables::COMPARE_LITERAL => lustre::LITERAL_FORM + e.b as usize,
         tables::COMPARE_PARAMETER => lustre::PARAMETER_FORM + e.b as usize,
+        tables::VELOCITY => lustre::VELOCITY_FORM + e.a as usize,
         _ => 0,
     }
 }
@@ -165,11 +166,12 @@ fn write_text(table: &[u32], n: usize, out: &mut [u8]) -> usize
     s + write_form(b"w=fA;\na=fB;\ntel\n", last_two(n), &mut out[u..])
 }
 
-// The text of a well-formed table, if the buffer has room for it. How long the text is shows before its first byte is
-// stored, by writing it where there is no room at all.
-fn write_checked(table: &[u32], n: usize, text: &mut [u8]) -> Written
-    requires { ⌜ checked (now table) n ≡ Checked.Passed ⌝ }
-    ensures { λ r. ⌜ afterWrite r (now (text .exit)) ≡ writeEffect (now (table .entry)) n (now (text .entry)) ⌝ }
+// The text of a table that is well formed, where there are so many velocities, if the buffer has room for it. How long
+// the text is shows before its first byte is stored, by writing it where there is no room at all.
+fn write_checked(velocities: u32, table: &[u32], n: usize, text: &mut [u8]) -> Written
+    requires { ⌜ (velocities ≤ literalCount) × (checked velocities (now table) n ≡ Checked.Passed) ⌝ }
+    ensures { λ r. ⌜ afterWrite r (now (text .exit))
+        ≡ writeEffect velocities (now (table .entry)) n (now (text .entry)) ⌝ }
 {
     let room = text.len();
     let len = write_text(table, n, &mut text[..0]);
@@ -182,10 +184,11 @@ fn write_checked(table: &[u32], n: usize, text: &mut [u8]) -> Written
 
 // Writes a table as Lustre text (SPEC 8.6).
 pub fn write_lustre(table: &[u32], n: usize, text: &mut [u8]) -> Written
-    ensures { λ r. ⌜ afterWrite r (now (text .exit)) ≡ writeEffect (now (table .entry)) n (now (text .entry)) ⌝ }
+    ensures { λ r. ⌜ afterWrite r (now (text .exit))
+        ≡ writeEffect velocityCount (now (table .entry)) n (now (text .entry)) ⌝ }
 {
-    let Checked::Refused(number) = check_table(table, n) else {
-        return write_checked(table, n, text);
+    let Checked::Refused(number) = check_table(limits::VELOCITIES, table, n) else {
+        return write_checked(limits::VELOCITIES, table, n, text);
     };
     Written::Refused(number)
 }

@@ -69,9 +69,9 @@ module _ (t : List ℕ) (bucket : Equation → ℕ) (m : ℕ) (p : ℕ → ℕ) 
 
 -- Equation i of n enters with the class j in its bucket: its `next` is the head, and it becomes the head if it is a
 -- class.
-module _ (t : List ℕ) (n : ℕ) (fit : all (equationFits t n) n ≡ true) (bucket : Equation → ℕ) (m : ℕ)
-    (within : (e : Equation) → bucket e < m) (p : ℕ → ℕ) (w : Chains) (i j : ℕ) (l : i < n)
-    (names : i < length (w .names)) (next : i < length (w .next)) (heads : m ≤ length (w .heads))
+module _ (velocities : ℕ) (t : List ℕ) (n : ℕ) (fit : all (equationFits velocities t n) n ≡ true)
+    (bucket : Equation → ℕ) (m : ℕ) (within : (e : Equation) → bucket e < m) (p : ℕ → ℕ) (w : Chains) (i j : ℕ)
+    (l : i < n) (names : i < length (w .names)) (next : i < length (w .next)) (heads : m ≤ length (w .heads))
     (B : Buckets t bucket m p i w) where
   abbrev entering : ℕ
   entering = bucketIn t bucket p w i
@@ -101,7 +101,8 @@ module _ (t : List ℕ) (n : ℕ) (fit : all (equationFits t n) n ≡ true) (buc
   -- The buckets of the equations up to i are the same.
   bucket-kept : (x : ℕ) → x ≤ i → bucketIn t bucket p w x ≡ bucketIn t bucket p after x
   bucket-kept x u =
-      ap bucket (key-agree t n fit p p (classIn w) (classIn after) i (λ y v. refl) name-kept x u (omega arith))
+      ap bucket
+      (key-agree velocities t n fit p p (classIn w) (classIn after) i (λ y v. refl) name-kept x u (omega arith))
 
   -- The head of each bucket: it does not fall, and it is one more than an equation of its bucket up to i.
   record Head (a : ℕ) : Type 0 where

@@ -55,7 +55,7 @@ module _ (t : List ℕ) (n : ℕ) (F : Fitted t n) (second : List ℕ) where
   key-renamed places P i l =
       let names = numberAt places in
       let names′ = placeAt t n in
-      key-agree t n (F .equations) names names′ names names′ n P P i (omega arith) l
+      key-agree (F .velocities) t n (F .equations) names names′ names names′ n P P i (omega arith) l
       ∙ mixed-renamed names′ (equationAt t i)
 
   module _ {now : List ℕ} {size i : ℕ} (E : Emitting t n second now size i) where

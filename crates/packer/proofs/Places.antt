@@ -49,7 +49,7 @@ module _ (t : List ℕ) (n : ℕ) (F : Fitted t n) (names : List ℕ) (classes-a
 
     module _ (l : i < n) where
       C : Classes t n (classes t n)
-      C = classes-fit t n (F .equations)
+      C = classes-fit (F .velocities) t n (F .equations)
 
       -- The class of i is still there,
       pub place-class : numberAt now i ≡ classes t n i

@@ -11,7 +11,7 @@ use native.Mathlib.Nat.{le-antisymm}
 use native.Mathlib.Decide.{decLe, ℕ-discrete}
 use Rattle.tables.specs.Table.{all, Equation, equation, equationAt, equationFits, operandFits}
 use Rattle.tables.specs.declared.Operand.{Operand}
-use Rattle.tables.specs.declared.Operand.the-variants.{Unused, Earlier, Anywhere, Below}
+use Rattle.tables.specs.declared.Operand.the-variants.{Unused, Earlier, Anywhere, Below, Velocity}
 use Rattle.tables.specs.declared.Shape.{Shape}
 use Rattle.tables.proofs.Tests.{all-at}
 use Rattle.flows.proofs.Ranges.{flow-below}
@@ -40,6 +40,7 @@ mixed-one f Unused x = refl
 mixed-one f (Earlier s) x = refl
 mixed-one f (Anywhere s) x = refl
 mixed-one f (Below m) x = refl
+mixed-one f Velocity x = refl
 
 pub mixed-renamed : (f : ℕ → ℕ) (e : Equation) → mixed f f e ≡ renamed f e
 unfolding mixed renamed
@@ -97,20 +98,21 @@ module _ (t : List ℕ) (n : ℕ) (p c : ℕ → ℕ) (Q : Quick t n p c) where
         | no g ↦ absurd (none (found t p c n) (omega arith) (next-class (omega arith)) (found-key t p c n))
       ]
 
-module _ (t : List ℕ) (n : ℕ) (fit : all (equationFits t n) n ≡ true) where
+module _ (velocities : ℕ) (t : List ℕ) (n : ℕ) (fit : all (equationFits velocities t n) n ≡ true) where
   -- Of two quicker rounds, the one after finer classes is the finer, and its entries are not lower.
   module _ (p c p′ c′ : ℕ → ℕ) (Q : Quick t n p c) (Q′ : Quick t n p′ c′) (finer : Finer n p p′) where
     -- For the keys of equations i and j it is enough that c refines c′ below i and j.
     abbrev FinerBelow : ℕ → ℕ → Type 0
     FinerBelow i j = (x y : ℕ) → x < i → y < j → c x ≡ c y → c′ x ≡ c′ y
 
-    number-finer : (i j : ℕ) → FinerBelow i j → (o : Operand) (x y : ℕ) → Fit t n i j o x y
+    number-finer : (i j : ℕ) → FinerBelow i j → (o : Operand) (x y : ℕ) → Fit velocities t n i j o x y
         → mixedNumber c p o x ≡ mixedNumber c p o y → mixedNumber c′ p′ o x ≡ mixedNumber c′ p′ o y
     unfolding mixedNumber operandFits
     number-finer i j below Unused x y f e = e
     number-finer i j below (Earlier s) x y f e = below x y (flow-below t i s x (f .0)) (flow-below t j s y (f .1)) e
     number-finer i j below (Anywhere s) x y f e = finer x y (flow-below t n s x (f .0)) (flow-below t n s y (f .1)) e
     number-finer i j below (Below m) x y f e = e
+    number-finer i j below Velocity x y f e = e
 
     key-finer : (i j : ℕ) → i < n → j < n → FinerBelow i j → quickKey t c p i ≡ quickKey t c p j
         → quickKey t c′ p′ i ≡ quickKey t c′ p′ j
@@ -119,7 +121,8 @@ module _ (t : List ℕ) (n : ℕ) (fit : all (equationFits t n) n ≡ true) wher
         let d = equationAt t i in
         let e = equationAt t j in
         let k : d .kind ≡ e .kind = ap (λ x. x .kind) h in
-        let f = both-fit t n i j d e k (all-at (equationFits t n) n fit i u) (all-at (equationFits t n) n fit j v) in
+        let f = both-fit velocities t n i j d e k (all-at (equationFits velocities t n) n fit i u)
+        (all-at (equationFits velocities t n) n fit j v) in
         let number = number-finer i j below in
         equation-same _ _ k
         (number _ _ _ (f .a) (rw (← k) at (ap (λ x. x .a) h)) ∙ rw k)
@@ -146,7 +149,7 @@ module _ (t : List ℕ) (n : ℕ) (fit : all (equationFits t n) n ≡ true) wher
 
   -- The classes are the quicker round after themselves,
   quick-classes : Quick t n (classes t n) (classes t n)
-  quick-classes = record { entry = λ i l. classes-settled t n fit i l ∙ sym (quick-pass t (classes t n) i) }
+  quick-classes = record { entry = λ i l. classes-settled velocities t n fit i l ∙ sym (quick-pass t (classes t n) i) }
 
   -- so they refine each quicker round after classes that they refine.
   pub quick-coarser : (p c : ℕ → ℕ) → Quick t n p c → Finer n (classes t n) p → Finer n (classes t n) c
@@ -154,26 +157,27 @@ module _ (t : List ℕ) (n : ℕ) (fit : all (equationFits t n) n ≡ true) wher
 
   -- A quicker round after itself has found the classes.
   pub quick-fixed : (c : ℕ → ℕ) → Quick t n c c → Finer n (classes t n) c → (i : ℕ) → i < n → c i ≡ classes t n i
-  quick-fixed c Q h = coarsest t n fit c (λ i l. Q .entry i l ∙ quick-pass t c i) h
+  quick-fixed c Q h = coarsest velocities t n fit c (λ i l. Q .entry i l ∙ quick-pass t c i) h
 
   -- A quicker round is by the classes before it of all n equations, and by its own of those below i.
   module _ (p p′ c c′ : ℕ → ℕ) (i : ℕ) (before : (x : ℕ) → x < n → p x ≡ p′ x)
       (kept : (x : ℕ) → x < i → c x ≡ c′ x) where
-    number-agree : (j : ℕ) → j ≤ i → (o : Operand) (x : ℕ) → operandFits t n j o x ≡ true
+    number-agree : (j : ℕ) → j ≤ i → (o : Operand) (x : ℕ) → operandFits velocities t n j o x ≡ true
         → mixedNumber c p o x ≡ mixedNumber c′ p′ o x
     unfolding mixedNumber operandFits
     number-agree j u Unused x f = refl
     number-agree j u (Earlier s) x f = let v = flow-below t j s x f in kept x (omega arith)
     number-agree j u (Anywhere s) x f = before x (flow-below t n s x f)
     number-agree j u (Below m) x f = refl
+    number-agree j u Velocity x f = refl
 
     -- Where these are the same, so are the keys of equations up to i,
     pub key-agree : (j : ℕ) → j ≤ i → j < n → quickKey t c p j ≡ quickKey t c′ p′ j
     unfolding mixed
     key-agree j u v =
         let d = equationAt t j in
-        let h = all-at (equationFits t n) n fit j v in
-        let f = both-fit t n j j d d refl h h in
+        let h = all-at (equationFits velocities t n) n fit j v in
+        let f = both-fit velocities t n j j d d refl h h in
         equation-same _ _ refl (number-agree j u _ (d .a) (f .a .0)) (number-agree j u _ (d .b) (f .b .0))
         (number-agree j u _ (d .c) (f .c .0))
 

@@ -17,7 +17,7 @@ use Rattle.lists.proofs.Choice.{chosen}
 use Rattle.traces.specs.Trace.{truth}
 use Rattle.tables.specs.Table.{Equation, equationAt, all, operandFits, equationFits, closingCount}
 use Rattle.tables.specs.declared.Operand.{Operand}
-use Rattle.tables.specs.declared.Operand.the-variants.{Unused, Earlier, Anywhere, Below}
+use Rattle.tables.specs.declared.Operand.the-variants.{Unused, Earlier, Anywhere, Below, Velocity}
 use Rattle.tables.proofs.Tests.{all-at}
 use Rattle.flows.proofs.Ranges.{flow-below}
 use Rattle.packing.specs.Search.{count}
@@ -211,7 +211,11 @@ module _ (t : List ℕ) (n : ℕ) (l m f : List ℕ) (G : Markable t n l m) wher
   names : Named t n l
   names = G .names
 
-  fit : all (equationFits t n) n ≡ true
+  velocities : ℕ
+  velocities = G .fitted .velocities
+
+  fit : all (equationFits velocities t n) n ≡ true
+  unfolding velocities
   fit = G .fitted .equations
 
   whole : n ≤ length m
@@ -221,10 +225,10 @@ module _ (t : List ℕ) (n : ℕ) (l m f : List ℕ) (G : Markable t n l m) wher
   c = classes t n
 
   C : Classes t n c
-  C = classes-fit t n fit
+  C = classes-fit velocities t n fit
 
   M : Marks t n c (kept t n)
-  M = marks-fit t n c fit C
+  M = marks-fit velocities t n c fit C
 
   abbrev Good : Marking → Type 0
   Good w = Sound n (kept t n) m f w
@@ -261,7 +265,7 @@ module _ (t : List ℕ) (n : ℕ) (l m f : List ℕ) (G : Markable t n l m) wher
   Refers o y z = refers o (renamedNumber c o y) z ≡ true
 
   module _ (j : ℕ) (u : j < n) where
-    visit-fits : (w : Marking) → Good w → (o : Operand) (y : ℕ) → operandFits t n j o y ≡ true
+    visit-fits : (w : Marking) → Good w → (o : Operand) (y : ℕ) → operandFits velocities t n j o y ≡ true
         → ((z : ℕ) → z < n → Refers o y z → kept t n z ≡ true)
         → Visit l w o y × Marked w (visited (numberAt l) w o y) (Refers o y)
     unfolding Visit visited operandFits refers renamedNumber
@@ -277,6 +281,7 @@ module _ (t : List ℕ) (n : ℕ) (l m f : List ℕ) (G : Markable t n l m) wher
         let q = k (c y) (omega arith) (eq-eqb (c y) (c y) refl) in
         (class-room w S y v q, class-marked w S y v q _ (λ z p. eqb-true (c y) z p))
     visit-fits w S (Below b) y f k = (tt, none-marked w S _ (λ z p. not-both false p refl))
+    visit-fits w S Velocity y f k = (tt, none-marked w S _ (λ z p. not-both false p refl))
 
     -- All operands of equation j, which is kept, are visited in turn.
     module _ (w : Marking) (S : Good w) (k : kept t n j ≡ true) where
@@ -289,13 +294,13 @@ module _ (t : List ℕ) (n : ℕ) (l m f : List ℕ) (G : Markable t n l m) wher
       all-kept : (z : ℕ) → z < n → operands z → kept t n z ≡ true
       all-kept = M .closed j u k
 
-      fits : equationFits t n j ≡ true
-      fits = all-at (equationFits t n) n fit j u
+      fits : equationFits velocities t n j ≡ true
+      fits = all-at (equationFits velocities t n) n fit j u
 
       expand-fits : Expand t j l w × Marked w (expanded (numberAt l) w e) operands
       unfolding renamed
       expand-fits =
-          let f = both-fit t n j j e e refl fits fits in
+          let f = both-fit velocities t n j j e e refl fits fits in
           let a = visit-fits w S (shapeIn e .a) (e .a) (f .a .0)
           (λ z v r. all-kept z v (uses-a (keyAt t c j) z r)) in
           let b = visit-fits (visitedA (numberAt l) w e) (a .1 .sound) (shapeIn e .b) (e .b) (f .b .0)

@@ -45,15 +45,15 @@ before-none t n p h =
     }
 
 -- A round of c after p, and then p′, which agrees with c.
-module _ (t : List ℕ) (n : ℕ) (fit : all (equationFits t n) n ≡ true) (p c : ℕ → ℕ) (B : Before t n p)
-    (Q : Quick t n p c) where
+module _ (velocities : ℕ) (t : List ℕ) (n : ℕ) (fit : all (equationFits velocities t n) n ≡ true) (p c : ℕ → ℕ)
+    (B : Before t n p) (Q : Quick t n p c) where
   before-more : (p′ : ℕ → ℕ) → Agreed n p′ c → Before t n p′
   before-more p′ h =
       let finer : Finer n p′ p = λ x y u v e. B .finer c Q x y u v (sym (h x u) ∙ e ∙ h y v) in
       record {
-        coarse = λ x y u v e. h x u ∙ quick-coarser t n fit p c Q (B .coarse) x y u v e ∙ sym (h y v);
-        finer = λ c′ Q′ x y u v e. h x u ∙ quick-finer t n fit p′ c′ p c Q′ Q finer x y u v e ∙ sym (h y v);
-        rises = λ c′ Q′ i l. rw (h i l) (quick-later t n fit p′ c′ p c Q′ Q finer i l);
+        coarse = λ x y u v e. h x u ∙ quick-coarser velocities t n fit p c Q (B .coarse) x y u v e ∙ sym (h y v);
+        finer = λ c′ Q′ x y u v e. h x u ∙ quick-finer velocities t n fit p′ c′ p c Q′ Q finer x y u v e ∙ sym (h y v);
+        rises = λ c′ Q′ i l. rw (h i l) (quick-later velocities t n fit p′ c′ p c Q′ Q finer i l);
       }
 
   -- The sum of the classes grows, unless none changes, and it has a bound.
@@ -74,8 +74,8 @@ module _ (t : List ℕ) (n : ℕ) (fit : all (equationFits t n) n ≡ true) (p c
   -- A round that changes none.
   done : Agreed n p c → Agreed n c (classes t n)
   done h =
-      quick-fixed t n fit c (quick-agree t n fit p c c c n h (λ x u. refl) (omega arith) Q)
-      (quick-coarser t n fit p c Q (B .coarse))
+      quick-fixed velocities t n fit c (quick-agree velocities t n fit p c c c n h (λ x u. refl) (omega arith) Q)
+      (quick-coarser velocities t n fit p c Q (B .coarse))
 
 -- The test whether two buffers agree.
 module _ (n : ℕ) (l l′ : List ℕ) where
@@ -136,9 +136,9 @@ module _ {t : List ℕ} {n : ℕ} {w₀ : Chains} {before₀ : List ℕ} {w : Ch
   rounded =
       let rooms = R .rooms in
       rw (R .round)
-      (turned t n (numberAt before) w (R .fitted .equations) (omega (arith, rooms .in-names, R .from .length-names))
-      (omega (arith, rooms .in-next, R .from .length-next)) (omega (arith, rooms .in-heads, R .from .length-heads)) n
-      (omega arith))
+      (turned (R .fitted .velocities) t n (numberAt before) w (R .fitted .equations)
+      (omega (arith, rooms .in-names, R .from .length-names)) (omega (arith, rooms .in-next, R .from .length-next))
+      (omega (arith, rooms .in-heads, R .from .length-heads)) n (omega arith))
 
   pub names-kept : length (after .names) ≡ length (w₀ .names)
   names-kept = rounded .names ∙ R .from .length-names
@@ -164,8 +164,8 @@ module _ {t : List ℕ} {n : ℕ} {w₀ : Chains} {before₀ : List ℕ} {w : Ch
       → after .names ≡ filled (classes t n) n (w₀ .names)
   rounding-done e =
       filled-is (classes t n) n (w₀ .names) (after .names) (R .rooms .in-names) names-kept
-      (done t n (R .fitted .equations) (numberAt before) (numberAt (after .names)) (R .from .known) (rounded .quick)
-      (same-agreed n before (after .names) e)) beyond-kept
+      (done (R .fitted .velocities) t n (R .fitted .equations) (numberAt before) (numberAt (after .names))
+      (R .from .known) (rounded .quick) (same-agreed n before (after .names) e)) beyond-kept
 
   -- It changes one: the names are copied, and the next round follows.
   module _ {copy : List ℕ} (stored : copy ≡ sets before 0 (take n (after .names))) where
@@ -181,8 +181,8 @@ module _ {t : List ℕ} {n : ℕ} {w₀ : Chains} {before₀ : List ℕ} {w : Ch
     pub rounding-less : all (sameNumber before (after .names)) n ≡ false
         → n * n - total (numberAt copy) n < n * n - total (numberAt before) n
     rounding-less e =
-        measure-less t n (R .fitted .equations) (numberAt before) (numberAt (after .names)) (R .from .known)
-        (rounded .quick) (numberAt copy) same-names (differ-agreed n before (after .names) e)
+        measure-less (R .fitted .velocities) t n (R .fitted .equations) (numberAt before) (numberAt (after .names))
+        (R .from .known) (rounded .quick) (numberAt copy) same-names (differ-agreed n before (after .names) e)
 
     pub rounding-more : Rounding t n w₀ before₀ after copy
     rounding-more =
@@ -192,8 +192,8 @@ module _ {t : List ℕ} {n : ℕ} {w₀ : Chains} {before₀ : List ℕ} {w : Ch
           length-next = next-kept;
           length-heads = heads-kept;
           known =
-              before-more t n (R .fitted .equations) (numberAt before) (numberAt (after .names)) (R .from .known)
-              (rounded .quick) (numberAt copy) same-names;
+              before-more (R .fitted .velocities) t n (R .fitted .equations) (numberAt before)
+              (numberAt (after .names)) (R .from .known) (rounded .quick) (numberAt copy) same-names;
           beyond = beyond-kept;
           rest-before =
               rw stored (cleared-copy n before (after .names) room-names room-before) ∙ R .from .rest-before;

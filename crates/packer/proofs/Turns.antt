@@ -40,40 +40,41 @@ module _ (t : List ℕ) (n : ℕ) (p : ℕ → ℕ) (w₀ : Chains) where
   unfolding roundOf
   turn w i x e key bucket class head = rw (add-one i, ← e, ← key, ← bucket, ← class, head)
 
-  module _ (fit : all (equationFits t n) n ≡ true) (names : n ≤ length (w₀ .names)) (next : n ≤ length (w₀ .next))
-      (heads : n ≤ length (w₀ .heads)) where
-    -- One turn more.
-    turned-more : (i : ℕ) (w : Chains) → i < n → Turned t n p w₀ i w → Turned t n p w₀ (suc i) (entered t p n w i)
-    turned-more i w l T =
-        let j = first (sameQuickKey t (classIn w) p i) i in
-        let room : i < length (w .names) = omega (arith, T .names) in
-        record {
-          names = rw length-set (T .names);
-          next = rw length-set (T .next);
-          heads = rw length-set (T .heads);
-          quick =
-              quick-more t n fit p p (classIn w) _ i (λ x u. refl) (λ x u. sym (set-kept (w .names) i j x u)) l
-              (T .quick) (getD-set-same (w .names) i j 0 room);
-          buckets =
-              buckets-more t n fit (bucketOf n) n (λ e. bucket-below n e (omega arith)) p w i j l room
-              (omega (arith, T .next)) (omega (arith, T .heads)) (T .buckets);
-          beyond = λ x u. getD-set-other (w .names) i x j 0 (λ (q : x ≡ i). omega arith) ∙ T .beyond x (omega arith);
-          rest-next = cleared-set n (w .next) i _ l ∙ T .rest-next;
-          rest-heads = cleared-set n (w .heads) _ _ (bucket-below n _ (omega arith)) ∙ T .rest-heads;
-        }
+module _ (velocities : ℕ) (t : List ℕ) (n : ℕ) (p : ℕ → ℕ) (w₀ : Chains)
+    (fit : all (equationFits velocities t n) n ≡ true) (names : n ≤ length (w₀ .names))
+    (next : n ≤ length (w₀ .next)) (heads : n ≤ length (w₀ .heads)) where
+  -- One turn more.
+  turned-more : (i : ℕ) (w : Chains) → i < n → Turned t n p w₀ i w → Turned t n p w₀ (suc i) (entered t p n w i)
+  turned-more i w l T =
+      let j = first (sameQuickKey t (classIn w) p i) i in
+      let room : i < length (w .names) = omega (arith, T .names) in
+      record {
+        names = rw length-set (T .names);
+        next = rw length-set (T .next);
+        heads = rw length-set (T .heads);
+        quick =
+            quick-more velocities t n fit p p (classIn w) _ i (λ x u. refl) (λ x u. sym (set-kept (w .names) i j x u)) l
+            (T .quick) (getD-set-same (w .names) i j 0 room);
+        buckets =
+            buckets-more velocities t n fit (bucketOf n) n (λ e. bucket-below n e (omega arith)) p w i j l room
+            (omega (arith, T .next)) (omega (arith, T .heads)) (T .buckets);
+        beyond = λ x u. getD-set-other (w .names) i x j 0 (λ (q : x ≡ i). omega arith) ∙ T .beyond x (omega arith);
+        rest-next = cleared-set n (w .next) i _ l ∙ T .rest-next;
+        rest-heads = cleared-set n (w .heads) _ _ (bucket-below n _ (omega arith)) ∙ T .rest-heads;
+      }
 
-    -- Each of the n turns.
-    pub turned : (i : ℕ) → i ≤ n → Turned t n p w₀ i (roundOf t p n w₀ i)
-    unfolding roundOf
-    turned zero l =
-        record {
-          names = refl;
-          next = refl;
-          heads = length-cleared n (w₀ .heads) heads;
-          quick = record { entry = λ i u. absurd (omega arith) };
-          buckets = buckets-none t (bucketOf n) n p _ (cleared-at n (w₀ .heads));
-          beyond = λ x u. refl;
-          rest-next = refl;
-          rest-heads = cleared-again n (w₀ .heads);
-        }
-    turned (suc i) l = turned-more i (roundOf t p n w₀ i) l (turned i (omega arith))
+  -- Each of the n turns.
+  pub turned : (i : ℕ) → i ≤ n → Turned t n p w₀ i (roundOf t p n w₀ i)
+  unfolding roundOf
+  turned zero l =
+      record {
+        names = refl;
+        next = refl;
+        heads = length-cleared n (w₀ .heads) heads;
+        quick = record { entry = λ i u. absurd (omega arith) };
+        buckets = buckets-none t (bucketOf n) n p _ (cleared-at n (w₀ .heads));
+        beyond = λ x u. refl;
+        rest-next = refl;
+        rest-heads = cleared-again n (w₀ .heads);
+      }
+  turned (suc i) l = turned-more i (roundOf t p n w₀ i) l (turned i (omega arith))

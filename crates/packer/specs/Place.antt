@@ -7,9 +7,10 @@ use lib.ListN.{length, set}
 use Rattle.lists.specs.Number.{numberAt}
 use Rattle.limits.specs.Limits.{tableRoom}
 use Rattle.traces.specs.Trace.{truth}
-use Rattle.tables.specs.Table.{checked}
+use Rattle.tables.specs.Table.{checked, firstFailed}
 use Rattle.tables.specs.declared.Checked.the-variants.{Passed}
 use Rattle.packing.specs.Pack.{classes, kept, newName}
+use Rattle.packing.specs.Packing.{AfterPack, roomTest, packingIf}
 use Rattle.packer.specs.Round.{Fitted, Rooms}
 use Rattle.packer.specs.Mark.{Named}
 use Rattle.packer.specs.declared.Key.{Key}
@@ -46,9 +47,18 @@ pub record Storable (t : List ℕ) (n : ℕ) (m l second : List ℕ) : Type 0 wh
   pub marked : n ≤ length m
   pub room : 4 * n ≤ length second
 
+-- The table passes its check, with some number of velocities. What packing makes of it does not depend on that number.
+pub record Passing (t : List ℕ) (n : ℕ) : Type 0 where
+  pub velocities : ℕ
+  pub passed : checked velocities t n ≡ Passed
+
+-- What packing does with such a table: the room of the second one decides.
+abbrev pub packedInto : List ℕ → ℕ → List ℕ → AfterPack
+packedInto t n second = packingIf (firstFailed (roomTest second ∷ [])) t n second
+
 -- What packing in lent buffers needs: a table that passes its check, and room in the second table and in each buffer.
 pub record Packable (t : List ℕ) (n : ℕ) (second names before next heads : List ℕ) : Type 0 where
-  pub passed : checked t n ≡ Passed
+  pub passing : Passing t n
   pub room : tableRoom ≤ length second
   pub rooms : Rooms n names before next heads
 

@@ -10,7 +10,7 @@ use Rattle.lists.specs.Number.{numberAt}
 use Rattle.limits.specs.Limits.{equationLimit}
 use Rattle.tables.specs.Table.{Equation, equation, equationAt, all, equationFits}
 use Rattle.tables.specs.declared.Operand.{Operand}
-use Rattle.tables.specs.declared.Operand.the-variants.{Unused, Earlier, Anywhere, Below}
+use Rattle.tables.specs.declared.Operand.the-variants.{Unused, Earlier, Anywhere, Below, Velocity}
 use Rattle.packing.specs.Search.{first}
 use Rattle.packing.specs.Operands.{shapeIn}
 use Rattle.packing.specs.Pack.{sameEquation}
@@ -26,6 +26,7 @@ mixedNumber now before Unused x = x
 mixedNumber now before (Earlier s) x = now x
 mixedNumber now before (Anywhere s) x = before x
 mixedNumber now before (Below m) x = x
+mixedNumber now before Velocity x = x
 
 unfoldable pub mixed : (ℕ → ℕ) → (ℕ → ℕ) → Equation → Equation
 mixed now before e =
@@ -47,11 +48,13 @@ sameQuickKey t now before i j = sameEquation (quickKey t now before j) (quickKey
 pub record Quick (t : List ℕ) (n : ℕ) (before now : ℕ → ℕ) : Type 0 where
   pub entry : (i : ℕ) → i < n → now i ≡ first (sameQuickKey t now before i) i
 
--- What a round needs of the table: n equations that keep the rules of their kinds (SPEC 5.4), not too many.
+-- What a round needs of the table: n equations that keep the rules of their kinds (SPEC 5.4), with some number of
+-- velocities, not too many.
 pub record Fitted (t : List ℕ) (n : ℕ) : Type 0 where
+  pub velocities : ℕ
   pub few : n ≤ equationLimit
   pub whole : 4 * n ≤ length t
-  pub equations : all (equationFits t n) n ≡ true
+  pub equations : all (equationFits velocities t n) n ≡ true
 
 -- How many buckets the numbers of a key are spread over before they are fitted to n, and the factor that spreads them.
 abbrev pub spread : ℕ

@@ -10,9 +10,9 @@ ghost use lib.Dec.{eqb};
 ghost use lib.ListN.{length};
 ghost use lib.Seq.{sets};
 ghost use Rattle.lists.specs.Number.{numberAt};
-ghost use Rattle.limits.specs.Limits.{equationLimit, ruleEquations, tableRoom};
+ghost use Rattle.limits.specs.Limits.{equationLimit, ruleEquations, tableRoom, velocityCount};
 ghost use Rattle.traces.specs.Trace.{nonzero, truth};
-ghost use Rattle.tables.specs.Table.{all, equationAt, checked};
+ghost use Rattle.tables.specs.Table.{all, equationAt};
 ghost use Rattle.packing.specs.Search.{first};
 ghost use Rattle.packing.specs.Pack.{sameEquation, classes, kept, packed, packedCount};
 ghost use Rattle.packing.specs.Packing.{afterPack, packing};
@@ -20,7 +20,8 @@ ghost use Rattle.packing.specs.Laws.{PackAnswer};
 ghost use Rattle.packer.specs.Round.{keyOf, mixedNumber, quickKey, sameQuickKey, bucketOf, cleared, headAfter};
 ghost use Rattle.packer.specs.Round.{chains, roundOf, Fitted, Walking, Classifiable, sameNumber};
 ghost use Rattle.packer.specs.Mark.{marking, pushed, visited, expanded, Push, Visit, Expand, Markable};
-ghost use Rattle.packer.specs.Place.{filled, placeAt, Placeable, Storable, Packable, numbersOf};
+ghost use Rattle.packer.specs.Place.{filled, placeAt, Placeable, Storable, Passing, packedInto};
+ghost use Rattle.packer.specs.Place.{Packable, numbersOf};
 
 // The kind and the numbers of an equation, with names for its operands.
 pub struct Key {
@@ -39,6 +40,7 @@ fn named(names: &[u32], before: &[u32], o: Operand, x: u32) -> u32
         Operand::Earlier(_) => lists::number_at(names, x as usize),
         Operand::Anywhere(_) => lists::number_at(before, x as usize),
         Operand::Below(_) => x,
+        Operand::Velocity => x,
     }
 }
 
@@ -261,6 +263,7 @@ fn visit(
         Operand::Earlier(_) => push(marks, found, size, classes[x as usize]),
         Operand::Anywhere(_) => push(marks, found, size, classes[x as usize]),
         Operand::Below(_) => size,
+        Operand::Velocity => size,
     }
 }
 
@@ -396,7 +399,7 @@ fn pack_within(
 
 // Packs a well-formed table that has no more equations than a rule's.
 fn pack_small(table: &[u32], n: usize, second: &mut [u32]) -> usize
-    requires { ⌜ (checked (now table) n ≡ Checked.Passed) × (tableRoom ≤ length (now second)) × (n ≤ ruleEquations) ⌝ }
+    requires { ⌜ Passing (now table) n × (tableRoom ≤ length (now second)) × (n ≤ ruleEquations) ⌝ }
     ensures { λ r. ⌜ (r ≡ packedCount (now (table .entry)) n)
         × (now (second .exit) ≡ sets (now (second .entry)) 0 (packed (now (table .entry)) n)) ⌝ }
 {
@@ -417,7 +420,7 @@ fn pack_small(table: &[u32], n: usize, second: &mut [u32]) -> usize
 
 // Packs any well-formed table.
 fn pack_large(table: &[u32], n: usize, second: &mut [u32]) -> usize
-    requires { ⌜ (checked (now table) n ≡ Checked.Passed) × (tableRoom ≤ length (now second)) ⌝ }
+    requires { ⌜ Passing (now table) n × (tableRoom ≤ length (now second)) ⌝ }
     ensures { λ r. ⌜ (r ≡ packedCount (now (table .entry)) n)
         × (now (second .exit) ≡ sets (now (second .entry)) 0 (packed (now (table .entry)) n)) ⌝ }
 {
@@ -438,8 +441,8 @@ fn pack_large(table: &[u32], n: usize, second: &mut [u32]) -> usize
 
 // Packs a well-formed table, if the second table has room.
 fn pack_checked(table: &[u32], n: usize, second: &mut [u32]) -> Packed
-    requires { ⌜ checked (now table) n ≡ Checked.Passed ⌝ }
-    ensures { λ r. ⌜ afterPack r (now (second .exit)) ≡ packing (now (table .entry)) n (now (second .entry)) ⌝ }
+    requires { ⌜ Passing (now table) n ⌝ }
+    ensures { λ r. ⌜ afterPack r (now (second .exit)) ≡ packedInto (now (table .entry)) n (now (second .entry)) ⌝ }
 {
     if second.len() < limits::TABLE {
         return Packed::Refused(9);
@@ -452,10 +455,11 @@ fn pack_checked(table: &[u32], n: usize, second: &mut [u32]) -> Packed
 
 // Packs a table into a second one (SPEC 8.8).
 pub fn pack(table: &[u32], n: usize, second: &mut [u32]) -> Packed
-    ensures { λ r. ⌜ afterPack r (now (second .exit)) ≡ packing (now (table .entry)) n (now (second .entry)) ⌝ }
-    ensures { λ r. ⌜ PackAnswer (now (table .entry)) n (now (second .entry)) r (now (second .exit)) ⌝ }
+    ensures { λ r. ⌜ afterPack r (now (second .exit))
+        ≡ packing velocityCount (now (table .entry)) n (now (second .entry)) ⌝ }
+    ensures { λ r. ⌜ PackAnswer velocityCount (now (table .entry)) n (now (second .entry)) r (now (second .exit)) ⌝ }
 {
-    let Checked::Refused(number) = tables::check_table(table, n) else {
+    let Checked::Refused(number) = tables::check_table(limits::VELOCITIES, table, n) else {
         return pack_checked(table, n, second);
     };
     Packed::Refused(number)

@@ -26,11 +26,11 @@ use Rattle.packing.proofs.Twice.{twice}
 use Rattle.packing.proofs.One.{one-front, one-answer}
 
 -- Where nothing is refused the packed table is stored.
-packing-stores : (t : List ℕ) (n : ℕ) (before : List ℕ) → checked t n ≡ Passed → tableRoom ≤ length before
-    → packing t n before ≡ afterPacking t n before
+packing-stores : (velocities : ℕ) (t : List ℕ) (n : ℕ) (before : List ℕ) → checked velocities t n ≡ Passed
+    → tableRoom ≤ length before → packing velocities t n before ≡ afterPacking t n before
 unfolding packing
-packing-stores t n before passed room =
-    rw (room-decides t n before passed true (le-leb tableRoom (length before) room))
+packing-stores velocities t n before passed room =
+    rw (room-decides velocities t n before passed true (le-leb tableRoom (length before) room))
 
 -- A refusal is no answer with equations, and the answer has one number of them.
 pub refused-packed : {k m : ℕ} → Refused k ≡ Equations m → ⊥
@@ -40,22 +40,23 @@ equations-one : {n m : ℕ} → Equations n ≡ Equations m → n ≡ m
 equations-one e = cc
 
 -- An answer with equations: the table passed its check, and there was room.
-pub answer-passed : {t : List ℕ} {n : ℕ} {before : List ℕ} {r : Packed} {n′ : ℕ} {after : List ℕ}
-    → PackAnswer t n before r after → r ≡ Equations n′ → (checked t n ≡ Passed) × (tableRoom ≤ length before)
+pub answer-passed : {velocities : ℕ} {t : List ℕ} {n : ℕ} {before : List ℕ} {r : Packed} {n′ : ℕ} {after : List ℕ}
+    → PackAnswer velocities t n before r after → r ≡ Equations n′
+    → (checked velocities t n ≡ Passed) × (tableRoom ≤ length before)
 answer-passed (not-checked e) q = absurd (refused-packed q)
 answer-passed (no-room e l) q = absurd (refused-packed q)
 answer-passed (is-packed e l s b h) q = (e, l)
 
 -- What an answer with n′ equations leaves: the packed table at the front.
-module _ (t : List ℕ) (n : ℕ) (before : List ℕ) (n′ : ℕ) (after : List ℕ)
-    (A : PackAnswer t n before (Equations n′) after) where
-  passed : checked t n ≡ Passed
+module _ (velocities : ℕ) (t : List ℕ) (n : ℕ) (before : List ℕ) (n′ : ℕ) (after : List ℕ)
+    (A : PackAnswer velocities t n before (Equations n′) after) where
+  passed : checked velocities t n ≡ Passed
   passed = answer-passed A refl .0
 
   left : afterPack (Equations n′) after ≡ afterPacking t n before
   left =
-      let one = one-answer A (pack-answers t n before) in
-      (λ a. afterPack (one .0 a) (one .1 a)) ∙ packing-stores t n before passed (answer-passed A refl .1)
+      let one = one-answer A (pack-answers velocities t n before) in
+      (λ a. afterPack (one .0 a) (one .1 a)) ∙ packing-stores velocities t n before passed (answer-passed A refl .1)
 
   size : n′ ≡ packedCount t n
   unfolding afterPacking
@@ -70,13 +71,13 @@ module _ (t : List ℕ) (n : ℕ) (before : List ℕ) (n′ : ℕ) (after : List
 
   -- Packing that table gives it again.
   pub again : (rest before′ : List ℕ) (r : Packed) (after′ : List ℕ) → tableRoom ≤ length before′
-      → PackAnswer (take (4 * n′) after ++ rest) n′ before′ r after′
+      → PackAnswer velocities (take (4 * n′) after ++ rest) n′ before′ r after′
       → (r ≡ Equations n′) × (after′ ≡ take (4 * n′) after ++ drop (4 * n′) before′)
   unfolding afterPacking
   again rest before′ r after′ room B =
-      let same : packing (take (4 * n′) after ++ rest) n′ before′ ≡ afterPacking t n before′ =
-      rw (front, size) (twice t n passed rest before′) ∙ packing-stores t n before′ passed room in
-      let one = one-answer B (pack-answers (take (4 * n′) after ++ rest) n′ before′) in (
+      let same : packing velocities (take (4 * n′) after ++ rest) n′ before′ ≡ afterPacking t n before′ =
+      rw (front, size) (twice velocities t n passed rest before′) ∙ packing-stores velocities t n before′ passed room in
+      let one = one-answer B (pack-answers velocities (take (4 * n′) after ++ rest) n′ before′) in (
         one .0 ∙ ap (λ (x : AfterPack). x .answer) same ∙ ap Equations (sym size),
         one .1 ∙ ap (λ (x : AfterPack). x .second) same ∙ rw (front, size),
       )
@@ -94,8 +95,9 @@ equations-same t s n e i l =
 
 -- SPEC 5.6: numbers behind the n equations are not the table's own. Whatever they are, and whatever the second table
 -- held, the packed table is the same.
-pub behind : (t s : List ℕ) (n : ℕ) (before after before′ after′ : List ℕ) (n′ n″ : ℕ) → take (4 * n) t ≡ take (4 * n) s
-    → PackAnswer t n before (Equations n′) after → PackAnswer s n before′ (Equations n″) after′
+pub behind : (velocities : ℕ) (t s : List ℕ) (n : ℕ) (before after before′ after′ : List ℕ) (n′ n″ : ℕ)
+    → take (4 * n) t ≡ take (4 * n) s → PackAnswer velocities t n before (Equations n′) after
+    → PackAnswer velocities s n before′ (Equations n″) after′
     → (n′ ≡ n″) × (take (4 * n′) after ≡ take (4 * n″) after′)
-behind t s n before after before′ after′ n′ n″ e (is-packed p l z b h) (is-packed p′ l′ z′ b′ h′) =
-    one-front t s n n′ after n″ after′ p (equations-same t s n e) h h′
+behind velocities t s n before after before′ after′ n′ n″ e (is-packed p l z b h) (is-packed p′ l′ z′ b′ h′) =
+    one-front velocities t s n n′ after n″ after′ p p′ (equations-same t s n e) h h′

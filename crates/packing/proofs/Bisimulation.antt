@@ -13,9 +13,9 @@ use Rattle.traces.specs.Trace.{Trace}
 use Rattle.tables.specs.Table.{all, Equation, equationAt, equationFits, operandFits, shapeFits}
 use Rattle.tables.specs.Table.{Kind, kindAt, shapeOf, sortOf, isMemory}
 use Rattle.tables.specs.Table.Kind.{signal, start, constant, negation, conjunction, disjunction, booleanPre}
-use Rattle.tables.specs.Table.Kind.{countPre, capped, ifElse, compareLiteral, compareParameter, unknown}
+use Rattle.tables.specs.Table.Kind.{countPre, capped, ifElse, compareLiteral, compareParameter, velocity, unknown}
 use Rattle.tables.specs.declared.Operand.{Operand}
-use Rattle.tables.specs.declared.Operand.the-variants.{Unused, Earlier, Anywhere, Below}
+use Rattle.tables.specs.declared.Operand.the-variants.{Unused, Earlier, Anywhere, Below, Velocity}
 use Rattle.tables.proofs.Tests.{all-at}
 use Rattle.flows.specs.Flow.{valueOf, initial}
 use Rattle.flows.specs.Lustre.{remembered, Solves}
@@ -35,6 +35,7 @@ module _ (R S T : ℕ → ℕ → Type 0) (give : (x y z : ℕ) → R x y → S 
   agree-common (Earlier s) x y z p q = give x y z p q
   agree-common (Anywhere s) x y z p q = give x y z p q
   agree-common (Below m) x y z p q = sym p ∙ q
+  agree-common Velocity x y z p q = sym p ∙ q
 
   pub alike-common : (d e f : Equation) → Alike R d e → Alike S d f → Alike T e f
   alike-common d e f p q =
@@ -52,6 +53,7 @@ agree-self Unused x = refl
 agree-self (Earlier s) x = refl
 agree-self (Anywhere s) x = refl
 agree-self (Below m) x = refl
+agree-self Velocity x = refl
 
 pub alike-self : (e : Equation) → Alike (λ y z. y ≡ z) e e
 alike-self e = record { kind = refl; a = agree-self _ _; b = agree-self _ _; c = agree-self _ _ }
@@ -74,6 +76,7 @@ module _ (f : ℕ → ℕ) (R S : ℕ → ℕ → Type 0) (give : (x : ℕ) → 
   agree-renamed (Earlier s) x h = give x h
   agree-renamed (Anywhere s) x h = give x h
   agree-renamed (Below m) x h = refl
+  agree-renamed Velocity x h = refl
 
   pub renamed-alike : (e : Equation) → Alike R e e → Alike S (renamed f e) e
   unfolding renamed
@@ -92,6 +95,7 @@ agree-named f Unused x y h = h
 agree-named f (Earlier s) x y h = h
 agree-named f (Anywhere s) x y h = h
 agree-named f (Below m) x y h = h
+agree-named f Velocity x y h = h
 
 pub alike-named : (f : ℕ → ℕ) (d e : Equation) → Alike (λ x y. x ≡ f y) d e → d ≡ renamed f e
 unfolding renamed
@@ -108,23 +112,26 @@ Match S T Unused x y = x ≡ y
 Match S T (Earlier s) x y = S x y
 Match S T (Anywhere s) x y = T x y
 Match S T (Below m) x y = x ≡ y
+Match S T Velocity x y = x ≡ y
 
 -- Equation i of n and equation j of n′ of another table that are alike by R match by what R gives of their operands.
-module _ (t t′ : List ℕ) (n n′ i j : ℕ) (R S T : ℕ → ℕ → Type 0) (now : (x y : ℕ) → x < i → y < j → R x y → S x y)
+module _ (velocities : ℕ) (t t′ : List ℕ) (n n′ i j : ℕ) (R S T : ℕ → ℕ → Type 0)
+    (now : (x y : ℕ) → x < i → y < j → R x y → S x y)
     (past : (x y : ℕ) → x < n → y < n′ → R x y → T x y) where
-  number-match : (o : Operand) (x y : ℕ) → operandFits t n i o x ≡ true → operandFits t′ n′ j o y ≡ true
-      → Agree R o x y → Match S T o x y
+  number-match : (o : Operand) (x y : ℕ) → operandFits velocities t n i o x ≡ true
+      → operandFits velocities t′ n′ j o y ≡ true → Agree R o x y → Match S T o x y
   unfolding operandFits Agree Match
   number-match Unused x y f g h = h
   number-match (Earlier s) x y f g h = now x y (flow-below t i s x f) (flow-below t′ j s y g) h
   number-match (Anywhere s) x y f g h = past x y (flow-below t n s x f) (flow-below t′ n′ s y g) h
   number-match (Below m) x y f g h = h
+  number-match Velocity x y f g h = h
 
-  alike-match : (d e : Equation) → shapeFits t n i (shapeIn d) d ≡ true → shapeFits t′ n′ j (shapeIn e) e ≡ true
-      → Alike R d e → Three (Match S T) (shapeIn d) d e
+  alike-match : (d e : Equation) → shapeFits velocities t n i (shapeIn d) d ≡ true
+      → shapeFits velocities t′ n′ j (shapeIn e) e ≡ true → Alike R d e → Three (Match S T) (shapeIn d) d e
   alike-match d e u v h =
-      let f = both-fit t n i i d d refl u u in
-      let g = both-fit t′ n′ j j e e refl v v in
+      let f = both-fit velocities t n i i d d refl u u in
+      let g = both-fit velocities t′ n′ j j e e refl v v in
       record {
         a = number-match _ _ _ (f .a .0) (rw (← h .kind) at (g .a .0)) (h .a);
         b = number-match _ _ _ (f .b .0) (rw (← h .kind) at (g .b .0)) (h .b);
@@ -148,6 +155,7 @@ module _ (cap : ℕ) (k : Tick) (flow flow′ : ℕ → ℕ) (cell cell′ : ℕ
   value-match ifElse m h = rw (m .a, m .b)
   value-match compareLiteral m h = rw (m .a, m .b, m .c)
   value-match compareParameter m h = rw (m .a, m .b, m .c)
+  value-match velocity m h = rw (m .a, m .b)
   value-match unknown m h = refl
 
 -- Memories of one kind that match have operands related by T, and the same initial value.
@@ -170,9 +178,9 @@ module _ (S T : ℕ → ℕ → Type 0) (d e : Equation) where
 -- ---- their flows
 
 -- Flows f of t and g of t′ on one trace, and a relation R whose equations are alike up to it.
-module _ (cap : ℕ) (t t′ : List ℕ) (n n′ : ℕ) (fit : all (equationFits t n) n ≡ true)
-    (fit′ : all (equationFits t′ n′) n′ ≡ true) (trace : Trace) (f g : ℕ → ℕ → ℕ) (F : Solves cap t n trace f)
-    (G : Solves cap t′ n′ trace g) (R : ℕ → ℕ → Type 0)
+module _ (cap velocities : ℕ) (t t′ : List ℕ) (n n′ : ℕ) (fit : all (equationFits velocities t n) n ≡ true)
+    (fit′ : all (equationFits velocities t′ n′) n′ ≡ true) (trace : Trace) (f g : ℕ → ℕ → ℕ)
+    (F : Solves cap t n trace f) (G : Solves cap t′ n′ trace g) (R : ℕ → ℕ → Type 0)
     (keeps : (i j : ℕ) → i < n → j < n′ → R i j → Alike R (equationAt t i) (equationAt t′ j)) where
   -- Flow x of t and flow y of t′ are the same at tick k,
   abbrev Same : ℕ → ℕ → ℕ → Type 0
@@ -200,9 +208,9 @@ module _ (cap : ℕ) (t t′ : List ℕ) (n n′ : ℕ) (fit : all (equationFits
       let e = equationAt t′ j in
       let h = keeps i j u v r in
       let q : kindAt t i ≡ kindAt t′ j = rw (h .kind) in
-      let m = alike-match t t′ n n′ i j R (Same k) (Before k)
+      let m = alike-match velocities t t′ n n′ i j R (Same k) (Before k)
       (λ x y p s. tick-same k before b x y (omega arith) (omega arith) (omega arith)) before d e
-      (all-at (equationFits t n) n fit i u) (all-at (equationFits t′ n′) n′ fit′ j v) h in
+      (all-at (equationFits velocities t n) n fit i u) (all-at (equationFits velocities t′ n′) n′ fit′ j v) h in
       F i k u
       ∙ value-match cap (trace k) (f k) (g k) (remembered t f i k) (remembered t′ g j k) (Before k) d e (kindAt t i) m
       (λ z. cells-same k i j q z m)
@@ -215,8 +223,9 @@ module _ (cap : ℕ) (t t′ : List ℕ) (n n′ : ℕ) (fit : all (equationFits
   flows-alike (suc k) i j u v r = tick-same (suc k) (flows-alike k) (suc i) i j (omega arith) u v r
 
 -- SPEC 16.2: equations that cannot be told apart have equal flows.
-pub merged-flows : (cap : ℕ) (t : List ℕ) (n : ℕ) → all (equationFits t n) n ≡ true → (trace : Trace)
-    (f : ℕ → ℕ → ℕ) → Solves cap t n trace f → (i j : ℕ) → i < n → j < n → Merged t i j → (k : ℕ) → f k i ≡ f k j
-merged-flows cap t n fit trace f F i j u v h k =
-    flows-alike cap t t n n fit fit trace f f F F (λ x y. h .related x y ≡ true) (λ x y p q. h .alike x y) k i j u v
-    (h .both)
+pub merged-flows : (cap velocities : ℕ) (t : List ℕ) (n : ℕ) → all (equationFits velocities t n) n ≡ true
+    → (trace : Trace) (f : ℕ → ℕ → ℕ) → Solves cap t n trace f → (i j : ℕ) → i < n → j < n → Merged t i j → (k : ℕ)
+    → f k i ≡ f k j
+merged-flows cap velocities t n fit trace f F i j u v h k =
+    flows-alike cap velocities t t n n fit fit trace f f F F (λ x y. h .related x y ≡ true) (λ x y p q. h .alike x y)
+    k i j u v (h .both)

@@ -74,16 +74,16 @@ module _ (t : List ℕ) (n : ℕ) (c : ℕ → ℕ) where
     pub class-fixed : (i : ℕ) → i < n → c (c i) ≡ c i
     class-fixed i l = let k = C .least i l in C .one (c i) i (omega arith) l (C .key i l)
 
-module _ (t : List ℕ) (n : ℕ) (fit : all (equationFits t n) n ≡ true) where
+module _ (velocities : ℕ) (t : List ℕ) (n : ℕ) (fit : all (equationFits velocities t n) n ≡ true) where
   -- Each equation fits.
-  fit-at : (i : ℕ) → i < n → equationFits t n i ≡ true
-  fit-at = all-at (equationFits t n) n fit
+  fit-at : (i : ℕ) → i < n → equationFits velocities t n i ≡ true
+  fit-at = all-at (equationFits velocities t n) n fit
 
   -- Equations that are alike by R are alike by S where R gives S of equations below n.
   alike-fit : (R S : ℕ → ℕ → Type 0) → ((x y : ℕ) → x < n → y < n → R x y → S x y) → (x y : ℕ) → x < n → y < n
       → Alike R (equationAt t x) (equationAt t y) → Alike S (equationAt t x) (equationAt t y)
   alike-fit R S give x y u v =
-      alike-below t n x y (omega arith) (omega arith) R S give _ _ (fit-at x u) (fit-at y v)
+      alike-below velocities t n x y (omega arith) (omega arith) R S give _ _ (fit-at x u) (fit-at y v)
 
   -- Equations with the same key by finer classes have the same key by the coarser ones,
   pub keys-finer : (f g : ℕ → ℕ) → Finer n f g → (x y : ℕ) → x < n → y < n

@@ -11,7 +11,7 @@ use borrow.Author.Tests.{eqb-true, eq-eqb}
 use Rattle.lists.proofs.Choice.{false-true}
 use Rattle.tables.specs.Table.{Equation, operandFits, shapeFits}
 use Rattle.tables.specs.declared.Operand.{Operand}
-use Rattle.tables.specs.declared.Operand.the-variants.{Unused, Earlier, Anywhere, Below}
+use Rattle.tables.specs.declared.Operand.the-variants.{Unused, Earlier, Anywhere, Below, Velocity}
 use Rattle.tables.specs.declared.Shape.{Shape}
 use Rattle.tables.proofs.Tests.{and-true}
 use Rattle.flows.proofs.Ranges.{flow-below}
@@ -51,19 +51,20 @@ pub record Three (P : Operand → ℕ → ℕ → Type 0) (s : Shape) (d e : Equ
   pub c : P (s .c) (d .c) (e .c)
 
 -- Both numbers fit their place, x in equation i and y in equation j of n.
-abbrev pub Fit : List ℕ → ℕ → ℕ → ℕ → Operand → ℕ → ℕ → Type 0
-Fit t n i j o x y = (operandFits t n i o x ≡ true) × (operandFits t n j o y ≡ true)
+abbrev pub Fit : ℕ → List ℕ → ℕ → ℕ → ℕ → Operand → ℕ → ℕ → Type 0
+Fit velocities t n i j o x y = (operandFits velocities t n i o x ≡ true) × (operandFits velocities t n j o y ≡ true)
 
 -- Two equations of one kind that fit have numbers that fit.
-pub both-fit : (t : List ℕ) (n i j : ℕ) (d e : Equation) → d .kind ≡ e .kind → shapeFits t n i (shapeIn d) d ≡ true
-    → shapeFits t n j (shapeIn e) e ≡ true → Three (Fit t n i j) (shapeIn d) d e
+pub both-fit : (velocities : ℕ) (t : List ℕ) (n i j : ℕ) (d e : Equation) → d .kind ≡ e .kind
+    → shapeFits velocities t n i (shapeIn d) d ≡ true → shapeFits velocities t n j (shapeIn e) e ≡ true
+    → Three (Fit velocities t n i j) (shapeIn d) d e
 unfolding shapeFits
-both-fit t n i j d e k x y =
-    let p = and-true (operandFits t n i (shapeIn d .a) (d .a)) _ x in
-    let q = and-true (operandFits t n i (shapeIn d .b) (d .b)) _ (p .1) in
+both-fit velocities t n i j d e k x y =
+    let p = and-true (operandFits velocities t n i (shapeIn d .a) (d .a)) _ x in
+    let q = and-true (operandFits velocities t n i (shapeIn d .b) (d .b)) _ (p .1) in
     let z = rw (← k) at y in
-    let u = and-true (operandFits t n j (shapeIn d .a) (e .a)) _ z in
-    let v = and-true (operandFits t n j (shapeIn d .b) (e .b)) _ (u .1) in
+    let u = and-true (operandFits velocities t n j (shapeIn d .a) (e .a)) _ z in
+    let v = and-true (operandFits velocities t n j (shapeIn d .b) (e .b)) _ (u .1) in
     record { a = (p .0, u .0); b = (q .0, v .0); c = (q .1, v .1) }
 
 -- Two numbers at one place are the same after renaming by f just if they agree by the relation that f renames operands
@@ -78,6 +79,7 @@ module _ (f : ℕ → ℕ) where
   name-agree (Earlier s) x y = refl
   name-agree (Anywhere s) x y = refl
   name-agree (Below m) x y = refl
+  name-agree Velocity x y = refl
 
   -- so two equations have the same key by f just if they are alike by that relation.
   pub key-alike : (d e : Equation) → renamed f d ≡ renamed f e → Alike SameName d e
@@ -98,20 +100,21 @@ module _ (f : ℕ → ℕ) where
       (rw (← h .kind, name-agree) (h .c))
 
 -- Equations i and j of n that fit and are alike by R are alike by S where R gives S of operands below n.
-module _ (t : List ℕ) (n i j : ℕ) (i≤n : i ≤ n) (j≤n : j ≤ n) (R S : ℕ → ℕ → Type 0)
+module _ (velocities : ℕ) (t : List ℕ) (n i j : ℕ) (i≤n : i ≤ n) (j≤n : j ≤ n) (R S : ℕ → ℕ → Type 0)
     (give : (x y : ℕ) → x < n → y < n → R x y → S x y) where
-  agree-below : (o : Operand) (x y : ℕ) → Fit t n i j o x y → Agree R o x y → Agree S o x y
+  agree-below : (o : Operand) (x y : ℕ) → Fit velocities t n i j o x y → Agree R o x y → Agree S o x y
   unfolding operandFits Agree
   agree-below Unused x y h e = e
   agree-below (Earlier s) x y h e =
       let u = flow-below t i s x (h .0) in let v = flow-below t j s y (h .1) in give x y (omega arith) (omega arith) e
   agree-below (Anywhere s) x y h e = give x y (flow-below t n s x (h .0)) (flow-below t n s y (h .1)) e
   agree-below (Below m) x y h e = e
+  agree-below Velocity x y h e = e
 
-  pub alike-below : (d e : Equation) → shapeFits t n i (shapeIn d) d ≡ true → shapeFits t n j (shapeIn e) e ≡ true
-      → Alike R d e → Alike S d e
+  pub alike-below : (d e : Equation) → shapeFits velocities t n i (shapeIn d) d ≡ true
+      → shapeFits velocities t n j (shapeIn e) e ≡ true → Alike R d e → Alike S d e
   alike-below d e u v h =
-      let f = both-fit t n i j d e (h .kind) u v in
+      let f = both-fit velocities t n i j d e (h .kind) u v in
       record {
         kind = h .kind;
         a = agree-below _ _ _ (f .a) (h .a);
@@ -142,22 +145,24 @@ module _ (e : Equation) (x : ℕ) where
       (or-cases (refers (shapeIn e .a) (e .a) x) _ q)
 
 -- An operand after renaming by c is the new name of an operand below n.
-module _ (t : List ℕ) (n i : ℕ) (i≤n : i ≤ n) (c : ℕ → ℕ) (x : ℕ) where
+module _ (velocities : ℕ) (t : List ℕ) (n i : ℕ) (i≤n : i ≤ n) (c : ℕ → ℕ) (x : ℕ) where
   abbrev NameBelow : Type 0
   NameBelow = (y : ℕ) × (y < n) × (c y ≡ x)
 
-  refers-name : (o : Operand) (y : ℕ) → operandFits t n i o y ≡ true → refers o (renamedNumber c o y) x ≡ true
-      → NameBelow
+  refers-name : (o : Operand) (y : ℕ) → operandFits velocities t n i o y ≡ true
+      → refers o (renamedNumber c o y) x ≡ true → NameBelow
   unfolding refers renamedNumber operandFits
   refers-name Unused y f e = absurd (false-true e)
   refers-name (Earlier s) y f e = let u = flow-below t i s y f in (y, omega arith, eqb-true (c y) x e)
   refers-name (Anywhere s) y f e = (y, flow-below t n s y f, eqb-true (c y) x e)
   refers-name (Below m) y f e = absurd (false-true e)
+  refers-name Velocity y f e = absurd (false-true e)
 
-  pub uses-name : (d : Equation) → shapeFits t n i (shapeIn d) d ≡ true → uses (renamed c d) x ≡ true → NameBelow
+  pub uses-name : (d : Equation) → shapeFits velocities t n i (shapeIn d) d ≡ true → uses (renamed c d) x ≡ true
+      → NameBelow
   unfolding renamed
   uses-name d fit h =
-      let f = both-fit t n i i d d refl fit fit in
+      let f = both-fit velocities t n i i d d refl fit fit in
       uses-cases (renamed c d) x (refers-name _ (d .a) (f .a .0)) (refers-name _ (d .b) (f .b .0))
       (refers-name _ (d .c) (f .c .0)) h
 
@@ -173,6 +178,7 @@ module _ (c f : ℕ → ℕ) where
   refers-on (Earlier s) y x e = eq-eqb (f (c y)) (f x) (ap f (eqb-true (c y) x e))
   refers-on (Anywhere s) y x e = eq-eqb (f (c y)) (f x) (ap f (eqb-true (c y) x e))
   refers-on (Below m) y x e = e
+  refers-on Velocity y x e = e
 
   pub uses-on : (e : Equation) (x : ℕ) → uses (renamed c e) x ≡ true → uses (renamed (λ y. f (c y)) e) (f x) ≡ true
   unfolding renamed

@@ -112,17 +112,19 @@ module _ (t : List ℕ) (n : ℕ) (c : ℕ → ℕ) where
       both-ways (m i) (marked (n * 2) i) (kept i l)
       (marks-induct (λ x. m x ≡ true) last (λ j x u v e p h. closed j u p x v h) i l)
 
-  -- What 2·n steps mark is as packing needs it.
-  pub marks-fit : all (equationFits t n) n ≡ true → Classes t n c → Marks t n c (marks t n c (n * 2))
-  marks-fit fit C =
-      record {
-        last = last-marked (n * 2);
-        closed = used-marked;
-        class = marks-induct (λ i. (n ≤ i + closingCount) ⊎ (c i ≡ i)) (λ i l h. inl h) class-used;
-      }
-    where
-      class-used : (j i : ℕ) → j < n → i < n → marked (n * 2) j ≡ true → (n ≤ j + closingCount) ⊎ (c j ≡ j)
-          → uses (keyAt t c j) i ≡ true → (n ≤ i + closingCount) ⊎ (c i ≡ i)
-      class-used j i u v e p h =
-          let w = uses-name t n j (omega arith) c i (equationAt t j) (all-at (equationFits t n) n fit j u) h in
-          inr (rw (← w .2) (class-fixed t n c C (w .0) (w .1)))
+-- What 2·n steps mark is as packing needs it.
+pub marks-fit : (velocities : ℕ) (t : List ℕ) (n : ℕ) (c : ℕ → ℕ) → all (equationFits velocities t n) n ≡ true
+    → Classes t n c → Marks t n c (marks t n c (n * 2))
+marks-fit velocities t n c fit C =
+    record {
+      last = last-marked t n c (n * 2);
+      closed = used-marked t n c;
+      class = marks-induct t n c (λ i. (n ≤ i + closingCount) ⊎ (c i ≡ i)) (λ i l h. inl h) class-used;
+    }
+  where
+    class-used : (j i : ℕ) → j < n → i < n → marked t n c (n * 2) j ≡ true → (n ≤ j + closingCount) ⊎ (c j ≡ j)
+        → uses (keyAt t c j) i ≡ true → (n ≤ i + closingCount) ⊎ (c i ≡ i)
+    class-used j i u v e p h =
+        let w = uses-name velocities t n j (omega arith) c i (equationAt t j)
+        (all-at (equationFits velocities t n) n fit j u) h in
+        inr (rw (← w .2) (class-fixed t n c C (w .0) (w .1)))

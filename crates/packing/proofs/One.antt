@@ -21,7 +21,7 @@ use Rattle.lists.proofs.Buffers.{drop-more}
 use Rattle.lists.proofs.Choice.{false-true}
 use Rattle.tables.specs.Table.{Equation, equationAt, equationFits, checked, startedOf, verdictOf}
 use Rattle.tables.specs.declared.Operand.{Operand}
-use Rattle.tables.specs.declared.Operand.the-variants.{Unused, Earlier, Anywhere, Below}
+use Rattle.tables.specs.declared.Operand.the-variants.{Unused, Earlier, Anywhere, Below, Velocity}
 use Rattle.tables.specs.declared.Checked.the-variants.{Passed}
 use Rattle.tables.proofs.Tests.{and-true, all-at}
 use Rattle.tables.proofs.Checks.{checked-fitting, failed-passed}
@@ -44,6 +44,7 @@ module _ (R : ℕ → ℕ → Type 0) (i : ℕ) where
   refers-related (Earlier s) x y h e = (y, subst (λ w. R w y) (eqb-true x i e) h)
   refers-related (Anywhere s) x y h e = (y, subst (λ w. R w y) (eqb-true x i e) h)
   refers-related (Below m) x y h e = absurd (false-true e)
+  refers-related Velocity x y h e = absurd (false-true e)
 
   uses-related : (d e : Equation) → Alike R d e → uses d i ≡ true → (z : ℕ) × R i z
   uses-related d e h =
@@ -64,12 +65,13 @@ abbrev OperandsBelow : ℕ → Equation → Type 0
 OperandsBelow n e = Alike (Within n) e e
 
 -- So it is with the equations of a table that passes the check.
-operands-below : (t : List ℕ) (n : ℕ) → checked t n ≡ Passed → (x : ℕ) → x < n → OperandsBelow n (equationAt t x)
-operands-below t n passed x l =
+operands-below : (velocities : ℕ) (t : List ℕ) (n : ℕ) → checked velocities t n ≡ Passed → (x : ℕ) → x < n
+    → OperandsBelow n (equationAt t x)
+operands-below velocities t n passed x l =
     let e = equationAt t x in
-    let fit = all-at (equationFits t n) n (checked-fitting t n passed .equations) x l in
-    alike-below t n x x (omega arith) (omega arith) (λ y z. y ≡ z) (Within n) (λ y z u v q. (v, q)) e e fit fit
-    (alike-self e)
+    let fit = all-at (equationFits velocities t n) n (checked-fitting velocities t n passed .equations) x l in
+    alike-below velocities t n x x (omega arith) (omega arith) (λ y z. y ≡ z) (Within n) (λ y z u v q. (v, q)) e e
+    fit fit (alike-self e)
 
 -- Alike equations, the operands of one below m and those of the other below n, are alike by the relation restricted to
 -- such numbers.
@@ -81,22 +83,21 @@ alike-within R m n d e u v h =
     alike-common (λ y x. (x < m) × R x y) (Within n) (λ x y. (x < m) × (y < n) × R x y)
     (λ y x z r q. (r .0, q .0, subst (R x) (q .1) (r .1))) e d e left v
 
--- Lists s and t have the same first n equations, and the operands of these are below n.
-record SameFirst (s t : List ℕ) (n : ℕ) : Type 0 where
-  operands : (x : ℕ) → x < n → OperandsBelow n (equationAt s x)
+-- Lists s and t have the same first n equations, and both pass the check.
+record SameFirst (velocities : ℕ) (s t : List ℕ) (n : ℕ) : Type 0 where
+  passed : checked velocities s n ≡ Passed
+  passed′ : checked velocities t n ≡ Passed
   same : (x : ℕ) → x < n → equationAt s x ≡ equationAt t x
 
 -- The two can be exchanged.
-first-converse : {s t : List ℕ} {n : ℕ} → SameFirst s t n → SameFirst t s n
-first-converse {n} S =
-    record {
-      operands = λ x l. subst (OperandsBelow n) (S .same x l) (S .operands x l);
-      same = λ x l. sym (S .same x l);
-    }
+first-converse : {velocities : ℕ} {s t : List ℕ} {n : ℕ} → SameFirst velocities s t n → SameFirst velocities t s n
+first-converse S = record { passed = S .passed′; passed′ = S .passed; same = λ x l. sym (S .same x l) }
 
 -- Equations below n that cannot be told apart in s cannot in t, by the relation in s, restricted to numbers below n,
-merged-same : {s t : List ℕ} {n : ℕ} → SameFirst s t n → (i j : ℕ) → i < n → j < n → Merged s i j → Merged t i j
-merged-same {s} {t} {n} S i j u v h = record { related = related; alike = alike; both = holds i j u v (h .both) }
+merged-same : {velocities : ℕ} {s t : List ℕ} {n : ℕ} → SameFirst velocities s t n → (i j : ℕ) → i < n → j < n
+    → Merged s i j → Merged t i j
+merged-same {velocities} {s} {t} {n} S i j u v h =
+    record { related = related; alike = alike; both = holds i j u v (h .both) }
   where
     related : ℕ → ℕ → Bool
     related x y = ltb x n && (ltb y n && h .related x y)
@@ -115,14 +116,15 @@ merged-same {s} {t} {n} S i j u v h = record { related = related; alike = alike;
         let l′ = ltb-true y n (q .0) in
         let d = equationAt s x in
         let e = equationAt s y in
-        let below = alike-within (λ a b. h .related a b ≡ true) n n d e (S .operands x l) (S .operands y l′)
+        let operands = operands-below velocities s n (S .passed) in
+        let below = alike-within (λ a b. h .related a b ≡ true) n n d e (operands x l) (operands y l′)
         (h .alike x y (q .1)) in
         subst₂ (Alike Related) (S .same x l) (S .same y l′)
         (alike-weaken _ Related (λ a b w. holds a b (w .0) (w .1) (w .2)) d e below)
 
 -- so what represents equation i in s represents it in t.
-represents-same : {s t : List ℕ} {n : ℕ} → SameFirst s t n → (r i : ℕ) → r < n → i < n → Represents s n r i
-    → Represents t n r i
+represents-same : {velocities : ℕ} {s t : List ℕ} {n : ℕ} → SameFirst velocities s t n → (r i : ℕ) → r < n → i < n
+    → Represents s n r i → Represents t n r i
 represents-same S r i u v h =
     record {
       merged = merged-same S r i u v (h .merged);
@@ -136,7 +138,8 @@ one-represents : (t : List ℕ) (n r r′ i : ℕ) → r < n → r′ < n → Re
 one-represents t n r r′ i u u′ h h′ = omega (arith, h .first r′ u′ (h′ .merged), h′ .first r u (h .merged))
 
 -- A packed table t′ of a list s with the first n equations of t.
-module _ {s t : List ℕ} {n : ℕ} {t′ : List ℕ} {n′ : ℕ} (S : SameFirst s t n) (P : Packs s n t′ n′) where
+module _ {velocities : ℕ} {s t : List ℕ} {n : ℕ} {t′ : List ℕ} {n′ : ℕ} (S : SameFirst velocities s t n)
+    (P : Packs s n t′ n′) where
   -- Operand y of the packed table is one of its equations, and stands for operand i of the given one.
   record StandsFor (i y : ℕ) : Type 0 where
     below : y < n′
@@ -148,8 +151,9 @@ module _ {s t : List ℕ} {n : ℕ} {t′ : List ℕ} {n′ : ℕ} (S : SameFirs
       let d = equationAt t′ x in
       let e = equationAt s (P .from x) in
       let u = P .below x l in
-      let below = alike-within (λ y i. Represents s n (P .from y) i) n′ n d e (operands-below t′ n′ (P .passes) x l)
-      (S .operands (P .from x) u) (P .stands x l) in
+      let below = alike-within (λ y i. Represents s n (P .from y) i) n′ n d e
+      (operands-below velocities t′ n′ (P .passes velocities (S .passed)) x l)
+      (operands-below velocities s n (S .passed) (P .from x) u) (P .stands x l) in
       rw (← S .same (P .from x) u)
       (alike-converse _ StandsFor
       (λ y i h. record {
@@ -164,8 +168,9 @@ module _ {s t : List ℕ} {n : ℕ} {t′ : List ℕ} {n′ : ℕ} (S : SameFirs
 
 -- ---- two packed tables
 
-module _ {s s′ t : List ℕ} {n : ℕ} {t′ : List ℕ} {n′ : ℕ} {t″ : List ℕ} {n″ : ℕ} (S : SameFirst s t n)
-    (S′ : SameFirst s′ t n) (P : Packs s n t′ n′) (Q : Packs s′ n t″ n″) where
+module _ {velocities : ℕ} {s s′ t : List ℕ} {n : ℕ} {t′ : List ℕ} {n′ : ℕ} {t″ : List ℕ} {n″ : ℕ}
+    (S : SameFirst velocities s t n) (S′ : SameFirst velocities s′ t n) (P : Packs s n t′ n′)
+    (Q : Packs s′ n t″ n″) where
   -- Equation x of the first and equation y of the second stand for the same given equation.
   record Same (x y : ℕ) : Type 0 where
     below : x < n′
@@ -187,7 +192,7 @@ module _ {s s′ t : List ℕ} {n : ℕ} {t′ : List ℕ} {n′ : ℕ} {t″ : 
   -- For each equation that the last two of the first reach, the second has one that stands for the same,
   reached-same : {x : ℕ} → Reached t′ n′ x → (y : ℕ) × Same x y
   reached-same (last x l h) =
-      let two = checked-fitting t″ n″ (Q .passes) .closed in
+      let two = checked-fitting velocities t″ n″ (Q .passes velocities (S′ .passed)) .closed in
       elim (ℕ-discrete x (startedOf n′)) [
         | yes e ↦ with-origin (startedOf n″) (omega arith) (ap (P .from) e ∙ P .started ∙ sym (Q .started))
         | no e ↦ with-origin (verdictOf n″) (omega arith)
@@ -223,16 +228,18 @@ module _ {s s′ t : List ℕ} {n : ℕ} {t′ : List ℕ} {n′ : ℕ} {t″ : 
 
 -- SPEC 16.1: a packed table is one, with one n and each equation the same, whatever numbers the given list has behind
 -- its n equations.
-pub one-packed : (t s : List ℕ) (n : ℕ) (t′ : List ℕ) (n′ : ℕ) (t″ : List ℕ) (n″ : ℕ) → checked t n ≡ Passed
+pub one-packed : (velocities : ℕ) (t s : List ℕ) (n : ℕ) (t′ : List ℕ) (n′ : ℕ) (t″ : List ℕ) (n″ : ℕ)
+    → checked velocities t n ≡ Passed → checked velocities s n ≡ Passed
     → ((i : ℕ) → i < n → equationAt t i ≡ equationAt s i) → Packs t n t′ n′ → Packs s n t″ n″
     → (n′ ≡ n″) × ((x : ℕ) → x < n′ → equationAt t′ x ≡ equationAt t″ x)
-one-packed t s n t′ n′ t″ n″ passed same P Q = (omega (arith, no-fewer T S P Q, no-fewer S T Q P), equations)
+one-packed velocities t s n t′ n′ t″ n″ passed passed′ same P Q =
+    (omega (arith, no-fewer T S P Q, no-fewer S T Q P), equations)
   where
-    T : SameFirst t t n
-    T = record { operands = operands-below t n passed; same = λ i l. refl }
+    T : SameFirst velocities t t n
+    T = record { passed = passed; passed′ = passed; same = λ i l. refl }
 
-    S : SameFirst s t n
-    S = first-converse (record { operands = T .operands; same = same })
+    S : SameFirst velocities s t n
+    S = record { passed = passed′; passed′ = passed; same = λ i l. sym (same i l) }
 
     -- Equations of both that stand for the same one have the same place.
     place : (x y : ℕ) → Same T S P Q x y → x ≡ y
@@ -278,21 +285,22 @@ tables-same (suc k) s s′ l l′ same behind =
     (equation-followed s k l ∙ ap₂ followed (same k (omega arith)) behind ∙ sym (equation-followed s′ k l′))
 
 -- Two packed tables of lists with the same first n equations have the same numbers.
-pub one-front : (t s : List ℕ) (n n′ : ℕ) (after : List ℕ) (n″ : ℕ) (after′ : List ℕ) → checked t n ≡ Passed
+pub one-front : (velocities : ℕ) (t s : List ℕ) (n n′ : ℕ) (after : List ℕ) (n″ : ℕ) (after′ : List ℕ)
+    → checked velocities t n ≡ Passed → checked velocities s n ≡ Passed
     → ((i : ℕ) → i < n → equationAt t i ≡ equationAt s i)
     → ((rest : List ℕ) → Packs t n (take (4 * n′) after ++ rest) n′)
     → ((rest : List ℕ) → Packs s n (take (4 * n″) after′ ++ rest) n″)
     → (n′ ≡ n″) × (take (4 * n′) after ≡ take (4 * n″) after′)
-one-front t s n n′ after n″ after′ passed same h h′ =
+one-front velocities t s n n′ after n″ after′ passed passed′ same h h′ =
     let u = take (4 * n′) after in
     let v = take (4 * n″) after′ in
     let P : Packs t n u n′ = rw (append-nil u) at (h []) in
     let Q : Packs s n v n″ = rw (append-nil v) at (h′ []) in
-    let one = one-packed t s n u n′ v n″ passed same P Q in
-    let whole = checked-fitting v n″ (Q .passes) .whole in
+    let one = one-packed velocities t s n u n′ v n″ passed passed′ same P Q in
+    let long = checked-fitting velocities u n′ (P .passes velocities passed) .whole in
+    let whole = checked-fitting velocities v n″ (Q .passes velocities passed′) .whole in
     let end : drop (4 * n′) v ≡ [] = rw (one .0) (ends n″ after′) in
-    let numbers = tables-same n′ u v (checked-fitting u n′ (P .passes) .whole) (omega (arith, one .0)) (one .1)
-    (ends n′ after ∙ sym end) in
+    let numbers = tables-same n′ u v long (omega (arith, one .0)) (one .1) (ends n′ after ∙ sym end) in
     (one .0, numbers)
   where
     ends : (k : ℕ) (u : List ℕ) → drop (4 * k) (take (4 * k) u) ≡ []
@@ -310,8 +318,9 @@ one-second before n′ after n″ after′ behind behind′ one =
     (ap Equations (one .0), same)
 
 -- SPEC 8.8: packing a table into a second one has one answer, and leaves one second table.
-pub one-answer : {t : List ℕ} {n : ℕ} {before : List ℕ} {r r′ : Packed} {after after′ : List ℕ}
-    → PackAnswer t n before r after → PackAnswer t n before r′ after′ → (r ≡ r′) × (after ≡ after′)
+pub one-answer : {velocities : ℕ} {t : List ℕ} {n : ℕ} {before : List ℕ} {r r′ : Packed} {after after′ : List ℕ}
+    → PackAnswer velocities t n before r after → PackAnswer velocities t n before r′ after′
+    → (r ≡ r′) × (after ≡ after′)
 one-answer (not-checked e) (not-checked e′) = (cc, refl)
 one-answer (not-checked e) (no-room p l) = absurd (failed-passed (sym e ∙ p))
 one-answer (not-checked e) (packed p l s b h) = absurd (failed-passed (sym e ∙ p))
@@ -321,4 +330,4 @@ one-answer (no-room p l) (packed p′ l′ s b h) = absurd (omega arith)
 one-answer (packed p l s b h) (not-checked e) = absurd (failed-passed (sym e ∙ p))
 one-answer (packed p l s b h) (no-room p′ l′) = absurd (omega arith)
 one-answer (packed p l s b h) (packed p′ l′ s′ b′ h′) =
-    one-second _ _ _ _ _ b b′ (one-front _ _ _ _ _ _ _ p (λ i u. refl) h h′)
+    one-second _ _ _ _ _ b b′ (one-front _ _ _ _ _ _ _ _ p p′ (λ i u. refl) h h′)

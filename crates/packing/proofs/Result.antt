@@ -21,7 +21,7 @@ use Rattle.tables.specs.Table.{closingCount, startedOf, verdictOf, closes}
 use Rattle.tables.specs.Table.Kind.{compareLiteral}
 use Rattle.tables.specs.declared.Sort.{Sort}
 use Rattle.tables.specs.declared.Operand.{Operand}
-use Rattle.tables.specs.declared.Operand.the-variants.{Unused, Earlier, Anywhere, Below}
+use Rattle.tables.specs.declared.Operand.the-variants.{Unused, Earlier, Anywhere, Below, Velocity}
 use Rattle.tables.specs.declared.Checked.the-variants.{Passed}
 use Rattle.tables.proofs.Tests.{and-true, all-at, all-of}
 use Rattle.tables.proofs.Checks.{checked-fitting, passed-both, long-enough}
@@ -146,8 +146,8 @@ module _ (t : List ℕ) (c : ℕ → ℕ) (m : ℕ → Bool) where
 
 -- The equations of t fit, the classes c and the marks m are settled, and the list `result` has the packed equations at
 -- its front.
-pub record PackedFront (t : List ℕ) (n : ℕ) (c : ℕ → ℕ) (m : ℕ → Bool) (result : List ℕ) : Type 0 where
-  pub fit : all (equationFits t n) n ≡ true
+pub record PackedFront (velocities : ℕ) (t : List ℕ) (n : ℕ) (c : ℕ → ℕ) (m : ℕ → Bool) (result : List ℕ) : Type 0 where
+  pub fit : all (equationFits velocities t n) n ≡ true
   pub classes : Classes t n c
   pub marks : Marks t n c m
   pub long : 4 * count m n ≤ length result
@@ -155,9 +155,10 @@ pub record PackedFront (t : List ℕ) (n : ℕ) (c : ℕ → ℕ) (m : ℕ → B
       → equationAt result (count m i) ≡ renamed (newName t c m) (equationAt t i)
 
 -- So it is with the packed table and any numbers behind it.
-pub packed-front : (t : List ℕ) (n : ℕ) (c : ℕ → ℕ) (m : ℕ → Bool) → all (equationFits t n) n ≡ true → Classes t n c
-    → Marks t n c m → (rest : List ℕ) → PackedFront t n c m (packedBelow t c m n ++ rest)
-packed-front t n c m fit C M rest =
+pub packed-front : (velocities : ℕ) (t : List ℕ) (n : ℕ) (c : ℕ → ℕ) (m : ℕ → Bool)
+    → all (equationFits velocities t n) n ≡ true → Classes t n c → Marks t n c m
+    → (rest : List ℕ) → PackedFront velocities t n c m (packedBelow t c m n ++ rest)
+packed-front velocities t n c m fit C M rest =
     let front = packedBelow t c m n in
     let size = length-packed t c m n in
     record {
@@ -187,18 +188,19 @@ unfolding count
 memories-count t zero = refl
 memories-count t (suc n) = rw (memories-count t n)
 
-module _ {t : List ℕ} {n : ℕ} {c : ℕ → ℕ} {m : ℕ → Bool} {result : List ℕ} (P : PackedFront t n c m result) where
+module _ {velocities : ℕ} {t : List ℕ} {n : ℕ} {c : ℕ → ℕ} {m : ℕ → Bool} {result : List ℕ}
+    (P : PackedFront velocities t n c m result) where
   abbrev size : ℕ
   size = count m n
 
   abbrev from : ℕ → ℕ
   from = origin m n
 
-  fit-at : (i : ℕ) → i < n → equationFits t n i ≡ true
-  fit-at = all-at (equationFits t n) n (P .fit)
+  fit-at : (i : ℕ) → i < n → equationFits velocities t n i ≡ true
+  fit-at = all-at (equationFits velocities t n) n (P .fit)
 
   -- The class of each operand of a kept equation is kept.
-  operand-kept : (j : ℕ) → j < n → (o : Operand) (x : ℕ) → operandFits t n j o x ≡ true
+  operand-kept : (j : ℕ) → j < n → (o : Operand) (x : ℕ) → operandFits velocities t n j o x ≡ true
       → ((y : ℕ) → y < n → refers o (renamedNumber c o x) y ≡ true → m y ≡ true)
       → Agree (λ y z. ClassKept n c m y) o x x
   unfolding operandFits Agree refers renamedNumber
@@ -212,12 +214,13 @@ module _ {t : List ℕ} {n : ℕ} {c : ℕ → ℕ} {m : ℕ → Bool} {result :
       let v = P .classes .least x u in
       (u, k (c x) (omega arith) (eq-eqb (c x) (c x) refl))
   operand-kept j l (Below q) x f k = refl
+  operand-kept j l Velocity x f k = refl
 
   operands-kept : (j : ℕ) → j < n → m j ≡ true → Alike (λ y z. ClassKept n c m y) (equationAt t j) (equationAt t j)
   unfolding renamed
   operands-kept j l e =
       let d = equationAt t j in
-      let f = both-fit t n j j d d refl (fit-at j l) (fit-at j l) in
+      let f = both-fit velocities t n j j d d refl (fit-at j l) (fit-at j l) in
       let k = P .marks .closed j l e in
       record {
         kind = refl;
@@ -267,7 +270,7 @@ module _ {t : List ℕ} {n : ℕ} {c : ℕ → ℕ} {m : ℕ → Bool} {result :
 
   -- and stand before where those do, so each of its equations fits,
   number-fits : (x : ℕ) → x < size → (o : Operand) (y i : ℕ) → Agree (Stands n c m) o y i
-      → operandFits t n (from x) o i ≡ true → operandFits result size x o y ≡ true
+      → operandFits velocities t n (from x) o i ≡ true → operandFits velocities result size x o y ≡ true
   unfolding Agree operandFits
   number-fits x l Unused y i h f = rw h f
   number-fits x l (Earlier s) y i h f =
@@ -279,22 +282,23 @@ module _ {t : List ℕ} {n : ℕ} {c : ℕ → ℕ} {m : ℕ → Bool} {result :
       stands-flow (from x) x y i s h (omega (arith, p .place, q .place)) f
   number-fits x l (Anywhere s) y i h f = stands-flow n size y i s h (h .below) f
   number-fits x l (Below q) y i h f = rw h f
+  number-fits x l Velocity y i h f = rw h f
 
-  equation-fits : (x : ℕ) → x < size → equationFits result size x ≡ true
+  equation-fits : (x : ℕ) → x < size → equationFits velocities result size x ≡ true
   unfolding shapeFits
   equation-fits x l =
       let d = equationAt t (from x) in
       let h = stands x l in
       let fits = fit-at (from x) (origin-of m n x l .below) in
-      let f = both-fit t n (from x) (from x) d d refl fits fits in
+      let f = both-fit velocities t n (from x) (from x) d d refl fits fits in
       rw (
         number-fits x l _ _ (d .a) (h .a) (rw (h .kind) (f .a .0)),
         number-fits x l _ _ (d .b) (h .b) (rw (h .kind) (f .b .0)),
         number-fits x l _ _ (d .c) (h .c) (rw (h .kind) (f .c .0)),
       )
 
-  pub all-fit : all (equationFits result (count m n)) (count m n) ≡ true
-  all-fit = all-of (equationFits result size) size equation-fits
+  pub all-fit : all (equationFits velocities result (count m n)) (count m n) ≡ true
+  all-fit = all-of (equationFits velocities result size) size equation-fits
 
   -- Its last two come from the given table's last two,
   last-count : (k : ℕ) → k ≤ closingCount → k ≤ n → size ≡ count m (n - k) + k
@@ -326,13 +330,13 @@ module _ {t : List ℕ} {n : ℕ} {c : ℕ → ℕ} {m : ℕ → Bool} {result :
         let verdict = kind-from (verdictOf size) (omega arith) ∙ ap (kindAt t) from-verdict in
         rw (le-leb closingCount n two, le-leb closingCount size more, started, verdict)
 
-  pub passes : checked t n ≡ Passed → checked result (count m n) ≡ Passed
+  pub passes : checked velocities t n ≡ Passed → checked velocities result (count m n) ≡ Passed
   unfolding equationsFit
   passes e =
-      let f = checked-fitting t n e in
-      let closed = and-true (all (equationFits t n) n) _ (passed-both t n e .1) .1 in
-      long-enough result size (omega (arith, two-too (f .closed))) (omega (arith, count-le m n, f .few)) (P .long) true
-      true all-fit (closes-same (f .closed) ∙ closed)
+      let f = checked-fitting velocities t n e in
+      let closed = and-true (all (equationFits velocities t n) n) _ (passed-both velocities t n e .1) .1 in
+      long-enough velocities result size (omega (arith, two-too (f .closed))) (omega (arith, count-le m n, f .few))
+      (P .long) true true all-fit (closes-same (f .closed) ∙ closed)
 
   -- Its literals are the given ones.
   literal-same : (x : ℕ) → x < size → kindAt result x ≡ compareLiteral
@@ -410,7 +414,7 @@ module _ {t : List ℕ} {n : ℕ} {c : ℕ → ℕ} {m : ℕ → Bool} {result :
     pub flows-from : (x : ℕ) → x < count m n → f k (origin m n x) ≡ g k x
     unfolding OneClass
     flows-from x l =
-        flows-alike cap t result n size (P .fit) all-fit trace f g F G OneClass class-alike k (from x) x
+        flows-alike cap velocities t result n size (P .fit) all-fit trace f g F G OneClass class-alike k (from x) x
         (origin-of m n x l .below) l refl
 
     -- and both tables answer the same.

@@ -4,6 +4,7 @@ use mathlib.Core.Path.{_≡_, refl}
 use mathlib.Core.List.{List, [], _∷_, _++_, map}
 use Prim.Native.Nat.{ℕ, _-_, _/_}
 use lib.ListN.{length, replicate}
+use Rattle.limits.specs.Limits.{velocityCount}
 use Rattle.tables.specs.Table.{all, kindOf, shapeOf, sameSort, isFlow, operandFits, shapeFits, lengthFits}
 use Rattle.tables.specs.Table.{equationsFit, closes, checked}
 use Rattle.tables.specs.declared.Checked.the-variants.{Passed}
@@ -125,13 +126,25 @@ farApart =
     (0 ∷ 0 ∷ 0 ∷ 0 ∷ 0 ∷ 1 ∷ 0 ∷ 0 ∷ 3 ∷ 0 ∷ 0 ∷ 0 ∷ 3 ∷ 1 ∷ 0 ∷ 0 ∷ 3 ∷ 2 ∷ 0 ∷ 0 ∷ 3 ∷ 3 ∷ 0 ∷ 0
     ∷ 6 ∷ 4 ∷ 0 ∷ 1 ∷ 6 ∷ 5 ∷ 0 ∷ 1 ∷ 3 ∷ 6 ∷ 0 ∷ 0 ∷ 3 ∷ 7 ∷ 0 ∷ 0 ∷ 4 ∷ 8 ∷ 9 ∷ 0 ∷ 5 ∷ 8 ∷ 9 ∷ 0 ∷ [])
 
+-- Tests of the velocity: those with one comparison and one literal are merged, and those that differ in either stay.
+-- Both numbers stay, here 1 and 1, where equation 1 becomes equation 0.
+-- f0=b; f1=b; f2=v<1; f3=v<1; f4=v<=1; f5=v<2; f6=f1 and f3; f7=f4 and f5; f8=f6 or f7; f9=f8 and f2;
+-- f0=b; f1=v<1; f2=v<=1; f3=v<2; f4=f0 and f1; f5=f2 and f3; f6=f4 or f5; f7=f6 and f1;
+abbrev strokes : Row
+strokes =
+    row
+    (1 ∷ 0 ∷ 0 ∷ 0 ∷ 1 ∷ 0 ∷ 0 ∷ 0 ∷ 12 ∷ 1 ∷ 1 ∷ 0 ∷ 12 ∷ 1 ∷ 1 ∷ 0 ∷ 12 ∷ 0 ∷ 1 ∷ 0 ∷ 12 ∷ 1 ∷ 2 ∷ 0
+    ∷ 4 ∷ 1 ∷ 3 ∷ 0 ∷ 4 ∷ 4 ∷ 5 ∷ 0 ∷ 5 ∷ 6 ∷ 7 ∷ 0 ∷ 4 ∷ 8 ∷ 2 ∷ 0 ∷ [])
+    (1 ∷ 0 ∷ 0 ∷ 0 ∷ 12 ∷ 1 ∷ 1 ∷ 0 ∷ 12 ∷ 0 ∷ 1 ∷ 0 ∷ 12 ∷ 1 ∷ 2 ∷ 0 ∷ 4 ∷ 0 ∷ 1 ∷ 0 ∷ 4 ∷ 2 ∷ 3 ∷ 0
+    ∷ 5 ∷ 4 ∷ 5 ∷ 0 ∷ 4 ∷ 6 ∷ 1 ∷ 0 ∷ [])
+
 abbrev rows : List Row
 rows =
     fetchedTwice ∷ twoLoops ∷ firstValues ∷ otherNumbers ∷ unreached ∷ repeated ∷ lastSame ∷ literals ∷ orders
-    ∷ farApart ∷ []
+    ∷ farApart ∷ strokes ∷ []
 
 -- The given tables pass the check.
-check-rows : map (λ (r : Row). checked (r .given) (size (r .given))) rows ≡ map (λ (r : Row). Passed) rows
+check-rows : map (λ (r : Row). checked velocityCount (r .given) (size (r .given))) rows ≡ map (λ (r : Row). Passed) rows
 unfolding checked lengthFits equationsFit closes all shapeFits shapeOf kindOf operandFits isFlow sameSort
 check-rows = refl
 
@@ -154,7 +167,7 @@ class-rows = refl
 
 -- No equation, one alone, which closes no table, and too short a second table: refused by 10, 11 and 9 in this order,
 -- and the second table is kept.
-refused-rows : map (λ n. packing (fetchedTwice .given) n (7 ∷ [])) (0 ∷ 1 ∷ 5 ∷ [])
+refused-rows : map (λ n. packing velocityCount (fetchedTwice .given) n (7 ∷ [])) (0 ∷ 1 ∷ 5 ∷ [])
     ≡ map (λ r. afterPack (Refused r) (7 ∷ [])) (10 ∷ 11 ∷ 9 ∷ [])
 unfolding packing packChecked lengthFits equationsFit closes all shapeFits shapeOf kindOf operandFits isFlow sameSort
 refused-rows = refl

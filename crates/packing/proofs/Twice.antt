@@ -63,7 +63,7 @@ packed-whole s c m (suc k) l all-kept own =
     ∙ sym (four-numbers s c m k l)
 
 -- The table s that is packed from t, with any numbers behind it.
-module _ (t : List ℕ) (n : ℕ) (passed : checked t n ≡ Passed) (rest : List ℕ) where
+module _ (velocities : ℕ) (t : List ℕ) (n : ℕ) (passed : checked velocities t n ≡ Passed) (rest : List ℕ) where
   abbrev c : ℕ → ℕ
   c = classes t n
 
@@ -79,8 +79,8 @@ module _ (t : List ℕ) (n : ℕ) (passed : checked t n ≡ Passed) (rest : List
   abbrev from : ℕ → ℕ
   from = origin m n
 
-  P : PackedFront t n c m s
-  P = front t n passed rest
+  P : PackedFront velocities t n c m s
+  P = front velocities t n passed rest
 
   -- Its own classes and marks.
   abbrev c′ : ℕ → ℕ
@@ -90,17 +90,18 @@ module _ (t : List ℕ) (n : ℕ) (passed : checked t n ≡ Passed) (rest : List
   m′ = kept s size
 
   C′ : Classes s size c′
-  C′ = classes-fit s size (all-fit P)
+  C′ = classes-fit velocities s size (all-fit P)
 
   M′ : Marks s size c′ m′
-  M′ = marks-fit s size c′ (all-fit P) C′
+  M′ = marks-fit velocities s size c′ (all-fit P) C′
 
   -- Each round gives an operand of t and the equation that stands for its class in s one class,
   stands-round : (k y i : ℕ) → Stands n c m y i → rounds t k (from y) ≡ rounds t k i
   stands-round k y i h =
       let u = P .classes .least i (h .given) in
       ap (rounds t k) (h .class)
-      ∙ fixed-finer t n (P .fit) c (classes-settled t n (P .fit)) k (c i) i (omega (arith, h .given)) (h .given)
+      ∙ fixed-finer velocities t n (P .fit) c (classes-settled velocities t n (P .fit)) k (c i) i
+      (omega (arith, h .given)) (h .given)
       (class-fixed t n c (P .classes) i (h .given))
 
   -- so equations of one class of s come from equations of one class of t.
@@ -160,7 +161,7 @@ module _ (t : List ℕ) (n : ℕ) (passed : checked t n ≡ Passed) (rest : List
       (l, M′ .closed j (p .0) (p .1) i l (subst (λ (e : Equation). uses e i ≡ true) (sym key) u))
 
   all-kept : (x : ℕ) → x < size → m′ x ≡ true
-  all-kept x l = reached-kept (packs t n passed rest .reached x l) .1
+  all-kept x l = reached-kept (packs velocities t n passed rest .reached x l) .1
 
   -- Each is kept at its place, and so are their numbers.
   count-all : (k : ℕ) → k ≤ size → count m′ k ≡ k
@@ -179,12 +180,13 @@ module _ (t : List ℕ) (n : ℕ) (passed : checked t n ≡ Passed) (rest : List
 
   -- SPEC 8.8: packing the packed table does what packing the given one does, so where the second table has room it
   -- gives the packed table again.
-  pub twice : (second : List ℕ) → packing (packed t n ++ rest) (packedCount t n) second ≡ packing t n second
+  pub twice : (second : List ℕ) → packing velocities (packed t n ++ rest) (packedCount t n) second
+      ≡ packing velocities t n second
   unfolding packing afterPacking
   twice second =
       rw (
-        room-decides s size second (packs t n passed rest .passes) _ refl,
-        room-decides t n second passed _ refl,
+        room-decides velocities s size second (packs velocities t n passed rest .passes velocities passed) _ refl,
+        room-decides velocities t n second passed _ refl,
       ) (either (leb tableRoom (length second)))
     where
       either : (b : Bool)

@@ -10,7 +10,7 @@ use Rattle.limits.specs.Limits.{tableRoom}
 use Rattle.tables.specs.Table.{Equation, equationAt, kindAt, memories, checked, closingCount, startedOf, verdictOf}
 use Rattle.tables.specs.Table.Kind.{compareLiteral}
 use Rattle.tables.specs.declared.Operand.{Operand}
-use Rattle.tables.specs.declared.Operand.the-variants.{Unused, Earlier, Anywhere, Below}
+use Rattle.tables.specs.declared.Operand.the-variants.{Unused, Earlier, Anywhere, Below, Velocity}
 use Rattle.tables.specs.declared.Checked.the-variants.{Passed, Refused as Failed}
 use Rattle.traces.specs.Trace.{Trace}
 use Rattle.flows.specs.Flow.{answerOf}
@@ -28,6 +28,7 @@ Agree R Unused x y = x ≡ y
 Agree R (Earlier s) x y = R x y
 Agree R (Anywhere s) x y = R x y
 Agree R (Below m) x y = x ≡ y
+Agree R Velocity x y = x ≡ y
 
 -- Two equations of one kind whose numbers agree.
 pub record Alike (R : ℕ → ℕ → Type 0) (d e : Equation) : Type 0 where
@@ -74,8 +75,9 @@ LiteralsBelow t n m = (i : ℕ) → i < n → kindAt t i ≡ compareLiteral → 
 
 -- SPEC 16.1 to SPEC 16.5: the n′ equations of t′ are the n of t, packed.
 pub record Packs (t : List ℕ) (n : ℕ) (t′ : List ℕ) (n′ : ℕ) : Type 0 where
-  -- It passes the check, and also one with another limit of literals that the given table passes.
-  pub passes : checked t′ n′ ≡ Passed
+  -- It passes the check where the given table does, however many velocities there are, and also one with another limit
+  -- of literals.
+  pub passes : (velocities : ℕ) → checked velocities t n ≡ Passed → checked velocities t′ n′ ≡ Passed
   pub limits : (m : ℕ) → LiteralsBelow t n m → LiteralsBelow t′ n′ m
   -- Equation x stands for equation `from x` of the given table. It has its kind and constants, and each operand is what
   -- stands for the first equation that cannot be told from the given operand.
@@ -95,30 +97,33 @@ pub record Packs (t : List ℕ) (n : ℕ) (t′ : List ℕ) (n′ : ℕ) : Type 
   -- Kept equations stay in their order.
   pub rising : (x y : ℕ) → x < y → y < n′ → from x < from y
   pub shorter : n′ ≤ n
-  -- On every run from a fresh state in which the given table refuses no step, both answer alike, for every cap, and
-  -- whatever parameters the ticks have: over the same calls, and where the packed table has values of its own.
-  pub answers : (cap : ℕ) (old old′ : List ℕ) → n ≤ length old → n′ ≤ length old′ → (calls : List Call)
-      → NoneRefused (answered (fromFresh cap t n old calls))
-      → answered (fromFresh cap t′ n′ old′ calls) ≡ answered (fromFresh cap t n old calls)
-  pub own-values : (cap : ℕ) (old old′ : List ℕ) → n ≤ length old → n′ ≤ length old′ → (calls calls′ : List Call)
-      → SameTicks n′ calls calls′ → NoneRefused (answered (fromFresh cap t n old calls))
-      → answered (fromFresh cap t′ n′ old′ calls′) ≡ answered (fromFresh cap t n old calls)
+  -- On every run from a fresh state in which the given table refuses no step, both answer alike, for every cap and
+  -- every number of velocities, and whatever parameters and velocities the ticks have: over the same calls, and where
+  -- the packed table has values of its own.
+  pub answers : (cap velocities : ℕ) (old old′ : List ℕ) → n ≤ length old → n′ ≤ length old′ → (calls : List Call)
+      → NoneRefused (answered (fromFresh cap velocities t n old calls))
+      → answered (fromFresh cap velocities t′ n′ old′ calls) ≡ answered (fromFresh cap velocities t n old calls)
+  pub own-values : (cap velocities : ℕ) (old old′ : List ℕ) → n ≤ length old → n′ ≤ length old′
+      → (calls calls′ : List Call) → SameTicks n′ calls calls′
+      → NoneRefused (answered (fromFresh cap velocities t n old calls))
+      → answered (fromFresh cap velocities t′ n′ old′ calls′) ≡ answered (fromFresh cap velocities t n old calls)
   -- More than that: what solves the equations of both on one trace says the same at every tick.
   pub flows : (cap : ℕ) (trace : Trace) (f g : ℕ → ℕ → ℕ) → Solves cap t n trace f → Solves cap t′ n′ trace g
       → (k : ℕ) → answerOf n (f k) ≡ answerOf n′ (g k)
   -- Its memories are never more.
   pub memories : memories t′ n′ ≤ memories t n
 
--- SPEC 8.8: packing a table of n equations into a second one, the answer, and the second table before and after. It
--- says nothing of how it is done.
-pub data PackAnswer (t : List ℕ) (n : ℕ) (before : List ℕ) : Packed → List ℕ → Type 0 where
+-- SPEC 8.8: packing a table of n equations into a second one, where there are so many velocities, the answer, and the
+-- second table before and after. It says nothing of how it is done.
+pub data PackAnswer (velocities : ℕ) (t : List ℕ) (n : ℕ) (before : List ℕ) : Packed → List ℕ → Type 0 where
   -- refused as the check of the table says, the second table unchanged
-  not-checked : {k : ℕ} → checked t n ≡ Failed k → PackAnswer t n before (Refused k) before
+  not-checked : {k : ℕ} → checked velocities t n ≡ Failed k → PackAnswer velocities t n before (Refused k) before
   -- SPEC 7.9: too short a second table, unchanged
-  no-room : checked t n ≡ Passed → length before < tableRoom → PackAnswer t n before (Refused 9) before
+  no-room : checked velocities t n ≡ Passed → length before < tableRoom
+      → PackAnswer velocities t n before (Refused 9) before
   -- Else the front of the second table is the packed table, whatever numbers or none stand after it where it is used.
   -- All other numbers of the second table are kept.
-  packed : {n′ : ℕ} {after : List ℕ} → checked t n ≡ Passed → tableRoom ≤ length before
+  packed : {n′ : ℕ} {after : List ℕ} → checked velocities t n ≡ Passed → tableRoom ≤ length before
       → length after ≡ length before → drop (4 * n′) after ≡ drop (4 * n′) before
       → ((rest : List ℕ) → Packs t n (take (4 * n′) after ++ rest) n′)
-      → PackAnswer t n before (Equations n′) after
+      → PackAnswer velocities t n before (Equations n′) after

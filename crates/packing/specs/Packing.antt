@@ -17,13 +17,17 @@ abbrev pub packReply : Packed → Reply
 packReply (Equations n) = gives n
 packReply (Refused r) = refused r
 
--- SPEC 8.8: the refusals in order, those of the table and then 9, where the second table is too short (SPEC 7.9).
-abbrev pub packTests : List ℕ → ℕ → List ℕ → List Test
-packTests t n second = tableTests t n ++ (test 9 (leb tableRoom (length second)) ∷ [])
+-- The test of refusal 9 (SPEC 7.9): the second table is long enough.
+abbrev pub roomTest : List ℕ → Test
+roomTest second = test 9 (leb tableRoom (length second))
+
+-- SPEC 8.8: the refusals in order, those of the table, where there are so many velocities, and then 9.
+abbrev pub packTests : ℕ → List ℕ → ℕ → List ℕ → List Test
+packTests velocities t n second = tableTests velocities t n ++ (roomTest second ∷ [])
 
 -- The first refusal that applies, or none.
-unfoldable pub packChecked : List ℕ → ℕ → List ℕ → Checked
-packChecked t n second = firstFailed (packTests t n second)
+unfoldable pub packChecked : ℕ → List ℕ → ℕ → List ℕ → Checked
+packChecked velocities t n second = firstFailed (packTests velocities t n second)
 
 -- What packing answers, and the second table that it leaves.
 pub record AfterPack : Type 0 where
@@ -44,5 +48,5 @@ packingIf Passed t n second = afterPacking t n second
 packingIf (Failed r) t n second = afterPack (Refused r) second
 
 -- SPEC 8.8: the whole effect of packing.
-unfoldable pub packing : List ℕ → ℕ → List ℕ → AfterPack
-packing t n second = packingIf (packChecked t n second) t n second
+unfoldable pub packing : ℕ → List ℕ → ℕ → List ℕ → AfterPack
+packing velocities t n second = packingIf (packChecked velocities t n second) t n second

@@ -2,7 +2,6 @@
 -- room. Assumes nothing.
 use borrow.Author.Needs.{needs}
 use native.Mathlib.Omega.{arith}
-use Rattle.lustre.specs.Read.{Writes}
 use Rattle.lustre.specs.Read.AfterRead.{unread, no-room}
 use Rattle.lustre_read.proofs.Answers.{none-read, some-read, few-equations, copied}
 use Rattle.lustre_read.proofs.read_lustre.Statement.{statement}
@@ -18,37 +17,27 @@ read c = c .before .before .before .before
 abbrev room : tie.After-copy → tie.Else1
 room c = c .before .before .before
 
--- The table that was read writes the text.
-writes : (c : tie.After-known-told) →
-    let here = read c in
-    Writes (here .read-table .last .1 .0) (c .before .found .given .0 .0) (start here .args .text .now)
-writes c =
-    let here = read c in
-    let table = here .read-table in
-    let given = c .before .found .given in
-    some-read (start here .args .text .now) (table .last .1 .0) (table .result) (given .0 .0) (given .1)
-    (table .ensures)
-
 no-table : tie.Need-returns
-no-table c =
-    let here = c .before .before .before in
-    let table = here .read-table in
-    unread
-    (none-read (start here .args .text .now) (table .last .1 .0) (table .result) (c .enum-told .given .1)
-    (table .ensures))
+no-table c = unread (none-read _ (c .enum-told .given .1) (c .before .before .before .read-table .ensures))
 
 short-table : tie.Need-returns-2
-short-table c = no-room (writes (c .before)) (c .if1 .taken)
+short-table c =
+    let told = c .before in
+    no-room (some-read (told .before .found .given .1) (read told .read-table .ensures)) (c .if1 .taken)
 
 mul-copy : tie.Need-mul-copy
-mul-copy c = omega (arith, few-equations (writes (c .before .before)))
+mul-copy c =
+    let told = c .before .before in
+    omega (arith, few-equations (some-read (told .before .found .given .1) (read told .read-table .ensures)))
 
 table-read : tie.Need-returns-3
 table-read c =
     let copy = c .before .before in
     let there = room copy in
     let told = there .before in
-    copied (start (read told) .args .table .now) _ (writes told) (there .if1 .left) (copy .copy .ensures)
+    let table = read told in
+    copied (start table .args .table .now) _ (some-read (told .before .found .given .1) (table .read-table .ensures))
+    (there .if1 .left) (copy .copy .ensures)
 
 pub read-lustre-spec : {M : Type 1} → statement M
 read-lustre-spec =

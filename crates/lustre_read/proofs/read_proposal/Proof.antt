@@ -6,11 +6,11 @@ use mathlib.Core.List.{List, _++_}
 use Prim.Native.Nat.{ℕ, _+_}
 use lib.ListN.{drop}
 use Rattle.tables.specs.Table.{closingCount}
-use Rattle.lustre.specs.Read.{Writes}
 use Rattle.lustre.specs.Form.{equationOf}
 use Rattle.lustre.specs.Scan.{scan}
 use Rattle.lustre.specs.Scan.Scanned.{scanned}
 use Rattle.lustre.proofs.Parts.{opening, closing}
+use Rattle.lustre_read.specs.Inner.{Proposed}
 use Rattle.lustre_read.proofs.Reading.{found-told, unlike-told}
 use Rattle.lustre_read.proofs.Whole.{no-opening, opening-found, no-closing, bytes-left, other-last, proposes}
 use Rattle.lustre_read.proofs.read_proposal.Statement.{statement}
@@ -104,7 +104,7 @@ lastNamed c =
 
 -- If they do not, no table writes the text:
 others-named : (c : tie.After-known-told2) → (lastNamed c → ⊥)
-    → (t : List ℕ) (m : ℕ) → Writes t m (entry (last c) .args .text .now) → ⊥
+    → (t : List ℕ) (m : ℕ) → Proposed (entry (last c) .args .text .now) t m → ⊥
 others-named c h =
     let here = last c in
     let read = lines here in

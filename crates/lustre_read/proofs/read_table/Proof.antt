@@ -4,7 +4,7 @@ use borrow.Author.Needs.{needs}
 use mathlib.Core.Path.{sym, _∙_}
 use native.Mathlib.Omega.{arith}
 use Rattle.lustre_read.specs.Inner.{Proposed}
-use Rattle.lustre_read.proofs.Answers.{none-proposed, some-proposed, ill-formed, well-formed}
+use Rattle.lustre_read.proofs.Answers.{none-proposed, some-proposed, can-propose, ill-formed, well-formed}
 use Rattle.lustre_read.proofs.read_table.Statement.{statement}
 use Rattle.lustre_read.proofs.read_table.Tie as tie
 
@@ -22,25 +22,21 @@ told c = c .before .before
 proposed : (c : tie.After-known-told) →
     let here = read c in
     Proposed (start here .args .text .now) (here .read-proposal .last .1 .0) (c .before .proposal .given .0 .0)
-proposed c =
-    let here = read c in
-    let proposal = here .read-proposal in
-    let given = c .before .proposal .given in
-    some-proposed (start here .args .text .now) (proposal .last .1 .0) (proposal .result) (given .0 .0) (given .1)
-    (proposal .ensures)
+proposed c = some-proposed (c .before .proposal .given .1) (read c .read-proposal .ensures)
 
 nothing-proposed : tie.Need-returns
 nothing-proposed c =
     let here = c .before .before .before .before in
-    let proposal = here .read-proposal in
-    none-proposed (start here .args .text .now) (proposal .last .1 .0) (proposal .result) (c .enum-told .given .1)
-    (proposal .ensures)
+    let none = none-proposed _ (c .enum-told .given .1) (here .read-proposal .ensures) in
+    λ t n s. none t n (can-propose (start here .pre .0) s)
 
 check-failed : tie.Need-returns-2
 check-failed c =
     let check = c .before .before in
+    let there = told check in
     let failed = c .enum-told3 .given in
-    ill-formed (failed .0 .0) (proposed (told check)) (omega arith) (sym (failed .1) ∙ check .check-table .ensures)
+    ill-formed (failed .0 .0) (start (read there) .pre .0) (proposed there) (omega arith)
+    (sym (failed .1) ∙ check .check-table .ensures)
 
 check-passed : tie.Need-returns-3
 check-passed c =

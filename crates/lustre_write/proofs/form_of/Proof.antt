@@ -58,8 +58,12 @@ of-compare-parameter : tie.Need-returns-12
 unfolding kindOf forms firstOf firstForm formNumber
 of-compare-parameter c = rw (c .before .match .keys12)
 
+of-velocity : tie.Need-returns-13
+unfolding kindOf forms firstOf firstForm formNumber
+of-velocity c = rw (c .before .match .keys13)
+
 -- No other number is that of a kind.
-of-other : tie.Need-returns-13
+of-other : tie.Need-returns-14
 unfolding formNumber
 of-other c = rw (kind-beyond _ (none-below _ kindCount (c .match .rest)))
 
@@ -67,6 +71,8 @@ pub form-of-spec : {M : Type 1} → statement M
 form-of-spec =
     tie.close
     (tie.spec
+    (λ c. search needs)
+    (λ c. search needs)
     (λ c. search needs)
     (λ c. search needs)
     (λ c. search needs)
@@ -87,4 +93,5 @@ form-of-spec =
     of-if
     of-compare-literal
     of-compare-parameter
+    of-velocity
     of-other)

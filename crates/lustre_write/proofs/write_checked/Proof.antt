@@ -19,17 +19,19 @@ room-known c = c .before .before
 too-long : tie.Need-returns
 too-long c =
     let text = measured (c .before) in
-    write-short _ _ _ (start (text .before) .pre) (text .write-text .ensures) (c .if1 .taken)
+    write-short _ _ _ _ (start (text .before) .pre .1) (text .write-text .ensures) (c .if1 .taken)
 
 table-plain : tie.Need-write-text-requires-2
-table-plain c κs = well-plain _ _ (start (measured (c .before .before) .before) .pre)
+table-plain c κs =
+    let ready = start (measured (c .before .before) .before) .pre in
+    well-plain _ _ _ (ready .0) (ready .1)
 
 stored : tie.Need-returns-2
 stored c =
     let written = c .before .before in
     let fits = room-known written in
     let text = measured (fits .before) in
-    write-done _ _ _ (start (text .before) .pre) (text .write-text .ensures) (fits .if1 .left)
+    write-done _ _ _ _ (start (text .before) .pre .1) (text .write-text .ensures) (fits .if1 .left)
     (written .write-text2 .ensures)
 
 pub write-checked-spec : {M : Type 1} → statement M
@@ -38,7 +40,7 @@ write-checked-spec =
     (tie.spec
     (λ c. search needs)
     (λ c. search needs)
-    (λ c κs. well-plain _ _ (start c .pre))
+    (λ c κs. well-plain _ _ _ (start c .pre .0) (start c .pre .1))
     (λ c. search needs)
     too-long
     table-plain

@@ -20,6 +20,10 @@ below : tie.Need-returns-4
 unfolding mixedNumber
 below c = rw (c .enum-told4 .given .1)
 
+a-velocity : tie.Need-returns-5
+unfolding mixedNumber
+a-velocity c = rw (c .enum-told5 .given .1)
+
 pub named-spec : {M : Type 1} → statement M
 named-spec =
     tie.close
@@ -30,7 +34,9 @@ named-spec =
     (λ c. search needs)
     (λ c κs. search needs)
     (λ c. search needs)
+    (λ c. search needs)
     unused
     earlier
     anywhere
-    below)
+    below
+    a-velocity)

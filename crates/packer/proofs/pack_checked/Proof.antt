@@ -11,7 +11,7 @@ abbrev start : tie.Else1 → tie.Start
 start c = c .before .before .before
 
 no-room : tie.Need-returns
-no-room c = pack-no-room _ _ _ (c .before .before .before .pre) (c .if1 .taken)
+no-room c = pack-no-room _ _ _ (c .if1 .taken)
 
 small : tie.Need-pack-small-requires
 small c κs =

@@ -17,7 +17,7 @@ pack-within c κs =
     let pre = start c .pre in
     let few = fitted _ _ (pre .0) .few in
     record {
-      passed = pre .0;
+      passing = pre .0;
       room = pre .1;
       rooms = record { in-names = few; in-before = few; in-next = few; in-heads = few };
     }

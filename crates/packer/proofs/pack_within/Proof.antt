@@ -6,12 +6,11 @@ use Prim.Native.Nat.{_≤_}
 use native.Mathlib.Omega.{arith}
 use borrow.Author.Needs.{needs}
 use lib.ListN.{length}
-use Rattle.tables.proofs.Checks.{checked-fitting}
 use Rattle.packer.specs.Round.{Fitted}
 use Rattle.packer.specs.Mark.{Named}
 use Rattle.packer.specs.Place.{Marked, Placed}
 use Rattle.packer.proofs.Cleared.{cleared-by, cleared-filled}
-use Rattle.packer.proofs.Whole.{fitted, filled-by}
+use Rattle.packer.proofs.Whole.{fitted, closed, filled-by}
 use Rattle.packer.proofs.pack_within.Statement.{statement}
 use Rattle.packer.proofs.pack_within.Tie as tie
 
@@ -51,7 +50,7 @@ abbrev start : tie.After-classify-arg4 → tie.Start
 start c = known c .before .before .before
 
 fits : (c : tie.Start) → Fitted (c .args .table .now) (c .args .n)
-fits c = fitted _ _ (c .pre .passed)
+fits c = fitted _ _ (c .pre .passing)
 
 -- What the parts leave: classes, marks, places.
 classes-there : (c : tie.After-classify) →
@@ -91,7 +90,7 @@ mark c κs =
     let classed = classes-there (named c) in (
       record {
         fitted = fits begin;
-        two = checked-fitting _ _ (begin .pre .passed) .closed;
+        two = closed _ _ (begin .pre .passing);
         names = classed .1;
         named = classed .0;
         room = heads-there (named c);

@@ -62,8 +62,8 @@ known c =
     let args = start c .args in
     let pre = start c .pre in
     rw (turns c)
-    (turned (args .table .now) (args .n) (numberAt (args .before .now)) (given c) (pre .0 .equations) (pre .1) (pre .2)
-    (pre .3) (c .loop .i) (c .loop .inv .0))
+    (turned (pre .0 .velocities) (args .table .now) (args .n) (numberAt (args .before .now)) (given c)
+    (pre .0 .equations) (pre .1) (pre .2) (pre .3) (c .loop .i) (c .loop .inv .0))
 
 loop-holds : tie.Need-loop-holds Inv-loop μ-loop
 unfolding roundOf

@@ -54,6 +54,10 @@ constant : tie.Need-returns-4
 unfolding visited
 constant c = rw (c .enum-told4 .given .1)
 
+a-velocity : tie.Need-returns-5
+unfolding visited
+a-velocity c = rw (c .enum-told5 .given .1)
+
 pub visit-spec : {M : Type 1} → statement M
 visit-spec =
     tie.close
@@ -68,6 +72,7 @@ visit-spec =
     anywhere-read
     anywhere
     (λ c. search needs)
+    (λ c. search needs)
     unused
     (λ c. search needs)
     (λ c. search needs)
@@ -75,4 +80,5 @@ visit-spec =
     (λ c. search needs)
     (λ c. search needs)
     pushed′
-    constant)
+    constant
+    a-velocity)
