@@ -24,7 +24,7 @@ pub fn both(a: bool, b: bool) -> bool
     if a { b } else { false }
 }
 
-// The facts of `0`, `1` and a signal.
+// The facts of `0`, `1`, a signal and a velocity test.
 pub fn leaf_facts() -> Facts
     ensures { λ r. ⌜ r ≡ leafFacts ⌝ }
 {

@@ -11,12 +11,12 @@ use borrow.Author.Tests.{eq-eqb, ne-eqb}
 use Rattle.traces.specs.declared.Op.{Op}
 use Rattle.formulas.specs.Formula.{Num}
 use Rattle.formulas.specs.Tree.{Tree}
-use Rattle.formulas.specs.Tree.Tree.{constant, signal, and, or, len, count}
+use Rattle.formulas.specs.Tree.Tree.{constant, signal, velocity, and, or, len, count}
 use Rattle.words.specs.Word.{ROUND, ROUND-END, NOT, AND, OR, BEGIN, KEPT, LEN, SUM, AGE, LAG}
-use Rattle.words.specs.Word.{THEN, CHOP, EXISTS, SIGNAL}
-use Rattle.words.specs.Word.{isOp, isSignal, isNum, isBit, isTest, isCount}
+use Rattle.words.specs.Word.{THEN, CHOP, EXISTS, VEL, SIGNAL}
+use Rattle.words.specs.Word.{isOp, isSignal, isNum, isVelocity, isBit, isTest, isCount}
 use Rattle.words.proofs.Classes.{within-above}
-use Rattle.grammar.specs.Grammar.{Symbol, bitWord, signalWord, opWord, numWord, countWord}
+use Rattle.grammar.specs.Grammar.{Symbol, bitWord, signalWord, velocityWord, opWord, numWord, countWord}
 use Rattle.grammar.specs.Grammar.Symbol.{F, D, C, U, B}
 use Rattle.grammar.specs.Parse.{Result, Join, Unit as First, Atom, word, bind, joinOf, unitOf, atomOf}
 use Rattle.grammar.specs.Parse.{leafAt, withComparison, closed}
@@ -29,7 +29,7 @@ use Rattle.grammar.specs.Parse.Unit.{unit-not, unit-round, unit-leaf, un
 use Rattle.grammar.specs.Parse.Atom.{atom-test, atom-len, atom-count, atom-lag}
 use Rattle.grammar.proofs.Position.{DerivesAt, within-high, signal-pos, bit-pos, test-pos, count-pos}
 use Rattle.grammar.proofs.Position.DerivesAt.{f-one, f-then, f-chop, d-one, d-or, c-one, c-and}
-use Rattle.grammar.proofs.Position.DerivesAt.{u-not, u-exists, u-round, u-constant, u-signal}
+use Rattle.grammar.proofs.Position.DerivesAt.{u-not, u-exists, u-round, u-constant, u-signal, u-velocity}
 use Rattle.grammar.proofs.Position.DerivesAt.{u-test, u-len, u-count, u-lag, b-between}
 use Rattle.grammar.proofs.Sound.{read-eq, read-holds}
 
@@ -84,6 +84,15 @@ lag-atom w e = ap atomOf e
 bit-signal : (w : ℕ) → isBit w ≡ true → isSignal w ≡ false
 unfolding isSignal
 bit-signal w h = within-above SIGNAL _ w (omega (arith, bit-pos w h))
+
+-- `v` is neither.
+vel-signal : (w : ℕ) → w ≡ VEL → isSignal w ≡ false
+unfolding isSignal
+vel-signal w e = ap isSignal e
+
+vel-bit : (w : ℕ) → w ≡ VEL → isBit w ≡ false
+unfolding isBit
+vel-bit w e = ap isBit e
 
 -- A word that joins no further F to a D.
 pub stop-join : (l : Bool) (w : ℕ) → (w ≡ THEN → ⊥) → (w ≡ CHOP → ⊥) → joinOf l w ≡ join-none
@@ -148,7 +157,7 @@ module _ (ws : List ℕ) where
       read ws (goD l) i ≡ ok a m → joinOf l (word ws m) ≡ k → read ws (goF l) i ≡ stepF ws (read ws) k a m
   F-at l i {a} {m} k e f = read-eq ws (goF l) i ∙ then-on _ e ∙ ap (λ (x : Join). stepF ws (read ws) x a m) f
 
-  -- What a closing word, a comparison, and a leaf's word make.
+  -- What a closing word, a comparison, and a leaf's words make.
   pub closed-at : (w : ℕ) (t : Tree) (j : ℕ) → word ws j ≡ w → closed ws w t j ≡ ok t (j + 1)
   closed-at w t j e = ap (λ (x : Bool). cond x (ok t (j + 1)) no-rule) (eq-eqb _ _ e)
 
@@ -163,6 +172,12 @@ module _ (ws : List ℕ) where
 
   bit-at : (i : ℕ) → isBit (word ws i) ≡ true → leafAt ws i ≡ ok (constant (bitWord (word ws i))) (i + 1)
   bit-at i h = rw (bit-signal (word ws i) h, h)
+
+  velocity-at : (i : ℕ) →
+      word ws i ≡ VEL → isOp (word ws (i + 1)) ≡ true → isVelocity (word ws (i + 2)) ≡ true →
+      leafAt ws i ≡ ok (velocity (opWord (word ws (i + 1))) (velocityWord (word ws (i + 2)))) (i + 3)
+  velocity-at i e h n =
+      simp (vel-signal (word ws i) e, vel-bit (word ws i) e, eq-eqb (word ws i) VEL e, h, n)
 
   -- ---- completeness
 
@@ -200,6 +215,7 @@ module _ (ws : List ℕ) where
       ∙ closed-at ROUND-END t j f
   complete (u-constant {i} h) = U-at true i unit-leaf (bit-leaf (word ws i) h) ∙ bit-at i h
   complete (u-signal {i} h) = U-at true i unit-leaf (signal-leaf (word ws i) h) ∙ signal-at i h
+  complete (u-velocity {i} e h n) = U-at true i unit-leaf (ap (unitOf true) e) ∙ velocity-at i e h n
   complete (u-test {i} {j} {p} h r) =
       U-at false i unit-atom (test-unit (word ws i) h)
       ∙ A-at i atom-test (test-atom (word ws i) h)

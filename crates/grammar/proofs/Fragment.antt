@@ -9,18 +9,19 @@ use lib.Dec.{eqb}
 use borrow.Author.Tests.{ne-eqb}
 use Rattle.formulas.specs.Formula.{Prop, Formula}
 use Rattle.formulas.specs.Tree.{Tree, map, map₂, propOf, formulaOf}
-use Rattle.formulas.specs.Tree.Tree.{constant, signal, neg, and, or, then, chop, exists, test, len, count, lag}
+use Rattle.formulas.specs.Tree.Tree.{constant, signal, velocity, neg, and, or, then, chop, exists, test, len, count}
+use Rattle.formulas.specs.Tree.Tree.{lag}
 use Rattle.words.specs.Word.{ROUND-END, AND, OR, LE, GE, BEGIN, KEPT, SUM, AGE}
 use Rattle.words.specs.Word.{THEN, CHOP, EXISTS}
-use Rattle.words.specs.Word.{isOp, isSignal, isNum, isBit, isTest, isCount}
+use Rattle.words.specs.Word.{isOp, isSignal, isNum, isVelocity, isBit, isTest, isCount}
 use Rattle.grammar.specs.Grammar.{Symbol, Derives, Rule}
-use Rattle.grammar.specs.Grammar.{bitWord, signalWord, opWord, numWord, testWord, countWord}
+use Rattle.grammar.specs.Grammar.{bitWord, signalWord, velocityWord, opWord, numWord, testWord, countWord}
 use Rattle.grammar.specs.Grammar.Symbol.{F, D, C, U, B}
 use Rattle.grammar.specs.Grammar.Derives.{F-one, F-then, F-chop, D-one, D-or, C-one, C-and}
-use Rattle.grammar.specs.Grammar.Derives.{U-not, U-exists, U-round, U-constant, U-signal}
+use Rattle.grammar.specs.Grammar.Derives.{U-not, U-exists, U-round, U-constant, U-signal, U-velocity}
 use Rattle.grammar.specs.Grammar.Derives.{U-test, U-len, U-count, U-lag, B-between}
 use Rattle.grammar.specs.Fragment.{hasWord, beyond}
-use Rattle.grammar.proofs.Position.{within-high, num-pos, bit-pos, signal-pos}
+use Rattle.grammar.proofs.Position.{within-high, num-pos, bit-pos, signal-pos, velocity-pos}
 
 -- ---- words
 
@@ -76,6 +77,9 @@ num-hit w h = high w (omega (arith, num-pos w h))
 signal-hit : (w : ℕ) → isSignal w ≡ true → hit w ≡ false
 signal-hit w h = high w (omega (arith, signal-pos w h))
 
+velocity-hit : (w : ℕ) → isVelocity w ≡ true → hit w ≡ false
+velocity-hit w h = high w (omega (arith, velocity-pos w h))
+
 bit-hit : (w : ℕ) → isBit w ≡ true → hit w ≡ false
 bit-hit w h = high w (omega (arith, bit-pos w h))
 
@@ -85,6 +89,7 @@ bit-hit w h = high w (omega (arith, bit-pos w h))
 abbrev outside : Tree → Bool
 outside (constant c) = false
 outside (signal j) = false
+outside (velocity o n) = false
 outside (neg t) = outside t
 outside (and a b) = outside a || outside b
 outside (or a b) = outside a || outside b
@@ -118,6 +123,7 @@ hits-outside (U-exists h g) = refl
 hits-outside (U-round {s = s} g) = hits-append s (ROUND-END ∷ []) ∙ or-false (hits s) ∙ hits-outside g
 hits-outside (U-constant {w} h) = or-false (hit w) ∙ bit-hit w h
 hits-outside (U-signal {w} h) = or-false (hit w) ∙ signal-hit w h
+hits-outside (U-velocity {o} {n} h m) = ap₂ _||_ (op-hit o h) (or-false (hit n) ∙ velocity-hit n m)
 hits-outside (U-test {k} {s} h g) = ap₂ _||_ (test-hit k h) (hits-outside g)
 hits-outside (U-len {o} {n} h m) = ap₂ _||_ (op-hit o h) (or-false (hit n) ∙ num-hit n m)
 hits-outside (U-count {k} {s} o n h g p q) =
@@ -181,6 +187,7 @@ means (U-exists h g) e = absurd (true≢false e)
 means (U-round g) e = means g e
 means (U-constant {w} h) e = (Prop.constant (bitWord w), refl)
 means (U-signal {w} h) e = (Prop.signal (signalWord w), refl)
+means (U-velocity {o} {n} h m) e = (Prop.velocity (opWord o) (velocityWord n), refl)
 means (U-test {k} h g) e =
     let x = means g e in
     (Formula.test (testWord k) (x .0), ap (map (Formula.test (testWord k))) (x .1))
@@ -213,6 +220,7 @@ both-none f x y false b p q e = ap (map₂ f x) (q e) ∙ right-none f x
 no-prop : (t : Tree) → outside t ≡ true → propOf t ≡ none
 no-prop (constant c) e = absurd (false≢true e)
 no-prop (signal j) e = absurd (false≢true e)
+no-prop (velocity o n) e = absurd (false≢true e)
 no-prop (neg t) e = one-none Prop.negP (propOf t) (no-prop t e)
 no-prop (and a b) e = both-none Prop.andP (propOf a) (propOf b) (outside a) (outside b) (no-prop a) (no-prop b) e
 no-prop (or a b) e = both-none Prop.orP (propOf a) (propOf b) (outside a) (outside b) (no-prop a) (no-prop b) e
@@ -228,6 +236,7 @@ no-prop (lag p n q) e = refl
 no-formula : (t : Tree) → outside t ≡ true → formulaOf t ≡ none
 no-formula (constant c) e = refl
 no-formula (signal j) e = refl
+no-formula (velocity o n) e = refl
 no-formula (neg t) e = one-none Formula.neg (formulaOf t) (no-formula t e)
 no-formula (and a b) e =
     both-none Formula.and (formulaOf a) (formulaOf b) (outside a) (outside b) (no-formula a) (no-formula b) e

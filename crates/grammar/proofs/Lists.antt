@@ -9,16 +9,16 @@ use lib.ListN.{length, take, drop, length-append, take-append-drop}
 use lib.Seq.{slice, slice-cons, slice-empty, take-take, drop-append-le, length-take-le, getD-at, take-length}
 use Rattle.formulas.specs.Tree.{Tree}
 use Rattle.words.specs.Word.{ROUND-END, AND, OR, THEN, CHOP}
-use Rattle.words.specs.Word.{isOp, isSignal, isNum, isBit, isTest, isCount}
+use Rattle.words.specs.Word.{isOp, isSignal, isNum, isVelocity, isBit, isTest, isCount}
 use Rattle.grammar.specs.Grammar.{Symbol, Derives}
 use Rattle.grammar.specs.Grammar.Symbol.{F}
 use Rattle.grammar.specs.Grammar.Derives.{F-one, F-then, F-chop, D-one, D-or, C-one, C-and}
-use Rattle.grammar.specs.Grammar.Derives.{U-not, U-exists, U-round, U-constant, U-signal}
+use Rattle.grammar.specs.Grammar.Derives.{U-not, U-exists, U-round, U-constant, U-signal, U-velocity}
 use Rattle.grammar.specs.Grammar.Derives.{U-test, U-len, U-count, U-lag, B-between}
 use Rattle.grammar.specs.Parse.{word}
-use Rattle.grammar.proofs.Position.{DerivesAt, span, inside, num-pos, signal-pos, bit-pos}
+use Rattle.grammar.proofs.Position.{DerivesAt, span, inside, num-pos, signal-pos, velocity-pos, bit-pos}
 use Rattle.grammar.proofs.Position.DerivesAt.{f-one, f-then, f-chop, d-one, d-or, c-one, c-and}
-use Rattle.grammar.proofs.Position.DerivesAt.{u-not, u-exists, u-round, u-constant, u-signal}
+use Rattle.grammar.proofs.Position.DerivesAt.{u-not, u-exists, u-round, u-constant, u-signal, u-velocity}
 use Rattle.grammar.proofs.Position.DerivesAt.{u-test, u-len, u-count, u-lag, b-between}
 
 -- ---- from positions to lists: the words from i up to j are `slice i j ws`
@@ -64,7 +64,15 @@ module _ (ws : List ℕ) where
       ∙ ap (λ (x : ℕ). word ws i ∷ slice (i + 1) x ws) (sym e)
       ∙ ap (λ (x : List ℕ). word ws i ∷ x) (one (i + 1) h)
 
-  -- and after a word and a part.
+  -- three,
+  triple : (i : ℕ) → i + 2 < length ws → slice i (i + 3) ws ≡ word ws i ∷ word ws (i + 1) ∷ word ws (i + 2) ∷ []
+  triple i h =
+      let two : i + 1 + 1 ≡ i + 2 = omega arith in
+      let three : i + 1 + 2 ≡ i + 3 = omega arith in
+      first i (i + 3) (omega arith) (omega arith)
+      ∙ ap (λ (x : List ℕ). word ws i ∷ x) (rw (two, three) at (pair (i + 1) (omega arith)))
+
+  -- and two after a word and a part.
   measured : (i j : ℕ) → i + 1 < j → j + 1 < length ws →
       slice i (j + 2) ws ≡ word ws i ∷ slice (i + 1) j ws ++ word ws j ∷ word ws (j + 1) ∷ []
   measured i j p q =
@@ -99,6 +107,9 @@ to-list {ws} (u-round {l} {i} {j} e r f) =
     rw (bracketed ws i j (span r .moves) (inside ws j (omega arith)), e, f) (U-round (to-list r))
 to-list {ws} (u-constant {i} h) = rw (one ws i (inside ws i (omega (arith, bit-pos (word ws i) h)))) (U-constant h)
 to-list {ws} (u-signal {i} h) = rw (one ws i (inside ws i (omega (arith, signal-pos (word ws i) h)))) (U-signal h)
+to-list {ws} (u-velocity {i} e h n) =
+    let k = inside ws (i + 2) (omega (arith, velocity-pos (word ws (i + 2)) n)) in
+    rw (triple ws i k, e) (U-velocity h n)
 to-list {ws} (u-test {i} {j} h r) =
     let x = span r in
     rw (first ws i j (omega arith) (x .within)) (U-test h (to-list r))
@@ -204,6 +215,13 @@ to-position (U-round {s = s} g) x =
     rw (next z) (u-round (head x) (to-position g (left s (ROUND-END ∷ []) y)) (head z))
 to-position (U-constant h) x = let e = head x in rw (next x, ← e) (u-constant (ap isBit e ∙ h))
 to-position (U-signal h) x = let e = head x in rw (next x, ← e) (u-signal (ap isSignal e ∙ h))
+to-position {i = i} {j = j} (U-velocity h n) x =
+    let y = tail x in
+    let e = head y in
+    let two : i + 1 + 1 ≡ i + 2 = omega arith in
+    let f = head (rw two at (tail y)) in
+    let three : j ≡ i + 3 = omega arith in
+    rw (three, ← e, ← f) (u-velocity (head x) (ap isOp e ∙ h) (ap isVelocity f ∙ n))
 to-position (U-test h g) x =
     let e = head x in
     rw (← e) (u-test (ap isTest e ∙ h) (to-position g (tail x)))

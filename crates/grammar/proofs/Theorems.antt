@@ -5,7 +5,7 @@ use mathlib.Core.Path.{_≡_, refl, sym, ap, _∙_}
 use mathlib.Core.Bool.{Bool, true, false, cond}
 use mathlib.Core.List.{List}
 use mathlib.Core.Option.{none, some, Option·none-ne-some}
-use Prim.Native.Nat.{ℕ, _*_, _≤_}
+use Prim.Native.Nat.{ℕ, _-_, _*_, _≤_, _<_}
 use native.Mathlib.Omega.{arith}
 use lib.Dec.{eqb}
 use lib.ListN.{length}
@@ -15,7 +15,7 @@ use Rattle.formulas.specs.Formula.{Formula}
 use Rattle.formulas.specs.Tree.{Tree, nodes, formulaOf}
 use Rattle.formulas.specs.Arena.{flat}
 use Rattle.formulas.specs.Bounds.{bounded}
-use Rattle.words.specs.Word.{lastWord}
+use Rattle.words.specs.Word.{VELOCITY, lastWord, isVelocity}
 use Rattle.grammar.specs.Grammar.{Rule}
 use Rattle.grammar.specs.Fragment.{beyond}
 use Rattle.grammar.specs.Parse.{Result, word, ended, read, treeOf}
@@ -64,9 +64,12 @@ module _ (ws : List ℕ) (t : Tree) where
   pub rule-none : Rule ws t → beyond ws ≡ true → formulaOf t ≡ none
   rule-none g e = Fragment.rule-none ws t g e
 
-  -- A rule names signals, parameters (SPEC 2.6) and literals (SPEC 2.7) in their ranges, where its words are words.
-  pub rule-numbers : Rule ws t → ((i : ℕ) → word ws i ≤ lastWord) → bounded literalCount t ≡ true
-  rule-numbers g h = numbers h (placed ws t g)
+  -- A rule names signals, parameters (SPEC 2.6), literals (SPEC 2.7) and literals of velocity tests (SPEC 2.11) in
+  -- their ranges, where its words are words and no literal of a velocity test is that many velocities or more.
+  pub rule-numbers : (velocities : ℕ) → Rule ws t → ((i : ℕ) → word ws i ≤ lastWord) →
+      ((i : ℕ) → isVelocity (word ws i) ≡ true → word ws i - VELOCITY < velocities) →
+      bounded literalCount velocities t ≡ true
+  rule-numbers velocities g h v = numbers velocities h v (placed ws t g)
 
 -- Where the parser gives no tree, the words are no rule.
 pub no-tree : (ws : List ℕ) → treeOf ws ≡ none → (t : Tree) → Rule ws t → ⊥

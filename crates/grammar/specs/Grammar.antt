@@ -13,17 +13,22 @@ use Rattle.formulas.specs.Formula.Num.{literal, parameter}
 use Rattle.formulas.specs.Formula.Test.{begin, end, point, held, kept}
 use Rattle.formulas.specs.Formula.Count.{sum, age}
 use Rattle.formulas.specs.Tree.{Tree}
-use Rattle.formulas.specs.Tree.Tree.{constant, signal, neg, and, or, then, chop, exists, test, len, count, lag}
+use Rattle.formulas.specs.Tree.Tree.{constant, signal, velocity, neg, and, or, then, chop, exists, test, len, count}
+use Rattle.formulas.specs.Tree.Tree.{lag}
 use Rattle.words.specs.Word.{ROUND, ROUND-END, SQUARE, SQUARE-END, NOT, AND, OR, LE, COMMA, BEGIN, LEN, SUM, LAG}
-use Rattle.words.specs.Word.{THEN, CHOP, EXISTS, PARAMETER, SIGNAL, LITERAL}
-use Rattle.words.specs.Word.{isOp, isSignal, isNum, isBit, isTest, isCount}
+use Rattle.words.specs.Word.{THEN, CHOP, EXISTS, VEL, PARAMETER, SIGNAL, VELOCITY, LITERAL}
+use Rattle.words.specs.Word.{isOp, isSignal, isNum, isVelocity, isBit, isTest, isCount}
 
--- What a word stands for in a tree: the constants `0` and `1`, a signal's number, a comparison, n, a test, a count.
+-- What a word stands for in a tree: the constants `0` and `1`, a signal's number, the literal of a velocity test, a
+-- comparison, n, a test, a count.
 abbrev pub bitWord : ℕ → Bool
 bitWord w = nonzero (w - LITERAL)
 
 abbrev pub signalWord : ℕ → ℕ
 signalWord w = w - SIGNAL
+
+abbrev pub velocityWord : ℕ → ℕ
+velocityWord w = w - VELOCITY
 
 abbrev pub opWord : ℕ → Op
 opWord w = opOf (w - LE)
@@ -73,6 +78,9 @@ pub data Derives : Bool → Symbol → List ℕ → Tree → Type 0 where
   -- SPEC 3.6: what P has in place of atoms
   U-constant : {w : ℕ} → isBit w ≡ true → Derives true U (w ∷ []) (constant (bitWord w))
   U-signal : {w : ℕ} → isSignal w ≡ true → Derives true U (w ∷ []) (signal (signalWord w))
+  U-velocity : {o n : ℕ}
+      → isOp o ≡ true → isVelocity n ≡ true
+      → Derives true U (VEL ∷ o ∷ n ∷ []) (velocity (opWord o) (velocityWord n))
   -- SPEC 3.5: atoms
   U-test : {k : ℕ} {s : List ℕ} {p : Tree}
       → isTest k ≡ true → Derives false Square s p → Derives false U (k ∷ s) (test (testWord k) p)

@@ -21,7 +21,7 @@ use Rattle.grammar.proofs.Position.{DerivesAt, Span, sized, inside}
 use Rattle.grammar.proofs.Sound.{Holds, read-holds}
 use Rattle.facts.specs.Facts.{factsOf}
 use Rattle.facts.specs.declared.Facts.{Facts}
-use Rattle.parser.specs.Contract.{parsedOf, Parses, Room, Opening, Pushed}
+use Rattle.parser.specs.Contract.{parsedOf, Parses, ParsesBy, Room, Opening, Pushed}
 use Rattle.parser.specs.declared.Parsed.{Parsed}
 use Rattle.parser.specs.declared.Parsed.the-variants.{At, No}
 
@@ -130,7 +130,7 @@ module _ {g : Goal} {ws : List ℕ} {i : ℕ} {before : List ℕ} {top : ℕ} {r
 
 -- ---- what a return has to say
 
--- What the answer r and the arena say of a result x, as in `Parses` and in `ParsesLeaf`.
+-- What the answer r and the arena say of a result x, as in `Parses` and in `ParsesBy`.
 pub record ParsesTo (x : Result) (before : List ℕ) (top : ℕ) (r : Parsed) (after : List ℕ) : Type 0 where
   pub result : r ≡ parsedOf x top
   pub filled : (t : Tree) (j : ℕ) → x ≡ ok t j → after ≡ sets before top (flat t)
@@ -159,8 +159,13 @@ module _ {x : Result} {before : List ℕ} {top : ℕ} {after : List ℕ} where
   pub to-same : {y : Result} {r : Parsed} → x ≡ y → ParsesTo y before top r after → ParsesTo x before top r after
   to-same {r = r} q h = subst (λ (z : Result). ParsesTo z before top r after) (sym q) h
 
+-- In the terms of the contracts: of what a definition reads,
+pub reads-to : {reads : List ℕ → ℕ → Result} {ws : List ℕ} {i : ℕ} {before : List ℕ} {top : ℕ} {r : Parsed}
+    {after : List ℕ} → ParsesTo (reads ws i) before top r after → ParsesBy reads ws i before top r after
+reads-to h = record { result = h .result; filled = h .filled }
+
 module _ {g : Goal} {ws : List ℕ} {i : ℕ} {before : List ℕ} {top : ℕ} {after : List ℕ} where
-  -- In the terms of the contracts.
+  -- and of a goal.
   pub parses : {r : Parsed} → ParsesTo (read ws g i) before top r after → Parses g ws i before top r after
   parses h = record { result = h .result; filled = h .filled }
 

@@ -13,7 +13,7 @@ use Rattle.formulas.specs.Tree.{Tree, upper}
 use Rattle.formulas.specs.Arena
 use Rattle.formulas.specs.Arena.{row, flat, numKind, numValue}
 use Rattle.grammar.specs.Grammar.{opWord, numWord}
-use Rattle.grammar.specs.Parse.{Result, Goal, read, word, leafAt, comparisonAt}
+use Rattle.grammar.specs.Parse.{Result, Goal, read, word, velocityAt, leafAt, comparisonAt}
 use Rattle.grammar.specs.Parse.Result.{no-rule, ok}
 use Rattle.grammar.specs.Parse.Goal.{goF}
 use Rattle.facts.specs.Facts.{factsOf, atomFacts, thenFacts, chopFacts}
@@ -74,10 +74,19 @@ pub record Pushed (before : List ℕ) (top k a b c : ℕ) (r : ℕ) (after : Lis
   pub end : r ≡ top + 4
   pub filled : after ≡ sets before top (row k a b c)
 
--- `0`, `1` or a signal at position i.
-pub record ParsesLeaf (ws : List ℕ) (i : ℕ) (before : List ℕ) (top : ℕ) (r : Parsed) (after : List ℕ) : Type 0 where
-  pub result : r ≡ parsedOf (leafAt ws i) top
-  pub filled : (t : Tree) (j : ℕ) → leafAt ws i ≡ ok t j → after ≡ sets before top (flat t)
+-- What `reads` has at position i is read.
+pub record ParsesBy (reads : List ℕ → ℕ → Result) (ws : List ℕ) (i : ℕ) (before : List ℕ) (top : ℕ) (r : Parsed)
+    (after : List ℕ) : Type 0 where
+  pub result : r ≡ parsedOf (reads ws i) top
+  pub filled : (t : Tree) (j : ℕ) → reads ws i ≡ ok t j → after ≡ sets before top (flat t)
+
+-- A velocity test at position i.
+abbrev pub ParsesVelocity : List ℕ → ℕ → List ℕ → ℕ → Parsed → List ℕ → Type 0
+ParsesVelocity = ParsesBy velocityAt
+
+-- `0`, `1`, a signal or a velocity test at position i.
+abbrev pub ParsesLeaf : List ℕ → ℕ → List ℕ → ℕ → Parsed → List ℕ → Type 0
+ParsesLeaf = ParsesBy leafAt
 
 -- The record of kind k that ends with the comparison o and the number n.
 abbrev pub comparisonRecord : ℕ → Op → Num → List ℕ

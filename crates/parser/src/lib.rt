@@ -8,7 +8,7 @@ ghost use Rattle.limits.specs.Limits.{wordLimit};
 ghost use Rattle.words.specs.Word.{NOT, ROUND, LAG, THEN, CHOP, EXISTS};
 ghost use Rattle.grammar.specs.Parse.Goal.{goF, goD, goC, goU, goA, goB};
 ghost use Rattle.parser.specs.Contract.{Parses, ParsesThen, ParsesChop, Room, Begun, Opening};
-ghost use Rattle.parser.specs.Contract.{Pushed, ParsesLeaf, ParsesComparison};
+ghost use Rattle.parser.specs.Contract.{Pushed, ParsesVelocity, ParsesLeaf, ParsesComparison};
 
 // A tree that was read: the position after its words, the place after its records, and its facts; or none.
 pub enum Parsed {
@@ -28,7 +28,34 @@ fn push(arena: &mut [u32], top: usize, k: u32, a: u32, b: u32, c: u32) -> usize
     top + 4
 }
 
-// SPEC 3.6: `0`, `1` or a signal, the word at a position inside square brackets.
+// SPEC 3.6: a velocity test, three words from a position on inside square brackets: `v`, a comparison and a literal.
+fn velocity(ws: &[u32], at: usize, arena: &mut [u32], top: usize) -> Parsed
+    requires { ⌜ Room (now ws) at (now arena) top ⌝ }
+    ensures { λ r. ⌜ ParsesVelocity (now (ws .entry)) at (now (arena .entry)) top r (now (arena .exit)) ⌝ }
+{
+    if lists::number_at(ws, at) != words::VEL {
+        return Parsed::No;
+    }
+    let o = lists::number_at(ws, at + 1);
+    let n = lists::number_at(ws, at + 2);
+    if !words::is_op(o) {
+        return Parsed::No;
+    }
+    if !words::is_velocity(n) {
+        return Parsed::No;
+    }
+    let end = push(
+        arena,
+        top,
+        formulas::VELOCITY,
+        o - words::LE,
+        n - words::VELOCITY,
+        0,
+    );
+    Parsed::At(at + 3, end, facts::leaf_facts())
+}
+
+// SPEC 3.6: `0`, `1`, a signal or a velocity test, at a position inside square brackets.
 fn leaf(ws: &[u32], at: usize, arena: &mut [u32], top: usize) -> Parsed
     requires { ⌜ Room (now ws) at (now arena) top ⌝ }
     ensures { λ r. ⌜ ParsesLeaf (now (ws .entry)) at (now (arena .entry)) top r (now (arena .exit)) ⌝ }
@@ -42,7 +69,7 @@ fn leaf(ws: &[u32], at: usize, arena: &mut [u32], top: usize) -> Parsed
         let end = push(arena, top, formulas::CONSTANT, w - words::LITERAL, 0, 0);
         return Parsed::At(at + 1, end, facts::leaf_facts());
     }
-    Parsed::No
+    velocity(ws, at, arena, top)
 }
 
 // SPEC 3.5: a comparison and n at a position, the end of an atom, whose record of kind k is written.

@@ -1,18 +1,23 @@
 -- What an answer with records, or with a refusal, says of the outcome, and what it leaves at the front of the arena.
 -- Assumes nothing.
-use mathlib.Core.Path.{_≡_, refl, sym, ap, _∙_}
+use mathlib.Core.Path.{_≡_, refl, sym, ap, _∙_, subst}
 use mathlib.Core.List.{List}
 use Prim.Native.Nat.{ℕ, _+_, _≤_}
 use native.Mathlib.Omega.{arith}
 use lib.ListN.{length, take, drop}
 use lib.Seq.{sets-eq, take-at}
 use Rattle.limits.specs.Limits.{arenaLimit}
+use Rattle.limits.specs.Context.{standardContext}
+use Rattle.limits.specs.declared.Context.{Context}
+use Rattle.words.specs.Contract.{Ranged}
+use Rattle.words.proofs.Bounds.{standard-ranged}
 use Rattle.formulas.specs.Tree.{Tree, nodes}
 use Rattle.formulas.specs.Arena.{flat}
 use Rattle.rules.specs.Reading.{Outcome}
 use Rattle.rules.specs.Reading.Outcome.{refused, rule}
 use Rattle.rules.specs.Contract.{answerOf}
-use Rattle.rules.specs.Laid.{Laid, recordsOf, recordsRefusal}
+use Rattle.rules.specs.Computed.{ruleOf}
+use Rattle.rules.specs.Laid.{Readable, Laid, recordsOf, recordsRefusal}
 use Rattle.rules.specs.declared.Read.the-variants.{Rule, Refused}
 use Rattle.rules.specs.declared.Records.{Records}
 use Rattle.rules.specs.declared.Records.the-variants.{Rule as Tree-records, Refused as No-records}
@@ -26,6 +31,16 @@ laid-refused n e =
       filled = λ t f. cc;
       small = λ t f. absurd (refused-rule (sym e ∙ f));
     }
+
+-- In the context of the specification a tree can be read, and what is read there is read in that context.
+module _ {context : Context} (e : context ≡ standardContext) where
+  pub readable : {arena : List ℕ} → arenaLimit ≤ length arena → Readable context arena
+  readable h = record { ranged = subst Ranged (sym e) standard-ranged; room = h }
+
+  pub standard-laid : (text : List ℕ) {before : List ℕ} {r : Records} {after : List ℕ}
+      → Laid (ruleOf context text) before r after → Laid (ruleOf standardContext text) before r after
+  standard-laid text {before} {r} {after} h =
+      subst (λ (x : Context). Laid (ruleOf x text) before r after) e h
 
 -- An answer with records is not one with a refusal.
 no-records : {n k m : ℕ} → No-records m ≡ Tree-records n k → ⊥

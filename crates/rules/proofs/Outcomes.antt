@@ -10,6 +10,7 @@ use lib.ListN.{length, take, drop}
 use lib.Seq.{sets, sets-eq, length-sets, take-at}
 use borrow.Author.Tests.{eq-eqb, ne-eqb}
 use Rattle.limits.specs.Limits.{wordLimit, arenaLimit}
+use Rattle.limits.specs.declared.Context.{Context}
 use Rattle.words.specs.Split.{Out, splitOf}
 use Rattle.words.specs.Split.Out.{made}
 use Rattle.words.specs.Contract.{splitAnswer, Splits}
@@ -87,33 +88,34 @@ no-words : {k n : ℕ} → No-words k ≡ Words n → ⊥
 no-words q = let z : _≡_ {A = ℕ} 0 1 = cc in omega arith
 
 -- The words that were made, in the buffer.
-pub record Made (text before : List ℕ) (n : ℕ) (after : List ℕ) : Type 0 where
+pub record Made (context : Context) (text before : List ℕ) (n : ℕ) (after : List ℕ) : Type 0 where
   pub ws : List ℕ
-  pub is : splitOf text ≡ made ws
+  pub is : splitOf context text ≡ made ws
   pub count : n ≡ length ws
   pub few : n ≤ wordLimit
   pub filled : after ≡ sets before 0 ws
 
-module _ {text before : List ℕ} {r : Split} {after : List ℕ} (h : Splits text before r after) where
-  pub made-of : {n : ℕ} → r ≡ Words n → Made text before n after
-  made-of {n} q = go (splitOf text) refl
+module _ {context : Context} {text before : List ℕ} {r : Split} {after : List ℕ}
+    (h : Splits context text before r after) where
+  pub made-of : {n : ℕ} → r ≡ Words n → Made context text before n after
+  made-of {n} q = go (splitOf context text) refl
     where
-      go : (x : Out) → splitOf text ≡ x → Made text before n after
+      go : (x : Out) → splitOf context text ≡ x → Made context text before n after
       go (Out.refused k) p = absurd (no-words (sym (h .result ∙ ap splitAnswer p) ∙ q))
       go (made ws) p =
           let b : Words (length ws) ≡ Words n = sym (h .result ∙ ap splitAnswer p) ∙ q in
           let c : n ≡ length ws = cc in
           record { ws = ws; is = p; count = c; few = omega (arith, h .few ws p); filled = h .filled ws p }
 
-  pub refused-of : {k m : ℕ} → r ≡ No-words k → m ≡ splitRefusal r → ruleOf text ≡ refused m
+  pub refused-of : {k m : ℕ} → r ≡ No-words k → m ≡ splitRefusal r → ruleOf context text ≡ refused m
   unfolding ruleOf
-  refused-of {m = m} q e = go (splitOf text) refl
+  refused-of {m = m} q e = go (splitOf context text) refl
     where
-      go : (x : Out) → splitOf text ≡ x → ofWords (splitOf text) ≡ refused m
+      go : (x : Out) → splitOf context text ≡ x → ofWords (splitOf context text) ≡ refused m
       go (Out.refused n) p = ap ofWords p ∙ ap refused (sym (e ∙ ap splitRefusal (h .result ∙ ap splitAnswer p)))
       go (made ws) p = absurd (no-words (sym q ∙ h .result ∙ ap splitAnswer p))
 
-module _ {text before : List ℕ} {n : ℕ} {after : List ℕ} (h : Made text before n after)
+module _ {context : Context} {text before : List ℕ} {n : ℕ} {after : List ℕ} (h : Made context text before n after)
     (room : wordLimit ≤ length before) where
   pub long : wordLimit ≤ length after
   long = omega (arith, ap length (h .filled), length-sets before 0 (h .ws))
@@ -124,6 +126,6 @@ module _ {text before : List ℕ} {n : ℕ} {after : List ℕ} (h : Made text be
       ap (take n) (h .filled ∙ sets-eq (h .ws) before 0 (omega (arith, h .few, h .count)))
       ∙ take-at (h .ws) (drop (0 + length (h .ws)) before) n (sym (h .count))
 
-  pub of-front : ofWords (made (take n after)) ≡ ruleOf text
+  pub of-front : ofWords (made (take n after)) ≡ ruleOf context text
   unfolding ruleOf
   of-front = ap (λ (x : List ℕ). ofWords (made x)) front ∙ ap ofWords (sym (h .is))

@@ -5,6 +5,7 @@ use mathlib.Core.List.{List}
 use Prim.Native.Nat.{ℕ}
 use lib.Dec.{T}
 use lib.ListN.{take}
+use Rattle.limits.specs.declared.Context.{Context}
 use Rattle.lists.specs.Same.{same}
 use Rattle.lists.proofs.Same.{same→eq, same-refl}
 use Rattle.formulas.specs.Tree.{Tree}
@@ -35,29 +36,33 @@ differ t u n = go (same (flat t) (flat u)) refl
     go true e = absurd (n (one-of t u e))
     go false e = refl
 
-module _ (a b : List ℕ) where
-  of-trees : (t u : Tree) → HasOutcome a (rule t) → HasOutcome b (rule u) → (x : Bool) → same (flat t) (flat u) ≡ x
-      → SameAnswer a b (cond x Yes No)
-  of-trees t u h k true e = one-tree h (subst (λ (v : Tree). HasOutcome b (rule v)) (sym (one-of t u e)) k)
+module _ (context : Context) (a b : List ℕ) where
+  of-trees : (t u : Tree) → HasOutcome context a (rule t) → HasOutcome context b (rule u) → (x : Bool)
+      → same (flat t) (flat u) ≡ x → SameAnswer context a b (cond x Yes No)
+  of-trees t u h k true e = one-tree h (subst (λ (v : Tree). HasOutcome context b (rule v)) (sym (one-of t u e)) k)
   of-trees t u h k false e = two-trees h k (two-of t u e)
 
-  of-outcomes : (x y : Outcome) → HasOutcome a x → HasOutcome b y → SameAnswer a b (sameOf x y)
+  of-outcomes : (x y : Outcome) → HasOutcome context a x → HasOutcome context b y → SameAnswer context a b (sameOf x y)
   of-outcomes (refused n) y h k = first-refused h
   of-outcomes (rule t) (refused n) h k = second-refused h k
   of-outcomes (rule t) (rule u) h k = of-trees t u h k (same (flat t) (flat u)) refl
 
-  pub same-answer : (r : Same) → r ≡ sameOf (ruleOf a) (ruleOf b) → SameAnswer a b r
+  pub same-answer : (r : Same) → r ≡ sameOf (ruleOf context a) (ruleOf context b) → SameAnswer context a b r
   same-answer r e =
-      subst (SameAnswer a b) (sym e) (of-outcomes (ruleOf a) (ruleOf b) (has-outcome a) (has-outcome b))
+      subst (SameAnswer context a b) (sym e) (of-outcomes _ _ (has-outcome context a) (has-outcome context b))
 
   -- And the answer that SPEC 8.3 has is the computed one.
-  pub computed-answer : {r : Same} → SameAnswer a b r → r ≡ sameOf (ruleOf a) (ruleOf b)
-  computed-answer (first-refused e) = sym (ap (λ (o : Outcome). sameOf o (ruleOf b)) (computed a e))
-  computed-answer (second-refused e f) = sym (ap₂ sameOf (computed a e) (computed b f))
+  of-both : {x y : Outcome} → HasOutcome context a x → HasOutcome context b y
+      → sameOf x y ≡ sameOf (ruleOf context a) (ruleOf context b)
+  of-both e f = sym (ap₂ sameOf (computed context a e) (computed context b f))
+
+  pub computed-answer : {r : Same} → SameAnswer context a b r → r ≡ sameOf (ruleOf context a) (ruleOf context b)
+  computed-answer (first-refused e) = sym (ap (λ (o : Outcome). sameOf o (ruleOf context b)) (computed context a e))
+  computed-answer (second-refused e f) = of-both e f
   computed-answer (one-tree {t} e f) =
-      ap (λ (x : Bool). cond x Yes No) (sym (same-refl (flat t))) ∙ sym (ap₂ sameOf (computed a e) (computed b f))
+      ap (λ (x : Bool). cond x Yes No) (sym (same-refl (flat t))) ∙ of-both e f
   computed-answer (two-trees {t} {u} e f n) =
-      ap (λ (x : Bool). cond x Yes No) (sym (differ t u n)) ∙ sym (ap₂ sameOf (computed a e) (computed b f))
+      ap (λ (x : Bool). cond x Yes No) (sym (differ t u n)) ∙ of-both e f
 
 -- What the comparison of the records in two arenas tells of the outcomes.
 module _ {x y : Outcome} {n m : ℕ} {a b : List ℕ} (h : Front x n a) (h′ : Front y m b) where

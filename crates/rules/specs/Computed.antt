@@ -4,6 +4,7 @@ use mathlib.Core.Bool.{cond}
 use mathlib.Core.List.{List}
 use mathlib.Core.Option.{Option, none, some}
 use Prim.Native.Nat.{ℕ}
+use Rattle.limits.specs.declared.Context.{Context}
 use Rattle.lists.specs.Same.{same}
 use Rattle.words.specs.Split.{Out, splitOf}
 use Rattle.words.specs.Split.Out.{made}
@@ -26,8 +27,8 @@ ofWords (Out.refused n) = refused n
 ofWords (made ws) = cond (beyondLimits ws) (refused 5) (ofTree ws (treeOf ws))
 
 -- The outcome of a text.
-unfoldable pub ruleOf : List ℕ → Outcome
-ruleOf text = ofWords (splitOf text)
+unfoldable pub ruleOf : Context → List ℕ → Outcome
+ruleOf context text = ofWords (splitOf context text)
 
 -- The answer for two texts with these outcomes: trees are compared by their records.
 abbrev pub sameOf : Outcome → Outcome → Same

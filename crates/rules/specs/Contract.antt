@@ -2,6 +2,7 @@
 use mathlib.Core.Path.{_≡_}
 use mathlib.Core.List.{List}
 use Prim.Native.Nat.{ℕ}
+use Rattle.limits.specs.declared.Context.{Context}
 use Rattle.limits.specs.Reply as Reply
 use Rattle.limits.specs.Reply.{Reply, gives}
 use Rattle.formulas.specs.Tree.{Tree, nodes}
@@ -20,7 +21,7 @@ readReply (Rule n) = gives n
 readReply (Refused k) = Reply.refused k
 
 -- The contract of reading in the terms of SPEC 8.1: the answer is that of the one outcome that the text has.
-pub record Told (text : List ℕ) (r : Read) : Type 0 where
+pub record Told (context : Context) (text : List ℕ) (r : Read) : Type 0 where
   pub outcome : Outcome
-  pub has : HasOutcome text outcome
+  pub has : HasOutcome context text outcome
   pub answer : r ≡ answerOf outcome

@@ -1,18 +1,25 @@
--- What the function that reads a rule's tree leaves for other operations. Definitions only.
+-- What the function that reads a rule's tree asks, and what it leaves for other operations. Definitions only.
 use mathlib.Core.Path.{_≡_}
 use mathlib.Core.List.{List}
 use Prim.Native.Nat.{ℕ, _≤_}
 use lib.ListN.{length}
 use lib.Seq.{sets}
 use Rattle.limits.specs.Limits.{arenaLimit}
+use Rattle.limits.specs.declared.Context.{Context}
 use Rattle.formulas.specs.Tree.{Tree, nodes}
 use Rattle.formulas.specs.Arena.{flat}
+use Rattle.words.specs.Contract.{Ranged}
 use Rattle.rules.specs.Reading.{Outcome}
 use Rattle.rules.specs.Reading.Outcome.{refused, rule}
 use Rattle.words.specs.declared.Split.{Split}
 use Rattle.words.specs.declared.Split.the-variants.{Words, Refused as No-words}
 use Rattle.rules.specs.declared.Records.{Records}
 use Rattle.rules.specs.declared.Records.the-variants.{Rule as Tree-records, Refused as No-records}
+
+-- What it asks: a context whose velocities have words of their own, and an arena that takes the records of any rule.
+pub record Readable (context : Context) (arena : List ℕ) : Type 0 where
+  pub ranged : Ranged context
+  pub room : arenaLimit ≤ length arena
 
 -- The answer of the function that hands the tree on to other operations.
 abbrev pub recordsOf : Outcome → Records

@@ -1,4 +1,5 @@
 // Reading a rule (SPEC 8.1): its words, limits, grammar and fragment. Same rule (SPEC 8.3).
+use limits::Context;
 use parser::Parsed;
 use words::Split;
 ghost use mathlib.Core.Bool.{not, _&&_, _||_};
@@ -7,6 +8,7 @@ ghost use Prim.Native.Nat.{_≤_};
 ghost use lib.Dec.{eqb};
 ghost use lib.ListN.{length};
 ghost use Rattle.limits.specs.Limits.{wordLimit, arenaLimit};
+ghost use Rattle.limits.specs.Context.{standardContext};
 ghost use Rattle.grammar.specs.Fragment.{beyond};
 ghost use Rattle.words.specs.Word.{CHOP, EXISTS};
 ghost use Rattle.words.specs.Split.Out.{made};
@@ -14,7 +16,7 @@ ghost use Rattle.rules.specs.Limits.{bracketLimit, opened, deep, counted
 ghost use Rattle.rules.specs.Computed.{ruleOf, ofWords, sameOf};
 ghost use Rattle.rules.specs.Same.{SameAnswer};
 ghost use Rattle.rules.specs.Contract.{answerOf, Told};
-ghost use Rattle.rules.specs.Laid.{Laid, splitRefusal, recordsRefusal};
+ghost use Rattle.rules.specs.Laid.{Readable, Laid, splitRefusal, recordsRefusal};
 
 // What reading a rule answers: its node count, or the refusal's number.
 pub enum Read {
@@ -160,12 +162,12 @@ fn read_words(ws: &[u32], arena: &mut [u32]) -> Records
 }
 
 // The tree of a rule text, for the operations that go on with it: refusals 1 to 8, or its records in the arena.
-pub fn read_tree(text: &[u8], arena: &mut [u32]) -> Records
-    requires { ⌜ arenaLimit ≤ length (now arena) ⌝ }
-    ensures { λ r. ⌜ Laid (ruleOf (now (text .entry))) (now (arena .entry)) r (now (arena .exit)) ⌝ }
+pub fn read_tree(context: Context, text: &[u8], arena: &mut [u32]) -> Records
+    requires { ⌜ Readable context (now arena) ⌝ }
+    ensures { λ r. ⌜ Laid (ruleOf context (now (text .entry))) (now (arena .entry)) r (now (arena .exit)) ⌝ }
 {
     let mut ws = [0u32; limits::WORDS];
-    let split = words::split_text(text, &mut ws);
+    let split = words::split_text(context, text, &mut ws);
     let Split::Words(n) = split else {
         return Records::Refused(split_refusal(split));
     };
@@ -184,11 +186,11 @@ pub fn records_refusal(r: Records) -> u32
 
 // Read a rule (SPEC 8.1): its node count, or the first of refusals 1 to 8 that the text has.
 pub fn read_rule(text: &[u8]) -> Read
-    ensures { λ r. ⌜ r ≡ answerOf (ruleOf (now (text .entry))) ⌝ }
-    ensures { λ r. ⌜ Told (now (text .entry)) r ⌝ }
+    ensures { λ r. ⌜ r ≡ answerOf (ruleOf standardContext (now (text .entry))) ⌝ }
+    ensures { λ r. ⌜ Told standardContext (now (text .entry)) r ⌝ }
 {
     let mut arena = [0u32; limits::ARENA];
-    let records = read_tree(text, &mut arena);
+    let records = read_tree(limits::standard(), text, &mut arena);
     let Records::Rule(_, nodes) = records else {
         return Read::Refused(records_refusal(records));
     };
@@ -197,16 +199,18 @@ pub fn read_rule(text: &[u8]) -> Read
 
 // Same rule (SPEC 8.3): the refusal of the first text, or else of the second; or else whether they have one tree.
 pub fn same_rule(first: &[u8], second: &[u8]) -> Same
-    ensures { λ r. ⌜ r ≡ sameOf (ruleOf (now (first .entry))) (ruleOf (now (second .entry))) ⌝ }
-    ensures { λ r. ⌜ SameAnswer (now (first .entry)) (now (second .entry)) r ⌝ }
+    ensures { λ r. ⌜ r
+        ≡ sameOf (ruleOf standardContext (now (first .entry))) (ruleOf standardContext (now (second .entry))) ⌝ }
+    ensures { λ r. ⌜ SameAnswer standardContext (now (first .entry)) (now (second .entry)) r ⌝ }
 {
+    let context = limits::standard();
     let mut arena = [0u32; limits::ARENA];
-    let records = read_tree(first, &mut arena);
+    let records = read_tree(context, first, &mut arena);
     let Records::Rule(n, _) = records else {
         return Same::Refused(records_refusal(records));
     };
     let mut other = [0u32; limits::ARENA];
-    let others = read_tree(second, &mut other);
+    let others = read_tree(context, second, &mut other);
     let Records::Rule(m, _) = others else {
         return Same::Refused(records_refusal(others));
     };

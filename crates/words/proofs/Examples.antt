@@ -5,11 +5,13 @@ use mathlib.Core.Path.{_≡_, refl}
 use Prim.Native.Nat.{ℕ, _+_, _-_}
 use lib.ListN.{replicate}
 use Rattle.limits.specs.Limits.{textLimit, wordLimit}
+use Rattle.limits.specs.Context.{standardContext}
 use Rattle.lists.specs.Text.{byte, bytes}
 use Rattle.lists.specs.Text.{lineEnd}
 use Rattle.lists.specs.Decimal.{isDigit, digitsAfter, numeral}
 use Rattle.words.specs.Word.{ROUND, ROUND-END, SQUARE, SQUARE-END, NOT, AND, OR, LE, LT, EQ, GT, GE, COMMA}
-use Rattle.words.specs.Word.{BEGIN, KEPT, LEN, SUM, AGE, LAG, THEN, CHOP, EXISTS, PARAMETER, SIGNAL, LITERAL}
+use Rattle.words.specs.Word.{BEGIN, KEPT, LEN, SUM, AGE, LAG, THEN, CHOP, EXISTS, VEL}
+use Rattle.words.specs.Word.{PARAMETER, SIGNAL, VELOCITY, LITERAL, isOp}
 use Rattle.words.specs.Split.{classOf, run, keywordAmong, keywordOf, numberOf, runOf, wordOf}
 use Rattle.words.specs.Split.{Out, words, splitOf}
 use Rattle.words.specs.Split.Out.{refused, made}
@@ -39,6 +41,9 @@ signal n = SIGNAL + n
 abbrev parameter : ℕ → ℕ
 parameter n = PARAMETER + n
 
+abbrev velocity : ℕ → ℕ
+velocity n = VELOCITY + n
+
 abbrev literal : ℕ → ℕ
 literal n = LITERAL + n
 
@@ -60,8 +65,8 @@ examples =
     splits (bytes "!(len <= 1 then len <= 1)")
     (NOT ∷ ROUND ∷ LEN ∷ LE ∷ literal 1 ∷ THEN ∷ LEN ∷ LE ∷ literal 1 ∷ ROUND-END ∷ []) ∷
     -- all keywords and operators
-    splits (bytes "begin end point held kept len sum age lag then chop exists")
-    (BEGIN ∷ END ∷ POINT ∷ HELD ∷ KEPT ∷ LEN ∷ SUM ∷ AGE ∷ LAG ∷ THEN ∷ CHOP ∷ EXISTS ∷ []) ∷
+    splits (bytes "begin end point held kept len sum age lag then chop exists v")
+    (BEGIN ∷ END ∷ POINT ∷ HELD ∷ KEPT ∷ LEN ∷ SUM ∷ AGE ∷ LAG ∷ THEN ∷ CHOP ∷ EXISTS ∷ VEL ∷ []) ∷
     splits (bytes "()[]!&|< = > <=>=,")
     (ROUND ∷ ROUND-END ∷ SQUARE ∷ SQUARE-END ∷ NOT ∷ AND ∷ OR ∷ LT ∷ EQ ∷ GT ∷ LE ∷ GE ∷ COMMA ∷ []) ∷
     -- `,` and `lag` are words wherever they stand, and so are the numbers beside a `,`
@@ -72,6 +77,24 @@ examples =
     refuses (bytes "lag[s0,01,s1]") 2 ∷
     refuses (bytes "la") 2 ∷
     refuses (bytes "lags") 2 ∷
+    -- the literal behind `v` and a comparison (SPEC 2.11), whatever stands around it
+    splits (bytes "end[v>=90]") (END ∷ SQUARE ∷ VEL ∷ GE ∷ velocity 90 ∷ SQUARE-END ∷ []) ∷
+    splits (bytes "v<0 v<=127") (VEL ∷ LT ∷ velocity 0 ∷ VEL ∷ LE ∷ velocity 127 ∷ []) ∷
+    refuses (bytes "v<200") 3 ∷
+    refuses (bytes "end[v>=128") 3 ∷
+    refuses (bytes "v>=0128") 2 ∷
+    refuses (bytes "v>=128x") 2 ∷
+    refuses (bytes "v5") 2 ∷
+    refuses (bytes "vv") 2 ∷
+    splits (bytes "v>=k0") (VEL ∷ GE ∷ parameter 0 ∷ []) ∷
+    -- any other literal: the two words before are not these, or not in this order, or there are no two
+    splits (bytes "v < = 200") (VEL ∷ LT ∷ EQ ∷ literal 200 ∷ []) ∷
+    splits (bytes "v 200") (VEL ∷ literal 200 ∷ []) ∷
+    splits (bytes "<v 200") (LT ∷ VEL ∷ literal 200 ∷ []) ∷
+    splits (bytes "v<1<200") (VEL ∷ LT ∷ velocity 1 ∷ LT ∷ literal 200 ∷ []) ∷
+    splits (bytes "v!200") (VEL ∷ NOT ∷ literal 200 ∷ []) ∷
+    splits (bytes "<200") (LT ∷ literal 200 ∷ []) ∷
+    splits (bytes "len<=200") (LEN ∷ LE ∷ literal 200 ∷ []) ∷
     -- how long a text is (SPEC 2.1)
     refuses [] 1 ∷
     refuses (spaces (textLimit + 1)) 1 ∷
@@ -117,6 +140,7 @@ examples =
     refuses (rounds (wordLimit - 1) ++ bytes "x(") 2 ∷
     []
 
-pub examples-hold : map (λ e. splitOf (e .text)) examples ≡ map (λ e. e .out) examples
-unfolding examples isDigit digitsAfter numeral classOf run keywordAmong keywordOf numberOf runOf wordOf words splitOf
+pub examples-hold : map (λ e. splitOf standardContext (e .text)) examples ≡ map (λ e. e .out) examples
+unfolding examples isDigit digitsAfter numeral isOp classOf run keywordAmong keywordOf numberOf runOf wordOf words
+    splitOf
 examples-hold = refl

@@ -26,7 +26,7 @@ by-first f (x ∷ l) b e z h = rw e (h l)
 
 -- The first bytes of the keywords, each once.
 abbrev pub firstBytes : List ℕ
-firstBytes = bytes "bephklsatc"
+firstBytes = bytes "bephklsatcv"
 
 -- The keywords begin with these bytes.
 begin-in : List ℕ → List (List ℕ) → Bool

@@ -10,11 +10,12 @@ use lib.Dec.{eqb}
 use lib.ListN.{length, take, drop, drop-of-length-le, length-drop}
 use lib.Seq.{drop-cons}
 use borrow.Author.Tests.{eq-eqb, ne-eqb}
-use Rattle.limits.specs.Limits.{signalCount, parameterCount, lastLiteral}
+use Rattle.limits.specs.Limits.{signalCount, parameterCount}
+use Rattle.limits.specs.declared.Context.{Context}
 use Rattle.lists.specs.Text.{byte}
 use Rattle.lists.specs.Number.{numberAt}
-use Rattle.words.specs.Word.{PARAMETER, SIGNAL, LITERAL}
-use Rattle.words.specs.Split.{RUN, OTHER, classOf, run, keywordOf, numberOf, runOf, longest, wordOf}
+use Rattle.words.specs.Word.{PARAMETER, SIGNAL}
+use Rattle.words.specs.Split.{RUN, OTHER, classOf, run, keywordOf, numberOf, literalOf, runOf, longest, wordOf}
 use Rattle.words.specs.declared.Word.the-variants.{Bad}
 
 -- The run at the end of a text, at a byte that is in no run, and at a byte that is.
@@ -65,30 +66,32 @@ module _ (t : List ℕ) (i : ℕ) where
   run-some h k = omega (arith, ap length (run-goes t i h k))
 
 -- The word of a run that is no keyword, by its first byte.
-module _ (r : List ℕ) (n : keywordOf r ≡ 0) where
-  pub run-signal : numberAt r 0 ≡ byte "s" → runOf r ≡ numberOf SIGNAL (signalCount - 1) (drop 1 r)
-  unfolding runOf
-  run-signal e = simp (n, e)
+module _ (context : Context) (awaited : Bool) where
+  module _ (r : List ℕ) (n : keywordOf r ≡ 0) where
+    pub run-signal : numberAt r 0 ≡ byte "s" → runOf context awaited r ≡ numberOf SIGNAL (signalCount - 1) (drop 1 r)
+    unfolding runOf
+    run-signal e = simp (n, e)
 
-  pub run-parameter : numberAt r 0 ≡ byte "k" → runOf r ≡ numberOf PARAMETER (parameterCount - 1) (drop 1 r)
-  unfolding runOf
-  run-parameter e = simp (n, e)
+    pub run-parameter : numberAt r 0 ≡ byte "k"
+        → runOf context awaited r ≡ numberOf PARAMETER (parameterCount - 1) (drop 1 r)
+    unfolding runOf
+    run-parameter e = simp (n, e)
 
-  pub run-literal : (numberAt r 0 ≡ byte "s" → ⊥) → (numberAt r 0 ≡ byte "k" → ⊥)
-      → runOf r ≡ numberOf LITERAL lastLiteral r
-  unfolding runOf
-  run-literal s k = simp (n, ne-eqb (numberAt r 0) (byte "s") s, ne-eqb (numberAt r 0) (byte "k") k)
+    pub run-literal : (numberAt r 0 ≡ byte "s" → ⊥) → (numberAt r 0 ≡ byte "k" → ⊥)
+        → runOf context awaited r ≡ literalOf context awaited r
+    unfolding runOf
+    run-literal s k = simp (n, ne-eqb (numberAt r 0) (byte "s") s, ne-eqb (numberAt r 0) (byte "k") k)
 
--- The word at the front of a text, by the class of its first byte.
-module _ (l : List ℕ) (c : ℕ) where
-  pub word-run : c ≡ RUN → wordOf c l ≡ runOf (run l)
-  unfolding wordOf
-  word-run e = simp e
+  -- The word at the front of a text, by the class of its first byte.
+  module _ (l : List ℕ) (c : ℕ) where
+    pub word-run : c ≡ RUN → wordOf context awaited c l ≡ runOf context awaited (run l)
+    unfolding wordOf
+    word-run e = simp e
 
-  pub word-none : c ≡ OTHER → wordOf c l ≡ Bad 2
-  unfolding wordOf
-  word-none e = simp e
+    pub word-none : c ≡ OTHER → wordOf context awaited c l ≡ Bad 2
+    unfolding wordOf
+    word-none e = simp e
 
-  pub word-operator : (c ≡ RUN → ⊥) → (c ≡ OTHER → ⊥) → wordOf c l ≡ longest c (numberAt l 1)
-  unfolding wordOf
-  word-operator r o = simp (ne-eqb c RUN r, ne-eqb c OTHER o)
+    pub word-operator : (c ≡ RUN → ⊥) → (c ≡ OTHER → ⊥) → wordOf context awaited c l ≡ longest c (numberAt l 1)
+    unfolding wordOf
+    word-operator r o = simp (ne-eqb c RUN r, ne-eqb c OTHER o)

@@ -1,18 +1,19 @@
--- How a text is split into words (SPEC 2.1 to SPEC 2.9), and refusals 1 to 4. Definitions only.
+-- How a text is split into words (SPEC 2.1 to SPEC 2.9, SPEC 2.11), and refusals 1 to 4. Definitions only.
 use mathlib.Core.Bool.{Bool, not, _&&_, _||_, cond}
-use mathlib.Core.List.{List, [], _∷_, _++_}
+use mathlib.Core.List.{List, [], _∷_, _++_, reverse}
 use Prim.Native.Nat.{ℕ, suc, _+_, _-_}
 use Prim.Native.String.{String}
 use lib.Dec.{eqb, ltb}
 use lib.ListN.{length, drop}
 use Rattle.limits.specs.Limits.{textLimit, wordLimit, signalCount, parameterCount, lastLiteral}
+use Rattle.limits.specs.declared.Context.{Context}
 use Rattle.lists.specs.Text.{byte}
 use Rattle.lists.specs.Number.{numberAt}
 use Rattle.lists.specs.Same.{same}
 use Rattle.lists.specs.Decimal.{Numeral, isDigit, numeral}
 use Rattle.lists.specs.Decimal.Numeral.{is, above, missing}
 use Rattle.words.specs.Word.{ROUND, ROUND-END, SQUARE, SQUARE-END, NOT, AND, OR, LE, LT, EQ, GT, GE, COMMA}
-use Rattle.words.specs.Word.{BEGIN, PARAMETER, SIGNAL, LITERAL, keywords, within}
+use Rattle.words.specs.Word.{BEGIN, VEL, PARAMETER, SIGNAL, VELOCITY, LITERAL, keywords, within, isOp}
 use Rattle.words.specs.declared.Word.{Word}
 use Rattle.words.specs.declared.Word.the-variants.{Made, Bad}
 
@@ -91,14 +92,28 @@ wordFrom base missing = Bad 2
 unfoldable pub numberOf : ℕ → ℕ → List ℕ → Word
 numberOf base max l = wordFrom base (numeral max l)
 
--- The word that a run is: a keyword (SPEC 2.5), by its first byte a signal or a parameter (SPEC 2.6), or else a literal
--- (SPEC 2.7).
-unfoldable pub runOf : List ℕ → Word
-runOf r =
+-- The word k places from the end of the words so far; 0 if there is none.
+abbrev pub back : ℕ → List ℕ → ℕ
+back k ws = numberAt (reverse ws) k
+
+-- SPEC 2.11: of the words so far the last two are `v` and a comparison. A literal behind them is a velocity's.
+abbrev pub awaitsVelocity : List ℕ → Bool
+awaitsVelocity ws = eqb (back 1 ws) VEL && isOp (back 0 ws)
+
+-- A literal: one whose two words before are `v` and a comparison goes up to the last velocity (SPEC 2.11), any other up
+-- to the last literal (SPEC 2.7).
+abbrev pub literalOf : Context → Bool → List ℕ → Word
+literalOf context awaited r =
+    cond awaited (numberOf VELOCITY (context .velocities - 1) r) (numberOf LITERAL lastLiteral r)
+
+-- The word that a run is: a keyword (SPEC 2.5), by its first byte a signal or a parameter (SPEC 2.6), or else a
+-- literal. Here and below `awaited` says whether the literal would be a velocity's.
+unfoldable pub runOf : Context → Bool → List ℕ → Word
+runOf context awaited r =
     cond (ltb 0 (keywordOf r)) (Made (keywordOf r))
     (cond (eqb (numberAt r 0) (byte "s")) (numberOf SIGNAL (signalCount - 1) (drop 1 r))
     (cond (eqb (numberAt r 0) (byte "k")) (numberOf PARAMETER (parameterCount - 1) (drop 1 r))
-    (numberOf LITERAL lastLiteral r)))
+    (literalOf context awaited r)))
 
 -- SPEC 2.3: `<` and `>` take in a `=` behind them.
 abbrev pub longest : ℕ → ℕ → Word
@@ -106,8 +121,9 @@ longest c next =
     Made (cond (eqb c LT && eqb next (byte "=")) LE (cond (eqb c GT && eqb next (byte "=")) GE c))
 
 -- The word at the front of a text whose first byte is of class c; of some bytes none begins (SPEC 7.2).
-unfoldable pub wordOf : ℕ → List ℕ → Word
-wordOf c l = cond (eqb c RUN) (runOf (run l)) (cond (eqb c OTHER) (Bad 2) (longest c (numberAt l 1)))
+unfoldable pub wordOf : Context → Bool → ℕ → List ℕ → Word
+wordOf context awaited c l =
+    cond (eqb c RUN) (runOf context awaited (run l)) (cond (eqb c OTHER) (Bad 2) (longest c (numberAt l 1)))
 
 -- What splitting a text gives: its words, or the first refusal.
 pub data Out : Type 0 where
@@ -121,13 +137,17 @@ add (Bad n) ws rest = refused n
 
 -- SPEC 8.1: word by word, up to the first refusal. SPEC 7.4: after the last word that there is room for (SPEC 2.9), one
 -- more is not looked at. p is the class of the byte before, ws the words so far.
-unfoldable pub words : List ℕ → ℕ → List ℕ → Out
-words [] p ws = made ws
-words (b ∷ l) p ws =
-    let one = add (wordOf (classOf b) (b ∷ l)) ws (λ more. words l (classOf b) more) in
-    let none = words l (classOf b) ws in
+unfoldable pub words : Context → List ℕ → ℕ → List ℕ → Out
+words context [] p ws = made ws
+words context (b ∷ l) p ws =
+    let word = wordOf context (awaitsVelocity ws) (classOf b) (b ∷ l) in
+    let one = add word ws (λ more. words context l (classOf b) more) in
+    let none = words context l (classOf b) ws in
     cond (begins p (classOf b)) (cond (eqb (length ws) wordLimit) (refused 4) one) none
 
 -- SPEC 7.1: there is no byte, or more than a text can have (SPEC 2.1).
-unfoldable pub splitOf : List ℕ → Out
-splitOf text = cond (eqb (length text) 0 || ltb textLimit (length text)) (refused 1) (words text SPACE [])
+abbrev pub wrongSize : List ℕ → Bool
+wrongSize text = eqb (length text) 0 || ltb textLimit (length text)
+
+unfoldable pub splitOf : Context → List ℕ → Out
+splitOf context text = cond (wrongSize text) (refused 1) (words context text SPACE [])

@@ -75,18 +75,24 @@ CHOP = 24
 abbrev pub EXISTS : ℕ
 EXISTS = 25
 
+abbrev pub VEL : ℕ
+VEL = 26
+
 abbrev pub keywords : List (List ℕ)
 keywords =
     bytes "begin" ∷ bytes "end" ∷ bytes "point" ∷ bytes "held" ∷ bytes "kept" ∷ bytes "len" ∷ bytes "sum" ∷
-    bytes "age" ∷ bytes "lag" ∷ bytes "then" ∷ bytes "chop" ∷ bytes "exists" ∷ []
+    bytes "age" ∷ bytes "lag" ∷ bytes "then" ∷ bytes "chop" ∷ bytes "exists" ∷ bytes "v" ∷ []
 
--- SPEC 2.6: parameter n is the word PARAMETER + n, signal n the word SIGNAL + n. SPEC 2.7: literal n is the word
--- LITERAL + n.
+-- SPEC 2.6: parameter n is the word PARAMETER + n, signal n the word SIGNAL + n. SPEC 2.11: the literal n of a velocity
+-- test is the word VELOCITY + n. SPEC 2.7: any other literal n is the word LITERAL + n.
 abbrev pub PARAMETER : ℕ
 PARAMETER = 32
 
 abbrev pub SIGNAL : ℕ
 SIGNAL = 64
+
+abbrev pub VELOCITY : ℕ
+VELOCITY = 128
 
 abbrev pub LITERAL : ℕ
 LITERAL = 1000000
@@ -109,6 +115,10 @@ isSignal w = within SIGNAL (SIGNAL + (signalCount - 1)) w
 -- SPEC 3.5: what stands for n.
 unfoldable pub isNum : ℕ → Bool
 isNum w = within PARAMETER (PARAMETER + (parameterCount - 1)) w || leb LITERAL w
+
+-- SPEC 2.11: the literal of a velocity test.
+unfoldable pub isVelocity : ℕ → Bool
+isVelocity w = within VELOCITY (LITERAL - 1) w
 
 -- SPEC 3.6: the constants of P.
 unfoldable pub isBit : ℕ → Bool

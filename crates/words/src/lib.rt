@@ -1,17 +1,18 @@
-// The words of a rule text, as numbers (SPEC 2.3 to SPEC 2.7). specs/Word.antt says which number is which word,
-// specs/Split.antt how a text is split.
+// The words of a rule text, as numbers (SPEC 2.3 to SPEC 2.7, SPEC 2.11). specs/Word.antt says which number is which
+// word, specs/Split.antt how a text is split.
 ghost use mathlib.Core.Path.{_≡_};
-ghost use mathlib.Core.Bool.{cond};
+ghost use mathlib.Core.Bool.{cond, _&&_};
 ghost use Prim.Native.Nat.{_+_, _≤_, _<_, _^_};
 ghost use lib.Dec.{eqb, ltb};
 ghost use lib.ListN.{length, drop};
-ghost use Rattle.limits.specs.Limits.{wordLimit, literalCount};
-ghost use Rattle.lists.specs.Number.{numberAt};
-ghost use Rattle.words.specs.Word.{LITERAL, within, isOp, isSignal, isNum, isBit, isTest, isCount};
-ghost use Rattle.words.specs.Split.{RUN, classOf, run, spelledOr, keywordOf, numberOf, runOf};
-ghost use Rattle.words.specs.Split.{longest, wordOf};
+ghost use Rattle.limits.specs.Limits.{literalCount};
+ghost use Rattle.words.specs.Word.{VEL, LITERAL, within, isOp, isSignal, isNum, isVelocity, isBit, isTest};
+ghost use Rattle.words.specs.Word.{isCount};
+ghost use Rattle.words.specs.Split.{RUN, classOf, run, spelledOr, keywordOf, numberOf, literalOf, runOf};
+ghost use Rattle.words.specs.Split.{longest, wordOf, wrongSize};
 ghost use Rattle.words.specs.Width.{operatorWidth, widthOf};
-ghost use Rattle.words.specs.Contract.{Splits};
+ghost use Rattle.words.specs.Contract.{Ranged, Splittable, Begun, Splits};
+use limits::Context;
 use lists::Decimal;
 
 pub const ROUND: u32 = 1;
@@ -64,9 +65,13 @@ pub const CHOP: u32 = 24;
 
 pub const EXISTS: u32 = 25;
 
+pub const VEL: u32 = 26;
+
 pub const PARAMETER: u32 = 32;
 
 pub const SIGNAL: u32 = 64;
+
+pub const VELOCITY: u32 = 128;
 
 pub const LITERAL: u32 = 1000000;
 
@@ -174,6 +179,7 @@ fn keyword(run: &[u8]) -> u32
         b'a' => spelled_or(run, b"age", AGE, 0),
         b't' => spelled_or(run, b"then", THEN, 0),
         b'c' => spelled_or(run, b"chop", CHOP, 0),
+        b'v' => spelled_or(run, b"v", VEL, 0),
         _ => 0,
     }
 }
@@ -201,10 +207,21 @@ fn number(digits: &[u8], base: u32, max: u32) -> Word
     }
 }
 
+// A literal: up to the last velocity where one is awaited (SPEC 2.11), else up to the last literal (SPEC 2.7).
+fn literal_word(context: Context, awaited: bool, run: &[u8]) -> Word
+    requires { ⌜ Ranged context ⌝ }
+    ensures { λ r. ⌜ r ≡ literalOf context awaited (now (run .entry)) ⌝ }
+{
+    if awaited {
+        return number(run, VELOCITY, context.velocities - 1);
+    }
+    number(run, LITERAL, limits::LAST_LITERAL)
+}
+
 // The word that a run is.
-fn run_word(run: &[u8]) -> Word
-    requires { ⌜ 0 < length (now run) ⌝ }
-    ensures { λ r. ⌜ r ≡ runOf (now (run .entry)) ⌝ }
+fn run_word(context: Context, awaited: bool, run: &[u8]) -> Word
+    requires { ⌜ Ranged context × (0 < length (now run)) ⌝ }
+    ensures { λ r. ⌜ r ≡ runOf context awaited (now (run .entry)) ⌝ }
 {
     let word = keyword(run);
     if word > 0 {
@@ -213,7 +230,7 @@ fn run_word(run: &[u8]) -> Word
     match run[0] {
         b's' => number(&run[1..], SIGNAL, LAST_SIGNAL),
         b'k' => number(&run[1..], PARAMETER, LAST_PARAMETER),
-        _ => number(run, LITERAL, limits::LAST_LITERAL),
+        _ => literal_word(context, awaited, run),
     }
 }
 
@@ -244,15 +261,15 @@ fn operator_at(c: u32, next: u8, i: usize) -> Token
     }
 }
 
-// The word that begins at i with a byte of class c.
-fn word_at(text: &[u8], i: usize, c: u32) -> Token
-    requires { ⌜ (i < length (now text)) × (c ≡ classOf (numberAt (now text) i)) ⌝ }
-    ensures { λ r. ⌜ (r .word ≡ wordOf c (drop i (now (text .entry))))
+// The word that begins at i with a byte of class c; `awaited` says whether a literal here is a velocity's.
+fn word_at(context: Context, awaited: bool, text: &[u8], i: usize, c: u32) -> Token
+    requires { ⌜ Begun context (now text) i c ⌝ }
+    ensures { λ r. ⌜ (r .word ≡ wordOf context awaited c (drop i (now (text .entry))))
         × (r .end ≡ i + widthOf c (drop i (now (text .entry)))) ⌝ }
 {
     if c == RUN {
         let end = run_end(text, i + 1);
-        let word = run_word(&text[i..end]);
+        let word = run_word(context, awaited, &text[i..end]);
         return Token { word, end };
     }
     if c == OTHER {
@@ -264,17 +281,37 @@ fn word_at(text: &[u8], i: usize, c: u32) -> Token
     operator_at(c, lists::byte_at(text, i + 1), i)
 }
 
-// The words of a text, stored at the front of out; refusals 1 to 4 (SPEC 8.1).
-pub fn split_text(text: &[u8], out: &mut [u32]) -> Split
-    requires { ⌜ wordLimit ≤ length (now out) ⌝ }
-    ensures { λ r. ⌜ Splits (now (text .entry)) (now (out .entry)) r (now (out .exit)) ⌝ }
+// Whether a text has no byte, or more than a text can have (SPEC 2.1).
+fn wrong_size(text: &[u8]) -> bool
+    ensures { λ r. ⌜ r ≡ wrongSize (now (text .entry)) ⌝ }
 {
     if text.len() == 0 {
+        return true;
+    }
+    text.len() > limits::TEXT
+}
+
+// Whether a velocity is awaited behind two words: `v` and a comparison (SPEC 2.11).
+fn awaits_velocity(before: u32, last: u32) -> bool
+    ensures { λ r. ⌜ r ≡ (eqb before VEL && isOp last) ⌝ }
+{
+    if before != VEL {
+        return false;
+    }
+    is_op(last)
+}
+
+// The words of a text, stored at the front of out; refusals 1 to 4 (SPEC 8.1). Of the words so far, `last` is the last
+// one and `before` the one before it, 0 where there is none.
+pub fn split_text(context: Context, text: &[u8], out: &mut [u32]) -> Split
+    requires { ⌜ Splittable context (now out) ⌝ }
+    ensures { λ r. ⌜ Splits context (now (text .entry)) (now (out .entry)) r (now (out .exit)) ⌝ }
+{
+    if wrong_size(text) {
         return Split::Refused(1);
     }
-    if text.len() > limits::TEXT {
-        return Split::Refused(1);
-    }
+    let mut before: u32 = 0;
+    let mut last: u32 = 0;
     let mut count: usize = 0;
     let mut i: usize = 0;
     while i < text.len() {
@@ -285,12 +322,14 @@ pub fn split_text(text: &[u8], out: &mut [u32]) -> Split
             if count == limits::WORDS {
                 return Split::Refused(4);
             }
-            let token = word_at(text, i, c);
+            let token = word_at(context, awaits_velocity(before, last), text, i, c);
             let made = token.word;
             match made {
                 Word::Made(word) => {
                     out[count] = word;
                     count += 1;
+                    before = last;
+                    last = word;
                     i = token.end;
                 }
                 Word::Bad(n) => {
@@ -334,6 +373,13 @@ pub fn is_num(w: u32) -> bool
         return true;
     }
     w >= LITERAL
+}
+
+// The literal of a velocity test.
+pub fn is_velocity(w: u32) -> bool
+    ensures { λ r. ⌜ r ≡ isVelocity w ⌝ }
+{
+    is_within(VELOCITY, LITERAL - 1, w)
 }
 
 // The literal 0 or 1.

@@ -1,4 +1,5 @@
--- `parser::leaf` meets its contract: one record, where the word is a signal or a bit. Assumes nothing.
+-- `parser::leaf` meets its contract: one record, where the word is a signal or a bit; else what a velocity test gives.
+-- Assumes nothing.
 use mathlib.Core.Bool.{true, false}
 use mathlib.Core.List.{List}
 use mathlib.Core.Path.{_≡_, refl, sym, ap, _∙_}
@@ -18,27 +19,25 @@ use Rattle.grammar.proofs.Position.{signal-pos, bit-pos}
 use Rattle.grammar.proofs.Words.{bit-truth}
 use Rattle.facts.specs.Facts.{factsOf, leafFacts}
 use Rattle.facts.specs.declared.Facts.{Facts}
-use Rattle.parser.specs.Contract.{ParsesLeaf, Pushed}
+use Rattle.parser.specs.Contract.{ParsesVelocity, ParsesLeaf, Pushed}
 use Rattle.parser.specs.declared.Parsed.{Parsed}
 use Rattle.parser.specs.declared.Parsed.the-variants.{At, No}
-use Rattle.parser.proofs.Stored.{ParsesTo, to-tree, to-none, pushed, stored-as, past-first, fits-push}
+use Rattle.parser.proofs.Stored.{to-tree, to-same, reads-to, pushed, stored-as, past-first, fits-push}
 use Rattle.parser.proofs.leaf.Statement.{statement}
 use Rattle.parser.proofs.leaf.Tie as tie
 
 module _ {ws : List ℕ} {i : ℕ} {before : List ℕ} {top : ℕ} {after : List ℕ} where
-  -- In the terms of the contract.
-  leaf : {r : Parsed} → ParsesTo (leafAt ws i) before top r after → ParsesLeaf ws i before top r after
-  leaf h = record { result = h .result; filled = h .filled }
-
   -- The record of a tree t without parts.
   one-record : (t : Tree) {k a e : ℕ} {f : Facts} → leafAt ws i ≡ ok t (i + 1) → factsOf t ≡ leafFacts →
       flat t ≡ row k a 0 0 → Pushed before top k a 0 0 e after → f ≡ leafFacts →
       ParsesLeaf ws i before top (At (i + 1) e f) after
-  one-record t is known records u facts = leaf (to-tree t is (stored-as (sym records) (pushed u)) (facts ∙ sym known))
+  one-record t is known records u facts =
+      reads-to (to-tree t is (stored-as (sym records) (pushed u)) (facts ∙ sym known))
 
-  -- Another word is none of them.
-  no-leaf : isSignal (word ws i) ≡ false → isBit (word ws i) ≡ false → ParsesLeaf ws i before top No after
-  no-leaf s b = leaf (to-none (simp (s, b)))
+  -- Another word may begin a velocity test.
+  other-leaf : {r : Parsed} → isSignal (word ws i) ≡ false → isBit (word ws i) ≡ false →
+      ParsesVelocity ws i before top r after → ParsesLeaf ws i before top r after
+  other-leaf s b h = reads-to (to-same (simp (s, b)) (record { result = h .result; filled = h .filled }))
 
 -- The places: the start; the word, where it is a signal; and where it is a bit, and so no signal.
 abbrev start : tie.After-number-at → tie.Start
@@ -105,10 +104,12 @@ a-bit c =
 -- Neither.
 neither : tie.Need-returns-3
 neither c =
-    let no-signal = c .before .before in
+    let read = c .before .before in
+    let no-bit = read .before .before in
+    let no-signal = no-bit .before .before in
     let w = sym (no-signal .before .before .number-at .ensures) in
-    no-leaf (ap isSignal w ∙ sym (no-signal .before .is-signal .ensures) ∙ no-signal .if1 .left)
-    (ap isBit w ∙ sym (c .before .is-bit .ensures) ∙ c .if2 .left)
+    other-leaf (ap isSignal w ∙ sym (no-signal .before .is-signal .ensures) ∙ no-signal .if1 .left)
+    (ap isBit w ∙ sym (no-bit .before .is-bit .ensures) ∙ no-bit .if2 .left) (read .velocity .ensures)
 
 pub leaf-spec : {M : Type 1} → statement M
 leaf-spec =
@@ -116,4 +117,5 @@ leaf-spec =
     (tie.spec
     (λ c κs. search needs) (λ c κs. search needs) sub-signal signal-fits (λ c. search needs)
     (λ c κs. search needs) (λ c. search needs) a-signal (λ c κs. search needs) sub-bit bit-fits
-    (λ c. search needs) (λ c κs. search needs) (λ c. search needs) a-bit neither)
+    (λ c. search needs) (λ c κs. search needs) (λ c. search needs) a-bit (λ c κs. search needs)
+    (λ c. search needs) neither)

@@ -30,7 +30,11 @@ abbrev count : tie.After-known-told → ℕ
 count c = c .before .split .given .0 .0
 
 abbrev buffer : tie.After-known-told → List ℕ
-buffer c = call c .split-text .last .1 .0
+buffer c = call c .split-text .last .1 .1 .0
+
+-- What the splitter asks.
+splittable : tie.Need-split-text-requires
+splittable c κs = record { ranged = c .before .before .before .pre .ranged; room = omega arith }
 
 -- A text without words.
 no-words : tie.Need-returns
@@ -42,7 +46,7 @@ no-words c =
 
 -- The words that the splitter made, at the front of the buffer.
 words : (c : tie.After-known-told) →
-    Made (start (call c) .args .text .now) (replicate wordLimit 0) (count c) (buffer c)
+    Made (start (call c) .args .context) (start (call c) .args .text .now) (replicate wordLimit 0) (count c) (buffer c)
 words c = made-of (call c .split-text .ensures) (c .before .split .given .1)
 
 array-share-prefix-ws : tie.Need-array-share-prefix-ws
@@ -60,7 +64,7 @@ read-words-requires c κs =
     let here = c .before .before in
     let h = words here in
     let l = part-length here in
-    (omega (arith, h .few), start (call here) .pre)
+    (omega (arith, h .few), start (call here) .pre .room)
 
 -- What `read_words` says of these words is said of the text.
 from-words : tie.Need-returns-2
@@ -75,5 +79,5 @@ pub read-tree-spec : {M : Type 1} → statement M
 read-tree-spec =
     tie.close
     (tie.spec
-    (λ c. search needs) (λ c κs. search needs) (λ c. search needs) (λ c. search needs) (λ c κs. search needs)
+    (λ c. search needs) splittable (λ c. search needs) (λ c. search needs) (λ c κs. search needs)
     no-words array-share-prefix-ws slice-aggregate-read-words read-words-requires (λ c. search needs) from-words)

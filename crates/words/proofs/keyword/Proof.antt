@@ -43,7 +43,7 @@ len-or-lag c =
     (c .spelled-or8 .ensures ∙ rw (c .before .spelled-or7 .ensures))
 
 -- No keyword begins with the byte.
-none-begins : tie.Need-returns-11
+none-begins : tie.Need-returns-12
 none-begins c = no-keyword (run (c .before)) (rw (c .before .byte-at .ensures) at (c .match .rest))
 
 pub keyword-spec : {M : Type 1} → statement M
@@ -76,6 +76,8 @@ keyword-spec =
     (λ c κs. search needs)
     (λ c. search needs)
     (λ c κs. search needs)
+    (λ c. search needs)
+    (λ c κs. search needs)
     (λ c. let k = c .before .before in alone 0 (k .before) (k .match .keys1) tt (λ l. refl) (c .spelled-or .ensures))
     end-or-exists
     (λ c. let k = c .before .before in alone 2 (k .before) (k .match .keys3) tt (λ l. refl) (c .spelled-or4 .ensures))
@@ -87,4 +89,6 @@ keyword-spec =
     (λ c. let k = c .before .before in alone 9 (k .before) (k .match .keys9) tt (λ l. refl) (c .spelled-or11 .ensures))
     (λ c. let k = c .before .before in
     alone 10 (k .before) (k .match .keys10) tt (λ l. refl) (c .spelled-or12 .ensures))
+    (λ c. let k = c .before .before in
+    alone 12 (k .before) (k .match .keys11) tt (λ l. refl) (c .spelled-or13 .ensures))
     none-begins)

@@ -29,14 +29,14 @@ rest c = drop (c .args .i) (c .args .text .now)
 run-ends : (c : tie.After-run-end) → c .run-end .result ≡ in-run c .args .i + length (run (rest (in-run c)))
 run-ends c =
     let start = in-run c in
-    let first = sym (start .pre .1) ∙ c .before .if1 .taken in
-    let goes = run-goes (start .args .text .now) (start .args .i) (start .pre .0) first in
+    let first = sym (start .pre .class) ∙ c .before .if1 .taken in
+    let goes = run-goes (start .args .text .now) (start .args .i) (start .pre .inside) first in
     omega (arith, c .run-end .ensures, ap length goes)
 
 part-run-word-end : tie.Need-part-run-word-end
 part-run-word-end c =
     let start = in-run c in
-    let fits = run-fits (start .args .text .now) (start .args .i) (omega (arith, start .pre)) in
+    let fits = run-fits (start .args .text .now) (start .args .i) (omega (arith, start .pre .inside)) in
     omega (arith, fits, run-ends c)
 
 run-word-requires : tie.Need-run-word-requires
@@ -44,36 +44,43 @@ run-word-requires c κs =
     let at = c .before in
     let start = in-run at in
     let part = run-part (start .args .text .now) (start .args .i) (at .run-end .result) (run-ends at) in
-    let first = sym (start .pre .1) ∙ at .before .if1 .taken in
-    omega (arith, ap length part, run-some (start .args .text .now) (start .args .i) (start .pre .0) first)
+    let first = sym (start .pre .class) ∙ at .before .if1 .taken in
+    let some = run-some (start .args .text .now) (start .args .i) (start .pre .inside) first in
+    (start .pre .ranged, omega (arith, ap length part, some))
 
 a-run : tie.Need-returns
 a-run c =
     let at = c .before .before in
     let start = in-run at in
-    let i = start .args .i in
-    let part = run-part (start .args .text .now) i (at .run-end .result) (run-ends at) in
-    let word = word-run (rest start) (start .args .c) (at .before .if1 .taken) in
-    let width = width-run (rest start) (start .args .c) (at .before .if1 .taken) in
-    (c .run-word .ensures ∙ ap runOf part ∙ sym word, run-ends at ∙ ap (λ (n : ℕ). i + n) (sym width))
+    let args = start .args in
+    let part = run-part (args .text .now) (args .i) (at .run-end .result) (run-ends at) in
+    let is-run = at .before .if1 .taken in
+    let word = word-run (args .context) (args .awaited) (rest start) (args .c) is-run in
+    let width = width-run (rest start) (args .c) is-run in (
+      c .run-word .ensures ∙ ap (runOf (args .context) (args .awaited)) part ∙ sym word,
+      run-ends at ∙ ap (λ (n : ℕ). args .i + n) (sym width),
+    )
 
 no-word : tie.Need-returns-2
 no-word c =
     let start = no-run (c .before) in
-    let width = width-none (rest start) (start .args .c) (c .if2 .taken) in
-    (sym (word-none _ (start .args .c) (c .if2 .taken)), ap (λ (n : ℕ). start .args .i + n) (sym width))
+    let args = start .args in
+    let word = word-none (args .context) (args .awaited) _ (args .c) (c .if2 .taken) in
+    let width = width-none (rest start) (args .c) (c .if2 .taken) in
+    (sym word, ap (λ (n : ℕ). args .i + n) (sym width))
 
 an-operator : tie.Need-returns-3
 an-operator c =
     let at = c .before .before in
     let start = no-run (at .before) in
-    let class = start .args .c in
-    let i = start .args .i in
-    let next = c .before .byte-at .ensures ∙ sym (getD-drop i (start .args .text .now) 1 0) in
-    let word = word-operator (rest start) class (at .before .if1 .left) (at .if2 .left) in
-    let width = width-operator (rest start) class (at .before .if1 .left) in (
+    let args = start .args in
+    let class = args .c in
+    let next = c .before .byte-at .ensures ∙ sym (getD-drop (args .i) (args .text .now) 1 0) in
+    let no-run = at .before .if1 .left in
+    let word = word-operator (args .context) (args .awaited) (rest start) class no-run (at .if2 .left) in
+    let width = width-operator (rest start) class no-run in (
       c .operator-at .ensures .0 ∙ ap (longest class) next ∙ sym word,
-      c .operator-at .ensures .1 ∙ ap (λ (n : ℕ). i + n) (ap (operatorWidth class) next ∙ sym width),
+      c .operator-at .ensures .1 ∙ ap (λ (n : ℕ). args .i + n) (ap (operatorWidth class) next ∙ sym width),
     )
 
 pub word-at-spec : {M : Type 1} → statement M
