@@ -43,8 +43,8 @@ use Rattle.agreement.proofs.Calls.{Small, same-at, admitted-small}
 same-verdict : (x y : ℕ) → (Verdict x ≡ Verdict y) ↔ (x ≡ y)
 same-verdict x y = (λ e. cc, λ e. ap Verdict e)
 
-module _ (cap : ℕ) (low : cap ≤ literalCount) (m : ℕ) (few : m ≤ signalCount) (f : Formula)
-    (led : leads (raw f) ≡ true) (bound : bounded cap (raw f) ≡ true)
+module _ (cap velocities : ℕ) (low : cap ≤ literalCount) (m : ℕ) (few : m ≤ signalCount) (f : Formula)
+    (led : leads (raw f) ≡ true) (bound : bounded cap velocities (raw f) ≡ true)
     (below : (j : ℕ) → namedBy f j ≡ true → j < m) (junk : List ℕ)
     (short : length (observerOver m f) ≤ equationLimit) where
   abbrev t : List ℕ
@@ -54,33 +54,33 @@ module _ (cap : ℕ) (low : cap ≤ literalCount) (m : ℕ) (few : m ≤ signalC
   n = length (observerOver m f)
 
   -- The table passes its check.
-  pub passes : checked t n ≡ Passed
-  passes = formed-over cap low m few f bound below junk short
+  pub passes : checked velocities t n ≡ Passed
+  passes = formed-over cap velocities low m few f bound below junk short
 
   module _ (old : List ℕ) (room : n ≤ length old) (trace : Trace) where
     abbrev flow : ℕ → ℕ → ℕ
     flow = flowAt cap t n old trace
 
     run : Lustre cap t n trace flow
-    run = lustre cap t n old trace passes room
+    run = lustre cap velocities t n old trace passes room
 
     -- The answer at a tick of a run, by the last two flows.
-    answer-over : (e : ℕ) → answerAt cap t n old trace e ≡ told cap trace flow m f junk run e
+    answer-over : (e : ℕ) → answerAt cap t n old trace e ≡ told cap velocities trace flow m f junk run e
     unfolding answerOf
     answer-over e =
         rw (started-last m f, ← verdict-last m f)
         (ap (λ (x : ℕ). cond (on flow (wholePlace m f ⊕ 1) e) x idleVerdict)
         (boolean-number cap trace flow t n run (verdictOf n) (omega (arith, whole-last m f))
-        (verdict-boolean t n passes) e))
+        (verdict-boolean velocities t n passes) e))
 
     -- It is idle exactly before the first start,
-    tick-idle : (k : ℕ) (s : Taken) → Ran cap t n passes old room trace k s → IdleUntilStart trace k s
+    tick-idle : (k : ℕ) (s : Taken) → Ran cap velocities t n passes old room trace k s → IdleUntilStart trace k s
     unfolding afterTick flowAt
     tick-idle k s r =
-        let tells : s .left .answer ≡ Verdict (told cap trace flow m f junk run k) =
+        let tells : s .left .answer ≡ Verdict (told cap velocities trace flow m f junk run k) =
         ap (λ (z : AfterStep). z .answer) (r .left) ∙ ap Verdict (answer-over k) in
         subst (λ (a : Stepped). (a ≡ Verdict idleVerdict) ↔ ((i : ℕ) → i ≤ k → ¬ Starts trace i)) (sym tells)
-        (Iff·trans (same-verdict _ idleVerdict) (idle-over cap trace flow m f junk run k))
+        (Iff·trans (same-verdict _ idleVerdict) (idle-over cap velocities trace flow m f junk run k))
 
   module _ (old : List ℕ) (room : n ≤ length old) (ps : List ℕ) where
     -- and the formula's verdict, where the parameters are the same at all ticks and below the cap;
@@ -89,41 +89,44 @@ module _ (cap : ℕ) (low : cap ≤ literalCount) (m : ℕ) (few : m ≤ signalC
     verdicts ks same small e =
         let trace : Trace = traceOfTicks ps ks in
         answer-over old room trace e
-        ∙ verdict-over cap trace (flow old room trace) m f junk (run old room trace)
+        ∙ verdict-over cap velocities trace (flow old room trace) m f junk (run old room trace)
         (λ i j. same-at same i ∙ sym (same-at same j)) (λ k j h. rw (same-at same k) (small j h)) led bound below e
 
     -- and so the step of each tick answers it, over any list of calls.
     module _ (ks : List Tick) (same : SameParameters ps ks) where
-      tick-means : (k : ℕ) (s : Taken) → Ran cap t n passes old room (traceOfTicks ps ks) k s
+      tick-means : (k : ℕ) (s : Taken) → Ran cap velocities t n passes old room (traceOfTicks ps ks) k s
           → AsMeant f (traceOfTicks ps ks) k s
       unfolding afterTick flowAt
       tick-means k s r =
           let here : s .call .tick .parameters ≡ ps =
           ap (λ (x : Tick). x .parameters) (sym (r .now)) ∙ same-at same k in
-          let small = admitted-small cap n (s .call .values) (s .call .tick) (r .admitted) in
+          let small = admitted-small cap velocities n (s .call .values) (s .call .tick) (r .admitted) in
           ap (λ (z : AfterStep). z .answer) (r .left)
           ∙ ap Verdict (verdicts ks same (subst (Small cap) here small) k)
 
   pub answers-mean : (old : List ℕ) → n ≤ length old → (calls : List Call) (ps : List ℕ)
-      → SameParameters ps (ticks (fromFresh cap t n old calls))
-      → EachTick (AsMeant f (traceOfTicks ps (ticks (fromFresh cap t n old calls)))) 0 (fromFresh cap t n old calls)
+      → SameParameters ps (ticks (fromFresh cap velocities t n old calls))
+      → EachTick (AsMeant f (traceOfTicks ps (ticks (fromFresh cap velocities t n old calls)))) 0
+      (fromFresh cap velocities t n old calls)
   answers-mean old room calls ps same =
-      each-map (tick-means old room ps (ticks (fromFresh cap t n old calls)) same)
-      (ran cap t n passes old room calls (tickOf 0 0 ps))
+      each-map (tick-means old room ps (ticks (fromFresh cap velocities t n old calls)) same)
+      (ran cap velocities t n passes old room calls (tickOf 0 0 0 ps))
 
   pub answers-idle : (old : List ℕ) → n ≤ length old → (calls : List Call) (d : Tick)
-      → EachTick (IdleUntilStart (traceOf d (ticks (fromFresh cap t n old calls)))) 0 (fromFresh cap t n old calls)
-  answers-idle old room calls d = each-map (tick-idle old room _) (ran cap t n passes old room calls d)
+      → EachTick (IdleUntilStart (traceOf d (ticks (fromFresh cap velocities t n old calls)))) 0
+      (fromFresh cap velocities t n old calls)
+  answers-idle old room calls d = each-map (tick-idle old room _) (ran cap velocities t n passes old room calls d)
 
 -- The answers as a list, of any table that observes a formula.
-pub answers-are : {cap : ℕ} {t : List ℕ} {n : ℕ} {f : Formula} → Observes cap t n f
-    → (old : List ℕ) → n ≤ length old → (calls : List Call) (ps : List ℕ) → SameParameters ps (admitted cap n calls)
-    → answered (fromFresh cap t n old calls)
-    ≡ expected cap n (verdict (traceOfTicks ps (admitted cap n calls)) f) 0 calls
-answers-are {cap} {t} {n} {f} o old room calls ps same =
-    let ss = fromFresh cap t n old calls in
+pub answers-are : {cap velocities : ℕ} {t : List ℕ} {n : ℕ} {f : Formula} → Observes cap velocities t n f
+    → (old : List ℕ) → n ≤ length old → (calls : List Call) (ps : List ℕ)
+    → SameParameters ps (admitted cap velocities n calls)
+    → answered (fromFresh cap velocities t n old calls)
+    ≡ expected cap velocities n (verdict (traceOfTicks ps (admitted cap velocities n calls)) f) 0 calls
+answers-are {cap} {velocities} {t} {n} {f} o old room calls ps same =
+    let ss = fromFresh cap velocities t n old calls in
     let decides = o .decides old room calls in
-    let ks : ticks ss ≡ admitted cap n calls = decided-ticks cap t n calls _ decides in
-    each-expected cap n (verdict (traceOfTicks ps (admitted cap n calls)) f) calls ss 0 decides
+    let ks : ticks ss ≡ admitted cap velocities n calls = decided-ticks cap velocities t n calls _ decides in
+    each-expected cap velocities n (verdict (traceOfTicks ps (admitted cap velocities n calls)) f) calls ss 0 decides
     (subst (λ (l : List Tick). EachTick (AsMeant f (traceOfTicks ps l)) 0 ss) ks
     (o .agrees old room calls ps (subst (SameParameters ps) (sym ks) same)))

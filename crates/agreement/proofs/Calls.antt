@@ -4,7 +4,7 @@ use mathlib.Core.Bool.{Bool, true, false, cond}
 use mathlib.Core.List.{List}
 use mathlib.Core.Path.{_≡_, refl}
 use Prim.Native.Nat.{ℕ, zero, suc, _<_}
-use lib.Dec.{leb}
+use lib.Dec.{leb, ltb}
 use lib.ListN.{length, getD}
 use borrow.Author.Tests.{ltb-true}
 use Rattle.traces.specs.declared.Tick.{Tick}
@@ -28,15 +28,15 @@ abbrev pub Small : ℕ → List ℕ → Type 0
 Small cap ps = (j : ℕ) → j < parameterCount → getD ps j 0 < cap
 
 -- They are if a call with them is admitted.
-pub admitted-small : (cap n : ℕ) (values : List ℕ) (k : Tick) → callChecked cap n values k ≡ Passed
-    → Small cap (k .parameters)
+pub admitted-small : (cap velocities n : ℕ) (values : List ℕ) (k : Tick)
+    → callChecked cap velocities n values k ≡ Passed → Small cap (k .parameters)
 unfolding callChecked parameterFits
-admitted-small cap n values k e j h =
+admitted-small cap velocities n values k e j h =
     ltb-true (getD (k .parameters) j 0) cap
     (all-at (parameterFits cap k) parameterCount
-    (passed (leb n (length values)) (all (parameterFits cap k) parameterCount) e) j h)
+    (passed (leb n (length values)) (all (parameterFits cap k) parameterCount) (ltb (k .velocity) velocities) e) j h)
   where
-    passed : (a b : Bool) → cond a (cond b Passed (Failed 13)) (Failed 12) ≡ Passed → b ≡ true
-    passed true true e = refl
-    passed true false e = cc
-    passed false b e = cc
+    passed : (a b c : Bool) → cond a (cond b (cond c Passed (Failed 19)) (Failed 13)) (Failed 12) ≡ Passed → b ≡ true
+    passed true true c e = refl
+    passed true false c e = cc
+    passed false b c e = cc

@@ -14,18 +14,18 @@ use Rattle.scheme.proofs.Parts.{bodyBlock, observerOver, memory-last, started-l
 use Rattle.scheme.proofs.Formed.{start-stands, whole-stands, result-before}
 use Rattle.agreement.specs.Agreement.{Closing}
 
-module _ (cap : ℕ) (low : cap ≤ literalCount) (m : ℕ) (few : m ≤ signalCount) (f : Formula)
-    (bound : bounded cap (raw f) ≡ true) (below : (j : ℕ) → namedBy f j ≡ true → j < m) (junk : List ℕ) where
+module _ (cap velocities : ℕ) (low : cap ≤ literalCount) (m : ℕ) (few : m ≤ signalCount) (f : Formula)
+    (bound : bounded cap velocities (raw f) ≡ true) (below : (j : ℕ) → namedBy f j ≡ true → j < m) (junk : List ℕ) where
   pub closing-over : Closing (numbersOf (observerOver m f) ++ junk) (length (observerOver m f))
   closing-over =
-      let rows = whole-stands cap low m few f bound below junk in
+      let rows = whole-stands cap velocities low m few f bound below junk in
       record {
-        start = start-stands cap low m few f bound below junk;
+        start = start-stands cap velocities low m few f bound below junk;
         memory = rw (memory-last m f, started-last m f) (rows .0);
         started = rw (memory-last m f, started-last m f) (rows .1 .0);
         verdict = (
           bodyBlock m f .out,
-          rw (memory-last m f) (result-before cap low m few f bound below junk),
+          rw (memory-last m f) (result-before cap velocities low m few f bound below junk),
           rw (started-last m f, verdict-last m f) (rows .1 .1 .0),
         );
       }

@@ -6,5 +6,5 @@ pub mod Answers
 pub mod Ends
 pub mod Memories
 pub mod Theorem
--- P1 to P13:
+-- P1 to P13 and the further rows:
 pub mod Trials

@@ -24,26 +24,27 @@ use Rattle.agreement.proofs.Answers.{passes, answers-mean, answers-idle
 use Rattle.agreement.proofs.Ends.{closing-over}
 
 -- The formula names signals 0 to 63 only.
-below : (cap : ℕ) (f : Formula) → bounded cap (raw f) ≡ true → (j : ℕ) → namedBy f j ≡ true → j < signalCount
-below cap f bound j e = names-below cap j f bound e
+below : (cap velocities : ℕ) (f : Formula) → bounded cap velocities (raw f) ≡ true
+    → (j : ℕ) → namedBy f j ≡ true → j < signalCount
+below cap velocities f bound j e = names-below cap velocities j f bound e
 
 -- What is cited is over any number of signals, so that nothing computes a list of 64.
 few : signalCount ≤ signalCount
 few = omega arith
 
--- For every cap up to a million, every formula f whose `then`s have leads on their left, whose signals, parameters and
--- literals are in range, and whose tree has no more records than reading makes, and whatever numbers stand after its
--- observer in the table: the observer observes f.
-pub observes : (cap : ℕ) → cap ≤ literalCount → (f : Formula) → leads (raw f) ≡ true → bounded cap (raw f) ≡ true
-    → length (flat (raw f)) ≤ arenaLimit → (junk : List ℕ)
-    → Observes cap (numbersOf (observer f) ++ junk) (length (observer f)) f
-observes cap low f led bound size junk =
+-- For every cap up to a million, however many velocities there are, every formula f whose `then`s have leads on their
+-- left, whose signals, parameters and literals are in range, and whose tree has no more records than reading makes, and
+-- whatever numbers stand after its observer in the table: the observer observes f.
+pub observes : (cap velocities : ℕ) → cap ≤ literalCount → (f : Formula) → leads (raw f) ≡ true
+    → bounded cap velocities (raw f) ≡ true → length (flat (raw f)) ≤ arenaLimit → (junk : List ℕ)
+    → Observes cap velocities (numbersOf (observer f) ++ junk) (length (observer f)) f
+observes cap velocities low f led bound size junk =
     record {
       formed = formed;
-      fresh = λ old room. ap (λ (y : AfterFresh). y .answer) (made t n old formed room);
-      agrees = answers-mean cap low signalCount few f led bound (below cap f bound) junk short;
-      decides = λ old room calls. calls-decide cap t n formed old room calls;
-      idle = answers-idle cap low signalCount few f led bound (below cap f bound) junk short;
+      fresh = λ old room. ap (λ (y : AfterFresh). y .answer) (made velocities t n old formed room);
+      agrees = answers-mean cap velocities low signalCount few f led bound (below cap velocities f bound) junk short;
+      decides = λ old room calls. calls-decide cap velocities t n formed old room calls;
+      idle = answers-idle cap velocities low signalCount few f led bound (below cap velocities f bound) junk short;
     }
   where
     t : List ℕ
@@ -55,10 +56,12 @@ observes cap low f led bound size junk =
     short : n ≤ equationLimit
     short = observer-size f size
 
-    formed : checked t n ≡ Passed
-    formed = passes cap low signalCount few f led bound (below cap f bound) junk short
+    formed : checked velocities t n ≡ Passed
+    formed = passes cap velocities low signalCount few f led bound (below cap velocities f bound) junk short
 
 -- SPEC 12.7: how it closes.
-pub closing : (cap : ℕ) → cap ≤ literalCount → (f : Formula) → bounded cap (raw f) ≡ true → (junk : List ℕ)
+pub closing : (cap velocities : ℕ) → cap ≤ literalCount → (f : Formula) → bounded cap velocities (raw f) ≡ true
+    → (junk : List ℕ)
     → Closing (numbersOf (observer f) ++ junk) (length (observer f))
-closing cap low f bound junk = closing-over cap low signalCount few f bound (below cap f bound) junk
+closing cap velocities low f bound junk =
+    closing-over cap velocities low signalCount few f bound (below cap velocities f bound) junk

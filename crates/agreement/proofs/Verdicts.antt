@@ -19,17 +19,17 @@ use Rattle.tables.specs.Table.{kindOf}
 use Rattle.limits.specs.Limits.{parameterCount}
 use Rattle.flows.specs.Lustre.{Lustre}
 use Rattle.scheme.specs.Scheme.{_⊕_}
-use Rattle.scheme.specs.Emit.{namedBy, startFlow, negatedFlow, headerCount, numbersOf}
+use Rattle.scheme.specs.Emit.{namedBy, startFlow, negatedFlow, headerCount, testsOf, numbersOf}
 use Rattle.scheme.proofs.Offsets.{zero-⊕}
 use Rattle.scheme.proofs.Places.{each-left, each-right}
-use Rattle.scheme.proofs.Parts.{headRows, flowAmong, bodyPlace, bodyBlock, wholePlace, wholeRows}
+use Rattle.scheme.proofs.Parts.{headRows, flowAmong, testsPlace, bodyPlace, bodyBlock, wholePlace, wholeRows}
 use Rattle.scheme.proofs.Parts.{observerOver}
 use Rattle.scheme.proofs.Header.{signal-at}
 use Rattle.scheme.proofs.Local.{on, LocalAt, Stand, all-stand}
 use Rattle.scheme.proofs.Nodes.{Agrees, agrees}
 use Rattle.scheme.proofs.Closing.{answers-since, whole-is}
 
-module _ (cap : ℕ) (trace : Trace) (flow : ℕ → ℕ → ℕ) where
+module _ (cap velocities : ℕ) (trace : Trace) (flow : ℕ → ℕ → ℕ) where
   module _ (m : ℕ) (f : Formula) (junk : List ℕ)
       (lustre : Lustre cap (numbersOf (observerOver m f) ++ junk) (length (observerOver m f)) trace flow) where
     stand : Stand cap trace flow 0 (observerOver m f)
@@ -38,8 +38,11 @@ module _ (cap : ℕ) (trace : Trace) (flow : ℕ → ℕ → ℕ) where
     head : Stand cap trace flow 0 (headRows (namedBy f) m)
     head = each-left (LocalAt cap trace flow) (headRows (namedBy f) m) _ 0 stand
 
+    after : Stand cap trace flow (testsPlace m f) (testsOf f ++ (bodyBlock m f .es ++ wholeRows m f))
+    after = each-right (LocalAt cap trace flow) (headRows (namedBy f) m) _ 0 stand
+
     rest : Stand cap trace flow (bodyPlace m f) (bodyBlock m f .es ++ wholeRows m f)
-    rest = each-right (LocalAt cap trace flow) (headRows (namedBy f) m) _ 0 stand
+    rest = each-right (LocalAt cap trace flow) (testsOf f) _ (testsPlace m f) after
 
     closing : Stand cap trace flow (wholePlace m f) (wholeRows m f)
     closing = each-right (LocalAt cap trace flow) (bodyBlock m f .es) (wholeRows m f) (bodyPlace m f) rest
@@ -65,7 +68,7 @@ module _ (cap : ℕ) (trace : Trace) (flow : ℕ → ℕ → ℕ) where
 
     module _ (same : (i j : ℕ) → (trace i) .parameters ≡ (trace j) .parameters)
         (small : (k j : ℕ) → j < parameterCount → parameterAt (trace k) j < cap)
-        (led : leads (raw f) ≡ true) (bound : bounded cap (raw f) ≡ true)
+        (led : leads (raw f) ≡ true) (bound : bounded cap velocities (raw f) ≡ true)
         (below : (j : ℕ) → namedBy f j ≡ true → j < m) where
       -- The flow of each named signal is the signal.
       signals : (j : ℕ) → namedBy f j ≡ true → (k : ℕ) → on flow (flowAmong (namedBy f) m j) k ≡ signalAt (trace k) j
@@ -74,13 +77,15 @@ module _ (cap : ℕ) (trace : Trace) (flow : ℕ → ℕ → ℕ) where
           let e′ : namedBy f (0 ⊕ j) ≡ true = rw zero-⊕ e in
           rw zero-⊕ at (signal-at (namedBy f) (LocalAt cap trace flow) m 0 headerCount j (head .1 .1) (below j e) e′ k)
 
-      body-agrees : Agrees cap trace flow startFlow (bodyBlock m f .out) f
+      body-agrees : Agrees trace flow startFlow (bodyBlock m f .out) f
       body-agrees =
-          agrees cap trace flow same small (flowAmong (namedBy f) m) f startFlow negatedFlow (bodyPlace m f) (record {
+          agrees cap velocities trace flow same small (flowAmong (namedBy f) m) f startFlow negatedFlow (testsPlace m f)
+          (bodyPlace m f) (record {
             led = led;
             bound = bound;
             signals = signals;
             negated = negated;
+            tested = each-left (LocalAt cap trace flow) (testsOf f) _ (testsPlace m f) after;
             stands = each-left (LocalAt cap trace flow) (bodyBlock m f .es) (wholeRows m f) (bodyPlace m f) rest;
           })
 

@@ -48,7 +48,7 @@ pub data SameParameters (ps : List ℕ) : List Tick → Type 0 where
 
 -- The trace of the ticks; past the last one, which no verdict looks at, ticks with those parameters.
 abbrev pub traceOfTicks : List ℕ → List Tick → Trace
-traceOfTicks ps ks = traceOf (tickOf 0 0 ps) ks
+traceOfTicks ps ks = traceOf (tickOf 0 0 0 ps) ks
 
 -- The step of the tick numbered k answers the verdict that the meaning of f has there.
 abbrev pub AsMeant : Formula → Trace → ℕ → Taken → Type 0
@@ -59,18 +59,20 @@ abbrev pub IdleUntilStart : Trace → ℕ → Taken → Type 0
 IdleUntilStart trace k s = (s .left .answer ≡ Verdict idleVerdict) ↔ ((i : ℕ) → i ≤ k → ¬ Starts trace i)
 
 -- The n equations of the table are an observer of the formula f.
-pub record Observes (cap : ℕ) (t : List ℕ) (n : ℕ) (f : Formula) : Type 0 where
+pub record Observes (cap velocities : ℕ) (t : List ℕ) (n : ℕ) (f : Formula) : Type 0 where
   -- They pass the tests of refusals 10 and 11, so that a fresh state is made where there are cells for it.
-  pub formed : checked t n ≡ Passed
-  pub fresh : (old : List ℕ) → n ≤ length old → freshened t n old .answer ≡ Made
+  pub formed : checked velocities t n ≡ Passed
+  pub fresh : (old : List ℕ) → n ≤ length old → freshened velocities t n old .answer ≡ Made
   -- The step of every tick answers the verdict (SPEC 4.10), from the fresh state over any old cells, over every list of
   -- calls, refused ones included, if the ticks have the same parameters. And SPEC 6.5 holds.
   pub agrees : (old : List ℕ) → n ≤ length old → (calls : List Call) (ps : List ℕ)
-      → SameParameters ps (ticks (fromFresh cap t n old calls))
-      → EachTick (AsMeant f (traceOfTicks ps (ticks (fromFresh cap t n old calls)))) 0 (fromFresh cap t n old calls)
+      → SameParameters ps (ticks (fromFresh cap velocities t n old calls))
+      → EachTick (AsMeant f (traceOfTicks ps (ticks (fromFresh cap velocities t n old calls)))) 0
+      (fromFresh cap velocities t n old calls)
   pub decides : (old : List ℕ) → n ≤ length old → (calls : List Call)
-      → CallsDecide cap n calls (fromFresh cap t n old calls)
+      → CallsDecide cap velocities n calls (fromFresh cap velocities t n old calls)
   -- It answers idle exactly before the first start (SPEC 4.10), whatever parameters the ticks have. Past the last tick,
   -- where no step looks, the trace is as d.
   pub idle : (old : List ℕ) → n ≤ length old → (calls : List Call) (d : Tick)
-      → EachTick (IdleUntilStart (traceOf d (ticks (fromFresh cap t n old calls)))) 0 (fromFresh cap t n old calls)
+      → EachTick (IdleUntilStart (traceOf d (ticks (fromFresh cap velocities t n old calls)))) 0
+      (fromFresh cap velocities t n old calls)

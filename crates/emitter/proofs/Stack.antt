@@ -10,7 +10,7 @@ use lib.Seq.{getD-set-same, getD-set-other}
 use Rattle.lists.specs.Number.{numberAt}
 use Rattle.scheme.specs.Scheme.{nodeOf, Values, valueNamed, filled}
 use Rattle.scheme.proofs.Offsets.{⊕-add}
-use Rattle.scheme.proofs.ByKind.{rows-few}
+use Rattle.scheme.proofs.ByKind.{rows-few, tests-few}
 use Rattle.node_table.specs.Numbers.{nameNumber, valueList, asNode, lookedUp}
 use Rattle.node_table.specs.declared.Node.{Node as CodeNode}
 use Rattle.node_table.proofs.Found.{named}
@@ -85,8 +85,11 @@ added {vs} {t} {stack} {m} {d} {t′} k v e-d e-vs h =
     let e-next = h .next in
     let e-negated = h .negated in
     let few = rows-few k in
+    let few-tests = tests-few k in
+    let e-tests = h .tests in
     let count : d .count ≡ length (nodeOf k .rows) = ap (λ (x : CodeNode). x .count) e-d in
     let takes : d .takes ≡ nodeOf k .takes = ap (λ (x : CodeNode). x .takes) e-d in
+    let tests : d .tests ≡ nodeOf k .tests = ap (λ (x : CodeNode). x .tests) e-d in
     let result : d .result ≡ nameNumber (nodeOf k .result) = ap (λ (x : CodeNode). x .result) e-d in
     let negated : d .negated ≡ nameNumber (nodeOf k .negated) = ap (λ (x : CodeNode). x .negated) e-d in
     let rows : take (d .count) (map (lookedUp vs) (d .rows)) ≡ filled v (nodeOf k .rows) =
@@ -98,17 +101,20 @@ added {vs} {t} {stack} {m} {d} {t′} k v e-d e-vs h =
     let negated-out : numberAt vs (d .negated) ≡ valueNamed v (nodeOf k .negated) =
     ap₂ numberAt e-vs negated ∙ named v (nodeOf k .negated) in
     record {
-      stands = cc (⊕-add (m .next) (length (nodeOf k .rows)), e-h .holds);
+      stands =
+          cc (⊕-add (m .next) (length (nodeOf k .rows)), ⊕-add (m .tests) (nodeOf k .tests), e-h .holds);
       near = omega arith;
+      tested = omega arith;
       low = e-h .low;
     }
 
 -- One record, whose node was added.
 pub entered : {places : List ℕ} {x : Record} {t stack : List ℕ} {m : Place} {d : CodeNode} {vs t′ stack′ : List ℕ}
     {m′ : Place} → d ≡ asNode (nodeOf (x .kind))
-    → vs ≡ valueList (valuesAt places (m .next) (m .negated) (stacked stack (m .height)) x)
+    → vs ≡ valueList (valuesAt places (m .next) (m .tests) (m .negated) (stacked stack (m .height)) x)
     → AddedBy d vs t stack m t′ stack′ m′ → Entered places x t stack m t′ stack′ m′
 unfolding step
 entered {places} {x} {stack = stack} {m = m} e-d e-v h =
-    let a = added (x .kind) (valuesAt places (m .next) (m .negated) (stacked stack (m .height)) x) e-d e-v h in
-    record { stands = a .stands; near = a .near; low = a .low }
+    let v = valuesAt places (m .next) (m .tests) (m .negated) (stacked stack (m .height)) x in
+    let a = added (x .kind) v e-d e-v h in
+    record { stands = a .stands; near = a .near; tested = a .tested; low = a .low }

@@ -3,7 +3,7 @@
 -- looked up. No public promise cites this module: it is what the code does, and proofs/ show that what it writes is the
 -- `observer` (scheme, specs/Emit.antt). Definitions only.
 use mathlib.Core.Bool.{cond}
-use mathlib.Core.List.{List, [], _∷_}
+use mathlib.Core.List.{List, [], _∷_, _++_}
 use Prim.Native.Nat.{ℕ, zero, suc, _+_, _*_}
 use lib.Dec.{eqb, leb}
 use lib.ListN.{set, drop, length}
@@ -11,7 +11,7 @@ use lib.Seq.{sets}
 use Rattle.lists.specs.Number.{numberAt}
 use Rattle.traces.specs.Trace.{nonzero}
 use Rattle.formulas.specs.Arena as arena
-use Rattle.tables.specs.Kind.{SIGNAL}
+use Rattle.tables.specs.Kind.{SIGNAL, VELOCITY}
 use Rattle.tables.specs.Table.{Equation}
 use Rattle.limits.specs.Limits.{recordLimit, signalCount}
 use Rattle.scheme.specs.Scheme.{_⊕_, Node, nodeOf, Values, valueNamed, comparisonOf, filled}
@@ -31,15 +31,17 @@ withEquations t o es = sets t (4 * o) (numbersOf es)
 
 -- ---- one record
 
--- The table so far, the place of the next equation, the negated start flow, and the operands, the last one first.
+-- The table so far, the place of the next equation, that of the next test in the table's head, the negated start flow,
+-- and the operands, the last one first.
 pub record State : Type 0 where
   pub table : List ℕ
   pub next : ℕ
+  pub tests : ℕ
   pub negated : ℕ
   pub stack : List ℕ
 
-abbrev pub state : List ℕ → ℕ → ℕ → List ℕ → State
-state t o n st = record { table = t; next = o; negated = n; stack = st }
+abbrev pub state : List ℕ → ℕ → ℕ → ℕ → List ℕ → State
+state t o u n st = record { table = t; next = o; tests = u; negated = n; stack = st }
 
 -- A start flow stands right before its negation.
 abbrev pub before : ℕ → ℕ
@@ -61,8 +63,8 @@ abbrev pub recordFrom : List ℕ → ℕ → Record
 recordFrom l i = cond (leb (i + 4) (length l)) (recordAt l i) whole
 
 -- The scheme's values for a record; places has the flow of each signal.
-unfoldable pub valuesAt : List ℕ → ℕ → ℕ → List ℕ → Record → Values
-valuesAt places o n st r =
+unfoldable pub valuesAt : List ℕ → ℕ → ℕ → ℕ → List ℕ → Record → Values
+valuesAt places o u n st r =
     record {
       place = o;
       negated = n;
@@ -70,6 +72,7 @@ valuesAt places o n st r =
       last = numberAt st 0;
       previous = numberAt st 1;
       signal = numberAt places (r .a);
+      tested = u;
       a = r .a;
       comparison = comparisonOf (r .b);
       c = r .c;
@@ -78,11 +81,11 @@ valuesAt places o n st r =
 -- What a node leaves, with its values.
 unfoldable pub applied : Node → Values → State → State
 applied d v s =
-    state (withEquations (s .table) (s .next) (filled v (d .rows))) (s .next ⊕ length (d .rows))
+    state (withEquations (s .table) (s .next) (filled v (d .rows))) (s .next ⊕ length (d .rows)) (s .tests ⊕ d .tests)
     (valueNamed v (d .negated)) (valueNamed v (d .result) ∷ drop (d .takes) (s .stack))
 
 unfoldable pub step : List ℕ → Record → State → State
-step places r s = applied (nodeOf (r .kind)) (valuesAt places (s .next) (s .negated) (s .stack) r) s
+step places r s = applied (nodeOf (r .kind)) (valuesAt places (s .next) (s .tests) (s .negated) (s .stack) r) s
 
 -- ---- all records
 
@@ -99,9 +102,10 @@ unfoldable pub stacked : List ℕ → ℕ → List ℕ
 stacked l zero = []
 stacked l (suc h) = numberAt l h ∷ stacked l h
 
--- The records of an arena and then the whole rule's node, where the table's header ends at o.
-abbrev pub ran : List ℕ → List ℕ → List ℕ → ℕ → State
-ran l places t o = step places whole (run places l (state t o negatedFlow []))
+-- The records of an arena and then the whole rule's node, where the tests stand from u on and the table's head ends
+-- at o.
+abbrev pub ran : List ℕ → List ℕ → List ℕ → ℕ → ℕ → State
+ran l places t u o = step places whole (run places l (state t o u negatedFlow []))
 
 -- ---- the named signals
 
@@ -140,3 +144,17 @@ settle (suc m) j h = settle m (suc j) (withSignal j h)
 -- The start flow, its negation, and the signals.
 abbrev pub headed : List ℕ → List ℕ → Header
 headed t named = settle signalCount 0 (headerOf (withEquations t 0 start-es) named headerCount)
+
+-- ---- the velocity tests
+
+-- A velocity test's record has an equation in the table's head, any other none.
+abbrev pub testOf : Record → List Equation
+testOf r = cond (eqb (r .kind) arena.VELOCITY) (equation VELOCITY (r .a) (r .b) 0 ∷ []) []
+
+-- Those of all records, in their order.
+unfoldable pub testsIn : List ℕ → List Equation
+testsIn [] = []
+testsIn (k ∷ []) = []
+testsIn (k ∷ a ∷ []) = []
+testsIn (k ∷ a ∷ b ∷ []) = []
+testsIn (k ∷ a ∷ b ∷ c ∷ l) = testOf (recordOf k a b c) ++ testsIn l

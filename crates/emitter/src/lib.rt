@@ -1,7 +1,8 @@
-// The observer of a rule (SPEC 8.2, SPEC 12.3): one pass over the records of the rule's tree, operands first, as a
-// stack machine. A record's kind picks a node of the observer scheme (crate scheme), and the node's rows go to the
-// table. The pass as a definition is in specs/Machine.antt; that it gives the observer's equations is what
-// `emit_observer` promises.
+// The observer of a rule (SPEC 8.2, SPEC 12.3): first the table's head, which has the start flows, the signals that the
+// rule names and its velocity tests, and then one pass over the records of the rule's tree, operands first, as a stack
+// machine. A record's kind picks a node of the observer scheme (crate scheme), and the node's rows go to the table. The
+// passes as definitions are in specs/Machine.antt; that they give the observer's equations is what `emit_observer`
+// promises.
 use node_table::Node;
 use node_table::Row;
 ghost use mathlib.Core.Path.{_≡_};
@@ -16,8 +17,9 @@ ghost use Rattle.scheme.specs.Emit.{headerCount};
 ghost use Rattle.node_table.specs.Numbers.{valueList, asNode, Known, Sized, lookedUp};
 ghost use Rattle.emitter.specs.Machine.{withEquations, before, recordAt, recordFrom, valuesAt, stacked, marked};
 ghost use Rattle.emitter.specs.Machine.{marks, headerOf};
-ghost use Rattle.emitter.specs.Machine.{withSignal};
-ghost use Rattle.emitter.specs.Contract.{Emitted, PassRoom, Restacked, AddedBy, Entered, Ran, Headed};
+ghost use Rattle.emitter.specs.Machine.{withSignal, testOf};
+ghost use Rattle.emitter.specs.Contract.{Emitted, PassRoom, Restacked, AddedBy, Entered, Begun, Ran, Headed};
+ghost use Rattle.emitter.specs.Contract.{Put, Tested};
 
 // The start flow and its negation, and how many these are: the header's equations before the named signals'.
 const START_FLOW: u32 = 0;
@@ -152,9 +154,11 @@ fn record_at(arena: &[u32], i: usize) -> Record
     }
 }
 
-// Where the pass stands: the place of the next equation, the negated start flow, the height of the stack.
+// Where the pass stands: the place of the next equation, that of the next test in the table's head, the negated start
+// flow, the height of the stack.
 struct Place {
     pub next: u32,
+    pub tests: u32,
     pub negated: u32,
     pub height: usize,
 }
@@ -162,7 +166,7 @@ struct Place {
 // The values for a record, in the order of their names.
 fn values_at(stack: &[u32], places: &[u32], m: Place, x: Record) -> [u32; VALUES]
     requires { ⌜ m .next ≤ equationLimit ⌝ }
-    ensures { λ r. ⌜ r ≡ valueList (valuesAt (now (places .entry)) (m .next) (m .negated)
+    ensures { λ r. ⌜ r ≡ valueList (valuesAt (now (places .entry)) (m .next) (m .tests) (m .negated)
         (stacked (now (stack .entry)) (m .height)) x) ⌝ }
 {
     let start = before(m.negated);
@@ -178,6 +182,7 @@ fn values_at(stack: &[u32], places: &[u32], m: Place, x: Record) -> [u32; VALUES
         last,
         previous,
         signal,
+        m.tests,
         x.a,
         x.c,
         o,
@@ -189,8 +194,8 @@ fn values_at(stack: &[u32], places: &[u32], m: Place, x: Record) -> [u32; VALUES
     ]
 }
 
-// A node: its rows go to the table, its operands come off the stack, its result goes on, and its start is the one from
-// here on.
+// A node: its rows go to the table, its operands come off the stack, its result goes on, its tests are passed, and its
+// start is the one from here on.
 fn add_node(table: &mut [u32], stack: &mut [u32], m: Place, vs: &[u32; VALUES], d: Node) -> Place
     requires { ⌜ PassRoom m (now stack) × Sized d ⌝ }
     ensures { λ r. ⌜ AddedBy d (now (vs .entry)) (now (table .entry)) (now (stack .entry)) m (now (table .exit))
@@ -202,6 +207,7 @@ fn add_node(table: &mut [u32], stack: &mut [u32], m: Place, vs: &[u32; VALUES], 
     let height = push(stack, m.height, d.takes, out);
     Place {
         next: m.next + d.count,
+        tests: m.tests + d.tests as u32,
         negated,
         height,
     }
@@ -242,14 +248,16 @@ fn record_from(arena: &[u32], i: usize) -> Record
 
 // All records one after the other, and then the whole rule's: how many equations there are. `enter` has this one
 // caller, so that it is inlined here.
-fn enter_all(arena: &[u32], places: &[u32], table: &mut [u32], next: u32) -> u32
-    requires { ⌜ (length (now arena) ≤ arenaLimit) × (next ≤ headerCount + signalCount) ⌝ }
-    ensures { λ r. ⌜ Ran (now (arena .entry)) (now (places .entry)) (now (table .entry)) next (now (table .exit)) r ⌝ }
+fn enter_all(arena: &[u32], places: &[u32], table: &mut [u32], tests: u32, next: u32) -> u32
+    requires { ⌜ Begun (now arena) tests next ⌝ }
+    ensures { λ r. ⌜ Ran (now (arena .entry)) (now (places .entry)) (now (table .entry)) tests next
+        (now (table .exit)) r ⌝ }
 {
     let nodes = node_table::all_nodes();
     let mut stack = [0u32; STACK];
     let mut m = Place {
         next,
+        tests,
         negated: NEGATED_FLOW,
         height: 0,
     };
@@ -317,6 +325,35 @@ fn settle_all(table: &mut [u32], named: &mut [u32]) -> u32
     next
 }
 
+// ---- the velocity tests
+
+// A velocity test's record puts its equation at the next place: the place after it.
+fn put_test(table: &mut [u32], next: u32, x: Record) -> u32
+    requires { ⌜ next ≤ equationLimit ⌝ }
+    ensures { λ r. ⌜ Put (testOf x) (now (table .entry)) next (now (table .exit)) r ⌝ }
+{
+    if x.kind == formulas::VELOCITY {
+        put(table, next, tables::VELOCITY, x.a, x.b, 0);
+        return next + 1;
+    }
+    next
+}
+
+// The tests of all records in their order, from the place `tests` on: the place after them.
+fn put_tests(arena: &[u32], table: &mut [u32], tests: u32) -> u32
+    requires { ⌜ (length (now arena) ≤ arenaLimit) × (tests ≤ headerCount + signalCount) ⌝ }
+    ensures { λ r. ⌜ Tested (now (arena .entry)) (now (table .entry)) tests (now (table .exit)) r ⌝ }
+{
+    let mut next = tests;
+    let mut k = 0;
+    while k + 4 <= arena.len() {
+        let x = record_at(arena, k);
+        next = put_test(table, next, x);
+        k += 4;
+    }
+    next
+}
+
 // ---- the whole pass
 
 // The equations of the observer of the formula whose records the arena has, written from the front of the table on:
@@ -327,6 +364,7 @@ pub fn emit_observer(arena: &[u32], table: &mut [u32]) -> u32
 {
     let mut named = [0u32; SIGNALS];
     mark_all(arena, &mut named);
-    let next = settle_all(table, &mut named);
-    enter_all(arena, &named, table, next)
+    let tests = settle_all(table, &mut named);
+    let next = put_tests(arena, table, tests);
+    enter_all(arena, &named, table, tests, next)
 }

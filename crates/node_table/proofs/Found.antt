@@ -12,10 +12,10 @@ use Rattle.tables.specs.Table.{all}
 use Rattle.tables.proofs.Tests.{all-at}
 use Rattle.scheme.specs.Scheme.{widest, Name, RowKind, Row as SchemeRow, Node as SchemeNode, noRow, rowAt, nodeList}
 use Rattle.scheme.specs.Scheme.{noNode, nodeCount, nodeOf, Values, valueNamed, kindFor, resolved}
-use Rattle.scheme.specs.Scheme.Name.{Nought, Negated, Start, Last, Previous, Signal, A, C}
+use Rattle.scheme.specs.Scheme.Name.{Nought, Negated, Start, Last, Previous, Signal, Tested, A, C}
 use Rattle.scheme.specs.Scheme.Name.{First, Second, Third, Fourth, Fifth}
 use Rattle.scheme.specs.Scheme.RowKind.{OfKind, Comparison}
-use Rattle.scheme.proofs.ByKind.{rows-few}
+use Rattle.scheme.proofs.ByKind.{rows-few, tests-few}
 use Rattle.node_table.specs.Numbers.{nameNumber, nameCount, valueList, COMPARISON, kindNumber, kindBy, asRow}
 use Rattle.node_table.specs.Numbers.{paddedRows, asNode, nodeTable, Known, Sized, lookedUp}
 use Rattle.node_table.specs.declared.Node.{Node}
@@ -60,6 +60,7 @@ named-low Start = omega arith
 named-low Last = omega arith
 named-low Previous = omega arith
 named-low Signal = omega arith
+named-low Tested = omega arith
 named-low A = omega arith
 named-low C = omega arith
 named-low First = omega arith
@@ -88,6 +89,7 @@ pub node-sized : (k : ℕ) → Sized (asNode (nodeOf k))
 node-sized k =
     record {
       few = rows-few k;
+      tested = tests-few k;
       room = padded-length widest (nodeOf k .rows);
       known = padded-known widest (nodeOf k .rows);
       result = named-low (nodeOf k .result);
@@ -103,6 +105,7 @@ named v Start = refl
 named v Last = refl
 named v Previous = refl
 named v Signal = refl
+named v Tested = refl
 named v A = refl
 named v C = refl
 named v First = refl

@@ -12,7 +12,7 @@ use Rattle.tables.specs.Table.{Equation}
 use Rattle.scheme.specs.Scheme.{Name, RowKind, Row as SchemeRow, Node as SchemeNode, noRow, Values}
 use Rattle.scheme.specs.Scheme.{widest, nodeList, noNode}
 use Rattle.tables.specs.Table.{equation}
-use Rattle.scheme.specs.Scheme.Name.{Nought, Negated, Start, Last, Previous, Signal, A, C}
+use Rattle.scheme.specs.Scheme.Name.{Nought, Negated, Start, Last, Previous, Signal, Tested, A, C}
 use Rattle.scheme.specs.Scheme.Name.{First, Second, Third, Fourth, Fifth}
 use Rattle.scheme.specs.Scheme.RowKind.{OfKind, Comparison}
 use Rattle.node_table.specs.declared.Row.{Row}
@@ -25,13 +25,14 @@ nameNumber Start = 2
 nameNumber Last = 3
 nameNumber Previous = 4
 nameNumber Signal = 5
-nameNumber A = 6
-nameNumber C = 7
-nameNumber First = 8
-nameNumber Second = 9
-nameNumber Third = 10
-nameNumber Fourth = 11
-nameNumber Fifth = 12
+nameNumber Tested = 6
+nameNumber A = 7
+nameNumber C = 8
+nameNumber First = 9
+nameNumber Second = 10
+nameNumber Third = 11
+nameNumber Fourth = 12
+nameNumber Fifth = 13
 
 -- The values in the order of their names' numbers, and after them the kind of the record's comparison.
 abbrev pub nameCount : ℕ
@@ -44,7 +45,7 @@ flowsFrom o (suc n) = o ∷ flowsFrom (suc o) n
 
 abbrev pub valueList : Values → List ℕ
 valueList v =
-    0 ∷ v .negated ∷ v .start ∷ v .last ∷ v .previous ∷ v .signal ∷ v .a ∷ v .c
+    0 ∷ v .negated ∷ v .start ∷ v .last ∷ v .previous ∷ v .signal ∷ v .tested ∷ v .a ∷ v .c
     ∷ (flowsFrom (v .place) widest ++ (v .comparison ∷ []))
 
 -- The number of the comparison that a record asks for: the first that is of no kind of equation.
@@ -73,6 +74,7 @@ asNode d =
       count = length (d .rows);
       rows = paddedRows widest (d .rows);
       takes = d .takes;
+      tests = d .tests;
       result = nameNumber (d .result);
       negated = nameNumber (d .negated);
     }
@@ -81,7 +83,7 @@ asNode d =
 unfoldable pub nodeTable : List Node
 nodeTable = map asNode (nodeList ++ (noNode ∷ []))
 
--- What every node has: no more rows than there is room for, and names that stand in a list of values.
+-- What every node has: no more rows than there is room for, one test at most, and names that stand in a list of values.
 pub record Known (r : Row) : Type 0 where
   pub a : r .1 < nameCount
   pub b : r .2 < nameCount
@@ -89,6 +91,7 @@ pub record Known (r : Row) : Type 0 where
 
 pub record Sized (d : Node) : Type 0 where
   pub few : d .count ≤ widest
+  pub tested : d .tests ≤ 1
   pub room : length (d .rows) ≡ widest
   pub known : (i : ℕ) → Known (getD (d .rows) i (asRow noRow))
   pub result : d .result < nameCount

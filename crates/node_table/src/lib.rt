@@ -23,21 +23,24 @@ const PREVIOUS: u8 = 4;
 // The flow of the signal that the record names.
 const SIGNAL: u8 = 5;
 
-// The record's first and last number.
-const A: u8 = 6;
+// The flow of the next test in the table's head.
+const TESTED: u8 = 6;
 
-const C: u8 = 7;
+// The record's first and last number.
+const A: u8 = 7;
+
+const C: u8 = 8;
 
 // The node's own flows.
-const FIRST: u8 = 8;
+const FIRST: u8 = 9;
 
-const SECOND: u8 = 9;
+const SECOND: u8 = 10;
 
-const THIRD: u8 = 10;
+const THIRD: u8 = 11;
 
-const FOURTH: u8 = 11;
+const FOURTH: u8 = 12;
 
-const FIFTH: u8 = 12;
+const FIFTH: u8 = 13;
 
 // How many names there are; the kind of the record's comparison stands after their values.
 pub const NAMES: usize = FIRST as usize + WIDEST;
@@ -54,11 +57,13 @@ const WIDEST: usize = 5;
 pub struct Row(pub u8, pub u8, pub u8, pub u8);
 
 // A node: how many rows it has, and these first among as many as the widest has; how many operands it takes off the
-// stack, which value it puts there, and which value is the negated start flow from here on.
+// stack, how many tests of the table's head are its own, which value it puts on the stack, and which value is the
+// negated start flow from here on.
 pub struct Node {
     pub count: u32,
     pub rows: [Row; WIDEST],
     pub takes: u32,
+    pub tests: u8,
     pub result: u8,
     pub negated: u8,
 }
@@ -95,6 +100,7 @@ const CONSTANT_NODE: Node = Node {
         NO_ROW,
     ],
     takes: 0,
+    tests: 0,
     result: FIRST,
     negated: NEGATED,
 };
@@ -104,6 +110,7 @@ const SIGNAL_NODE: Node = Node {
     count: 0,
     rows: [NO_ROW; WIDEST],
     takes: 0,
+    tests: 0,
     result: SIGNAL,
     negated: NEGATED,
 };
@@ -119,6 +126,7 @@ const NOT_NODE: Node = Node {
         NO_ROW,
     ],
     takes: 1,
+    tests: 0,
     result: FIRST,
     negated: NEGATED,
 };
@@ -134,6 +142,7 @@ const AND_NODE: Node = Node {
         NO_ROW,
     ],
     takes: 2,
+    tests: 0,
     result: FIRST,
     negated: NEGATED,
 };
@@ -149,6 +158,7 @@ const OR_NODE: Node = Node {
         NO_ROW,
     ],
     takes: 2,
+    tests: 0,
     result: FIRST,
     negated: NEGATED,
 };
@@ -164,6 +174,7 @@ const BEGIN_NODE: Node = Node {
         NO_ROW,
     ],
     takes: 1,
+    tests: 0,
     result: FOURTH,
     negated: NEGATED,
 };
@@ -173,6 +184,7 @@ const END_NODE: Node = Node {
     count: 0,
     rows: [NO_ROW; WIDEST],
     takes: 1,
+    tests: 0,
     result: LAST,
     negated: NEGATED,
 };
@@ -188,6 +200,7 @@ const POINT_NODE: Node = Node {
         NO_ROW,
     ],
     takes: 1,
+    tests: 0,
     result: FIRST,
     negated: NEGATED,
 };
@@ -203,6 +216,7 @@ const HELD_NODE: Node = Node {
         NO_ROW,
     ],
     takes: 1,
+    tests: 0,
     result: FOURTH,
     negated: NEGATED,
 };
@@ -212,6 +226,7 @@ const KEPT_NODE: Node = Node {
     count: 3,
     rows: [KEPT_1, KEPT_2, KEPT_3, NO_ROW, NO_ROW],
     takes: 1,
+    tests: 0,
     result: SECOND,
     negated: NEGATED,
 };
@@ -227,6 +242,7 @@ const LEN_NODE: Node = Node {
         NO_ROW,
     ],
     takes: 0,
+    tests: 0,
     result: FOURTH,
     negated: NEGATED,
 };
@@ -242,6 +258,7 @@ const SUM_NODE: Node = Node {
         NO_ROW,
     ],
     takes: 1,
+    tests: 0,
     result: FOURTH,
     negated: NEGATED,
 };
@@ -251,6 +268,7 @@ const AGE_NODE: Node = Node {
     count: 5,
     rows: [RUN_1, RUN_2, RUN_3, RUN_4, Row(COMPARISON, FOURTH, A, C)],
     takes: 1,
+    tests: 0,
     result: FIFTH,
     negated: NEGATED,
 };
@@ -260,6 +278,7 @@ const RUN_NODE: Node = Node {
     count: 4,
     rows: [RUN_1, RUN_2, RUN_3, RUN_4, NO_ROW],
     takes: 1,
+    tests: 0,
     result: SECOND,
     negated: NEGATED,
 };
@@ -276,6 +295,7 @@ const FINE_NODE: Node = Node {
         NO_ROW,
     ],
     takes: 2,
+    tests: 0,
     result: FOURTH,
     negated: NEGATED,
 };
@@ -285,6 +305,7 @@ const ALWAYS_NODE: Node = Node {
     count: 3,
     rows: [KEPT_1, KEPT_2, KEPT_3, NO_ROW, NO_ROW],
     takes: 1,
+    tests: 0,
     result: THIRD,
     negated: NEGATED,
 };
@@ -300,6 +321,7 @@ const LEAD_END_NODE: Node = Node {
         Row(tables::NOT as u8, FOURTH, NOUGHT, NOUGHT),
     ],
     takes: 1,
+    tests: 0,
     result: NEGATED,
     negated: FIFTH,
 };
@@ -315,8 +337,19 @@ const THEN_NODE: Node = Node {
         NO_ROW,
     ],
     takes: 2,
+    tests: 0,
     result: FOURTH,
     negated: PREVIOUS,
+};
+
+// A velocity test.
+const VELOCITY_NODE: Node = Node {
+    count: 0,
+    rows: [NO_ROW; WIDEST],
+    takes: 0,
+    tests: 1,
+    result: TESTED,
+    negated: NEGATED,
 };
 
 // The whole rule: started = s or pre started; verdict = started and P.
@@ -330,6 +363,7 @@ const WHOLE_NODE: Node = Node {
         NO_ROW,
     ],
     takes: 1,
+    tests: 0,
     result: THIRD,
     negated: NEGATED,
 };
@@ -339,6 +373,7 @@ const NO_NODE: Node = Node {
     count: 0,
     rows: [NO_ROW; WIDEST],
     takes: 0,
+    tests: 0,
     result: NOUGHT,
     negated: NOUGHT,
 };
@@ -368,6 +403,7 @@ const NODES: [Node; PLACES] = [
     ALWAYS_NODE,
     LEAD_END_NODE,
     THEN_NODE,
+    VELOCITY_NODE,
     WHOLE_NODE,
     NO_NODE,
 ];

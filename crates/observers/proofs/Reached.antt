@@ -6,6 +6,7 @@ use mathlib.Core.Path.{_≡_, refl, sym, ap, _∙_}
 use Prim.Native.Nat.{ℕ, zero, suc, _≤_}
 use lib.ListN.{length}
 use Rattle.limits.specs.Limits.{tableRoom, ruleEquations}
+use Rattle.limits.specs.Context.{standardContext}
 use Rattle.lists.specs.Text.{bytes}
 use Rattle.lists.specs.Decimal.{isDigit, digitsAfter, numeral}
 use Rattle.traces.specs.declared.Op.the-variants.{Below as lt}
@@ -49,15 +50,16 @@ thens (suc n) l f = then l (thens n l f)
 abbrev formula : Formula
 formula = thens 21 long (thens 11 short (and short short))
 
-is-read : ruleOf widestText ≡ rule (raw formula)
+is-read : ruleOf standardContext widestText ≡ rule (raw formula)
 unfolding ruleOf splitOf words wordOf runOf run classOf keywordOf keywordAmong numberOf isDigit digitsAfter numeral
     treeOf read parse isOp isSignal isNum isBit isTest isCount hasWord deep counted operatorCount
 is-read = refl
 
 -- Compiled into a table that is long enough, it has as many equations.
 pub widest-reached : (table : List ℕ) → tableRoom ≤ length table
-    → compiled widestText table .answer ≡ Equations ruleEquations
+    → compiled standardContext widestText table .answer ≡ Equations ruleEquations
 widest-reached table room =
     let counted : length (observer formula) ≡ ruleEquations = refl in
-    let stores = room-compiled widestText table (raw formula) is-read formula refl room (observer formula) refl in
+    let stores =
+    room-compiled standardContext widestText table (raw formula) is-read formula refl room (observer formula) refl in
     sym (ap (λ (x : AfterCompile). x .answer) stores) ∙ ap Equations counted

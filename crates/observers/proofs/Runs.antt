@@ -5,7 +5,8 @@ use mathlib.Core.List.{List, [], map}
 use mathlib.Core.Path.{_≡_, refl, _∙_}
 use Prim.Native.Nat.{ℕ}
 use lib.ListN.{length, replicate}
-use Rattle.limits.specs.Limits.{standardCap}
+use Rattle.limits.specs.Limits.{standardCap, velocityCount}
+use Rattle.limits.specs.Context.{standardContext}
 use Rattle.lists.specs.Text.{bytes}
 use Rattle.traces.specs.declared.Tick.{Tick}
 use Rattle.formulas.specs.Raw.{raw}
@@ -40,7 +41,7 @@ abbrev answersOf : List Equation → Trial → List Stepped
 answersOf es r =
     let n : ℕ = length es in
     let t : List ℕ = numbersOf es in
-    answered (fromFresh standardCap t n (replicate n 7) (callsOf n (ticksIn r)))
+    answered (fromFresh standardCap velocityCount t n (replicate n 7) (callsOf n (ticksIn r)))
 
 -- The tables of the rows' formulas.
 tables-ran : map (λ (r : Trial). answersOf (observerOf (formulaOf (raw (r .formula)))) r) trials
@@ -51,9 +52,9 @@ unfolding steps freshened freshChecked stepped stepChecked afterTick parameterFi
     checked
 tables-ran = refl
 
-pub runs : map (λ (r : Trial). answersOf (equationsOf (ruleOf (bytes (r .text)))) r) trials
+pub runs : map (λ (r : Trial). answersOf (equationsOf (ruleOf standardContext (bytes (r .text)))) r) trials
     ≡ map (λ (r : Trial). map Verdict (r .verdicts)) trials
 runs =
-    through (λ r. ruleOf (bytes (r .text))) (λ r. rule (raw (r .formula))) (λ o r. answersOf (equationsOf o) r)
-    trials trials-read
+    through (λ r. ruleOf standardContext (bytes (r .text))) (λ r. rule (raw (r .formula)))
+    (λ o r. answersOf (equationsOf o) r) trials trials-read
     ∙ tables-ran

@@ -1,6 +1,7 @@
 -- No rule's observer has more equations than `ruleEquations`.
 --
--- The equations of a tree are counted with one for each signal that stands in it (`equationCount`, crate scheme).
+-- The equations of a tree are counted with one for each signal and each velocity test that stands in it
+-- (`equationCount`, crate scheme).
 -- Inside square brackets they are at most the words. Outside, a formula is measured by its parts: l atoms that are a
 -- `lag`, t words `then`, j words `&` or `|`, which make t + j + 1 atoms together, and x words over. The other atoms
 -- have 4 equations for 3 words, as `len` has, or one equation more for each word more; a `lag` has 13 for 8, or
@@ -19,6 +20,7 @@ use native.Mathlib.Omega.{arith}
 use lib.ListN.{length, length-append}
 use borrow.Author.Tests.{ltb-false}
 use Rattle.limits.specs.Limits.{wordLimit, ruleEquations}
+use Rattle.limits.specs.declared.Context.{Context}
 use Rattle.formulas.specs.Formula.{Num, Formula, Test, Count}
 use Rattle.formulas.specs.Formula.Test.{begin, end, point, held, kept}
 use Rattle.formulas.specs.Formula.Count.{sum, age}
@@ -29,7 +31,7 @@ use Rattle.words.proofs.Bounds.{words-few}
 use Rattle.grammar.specs.Grammar.{Symbol, Derives, numWord, testWord, countWord}
 use Rattle.grammar.specs.Grammar.Symbol.{F, D, C, U, B}
 use Rattle.grammar.specs.Grammar.Derives.{F-one, F-then, F-chop, D-one, D-or, C-one, C-and}
-use Rattle.grammar.specs.Grammar.Derives.{U-not, U-exists, U-round, U-constant, U-signal}
+use Rattle.grammar.specs.Grammar.Derives.{U-not, U-exists, U-round, U-constant, U-signal, U-velocity}
 use Rattle.grammar.specs.Grammar.Derives.{U-test, U-len, U-count, U-lag, B-between}
 use Rattle.scheme.specs.Scheme.{wholeNode}
 use Rattle.scheme.specs.Emit.{observer, headerCount}
@@ -202,6 +204,7 @@ few-equations (U-exists h g) = atom 0 (omega (arith, few-equations g .words)) (o
 few-equations (U-round {inside = l} {s = s} {t = t} g) = few-round l s t (few-equations g)
 few-equations (U-constant h) = (omega arith, omega arith)
 few-equations (U-signal h) = (omega arith, omega arith)
+few-equations (U-velocity h n) = (omega arith, omega arith)
 few-equations (U-test {k} {s} h g) =
     let few = few-equations g in
     atom (length s - 2) (omega arith) (omega (arith, test-rows (testWord k)))
@@ -233,11 +236,11 @@ most l t j x words thens = elim (decLe l 21) [
   | no many ↦ let fewer : t ≤ 31 = omega arith in omega arith
 ]
 
-pub rule-equations : (text : List ℕ) (t : Tree) (f : Formula) → Admitted text t → formulaOf t ≡ some f
-    → length (observer f) ≤ ruleEquations
-rule-equations text t f a is =
+pub rule-equations : (context : Context) (text : List ℕ) (t : Tree) (f : Formula) → Admitted context text t
+    → formulaOf t ≡ some f → length (observer f) ≤ ruleEquations
+rule-equations context text t f a is =
     let own = subst (λ (u : Tree). Parts (a .ws) u) (formula-raw t f is) (few-equations (a .grammar)) in
-    let few = words-few text (a .ws) (a .words) in
+    let few = words-few context text (a .ws) (a .words) in
     let bound = most (own .lags) (own .thens) (own .joins) (own .over) (omega (arith, own .words, few))
     (omega (arith, own .operators, few-operators (a .ws) (a .limits))) in
     omega (arith, bound, own .equations, observer-count f)

@@ -10,6 +10,7 @@ use lib.Seq.{sets}
 use Rattle.formulas.specs.Formula.{Formula}
 use Rattle.formulas.specs.Tree.{formulaOf}
 use Rattle.limits.specs.Limits.{tableRoom}
+use Rattle.limits.specs.declared.Context.{Context}
 use Rattle.tables.specs.Table.{Equation}
 use Rattle.scheme.specs.Emit.{observer, numbersOf}
 use Rattle.rules.specs.Reading.{Outcome}
@@ -41,6 +42,6 @@ ofOutcome (refused n) table = afterCompile (Refused n) table
 ofOutcome (rule t) table =
     cond (ltb (length table) tableRoom) (afterCompile (Refused 9) table) (stored (observerOf (formulaOf t)) table)
 
--- The whole effect of compiling a text into a lent table.
-unfoldable pub compiled : List ℕ → List ℕ → AfterCompile
-compiled text table = ofOutcome (ruleOf text) table
+-- The whole effect of compiling a text, read in a context, into a lent table.
+unfoldable pub compiled : Context → List ℕ → List ℕ → AfterCompile
+compiled context text table = ofOutcome (ruleOf context text) table

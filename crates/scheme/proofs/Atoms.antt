@@ -117,9 +117,10 @@ module _ (cap : ℕ) (trace : Trace) (flow : ℕ → ℕ → ℕ) where
         rw (counted, more, negated (suc (b ⊕ d)), since .1, memory, len-is o op x h b d (since .0))
         (increased-held cap d true)
 
-  -- The comparison of a held count, where the parameters are below the cap.
+-- The comparison of a held count, where the parameters are below the cap.
+module _ (cap velocities : ℕ) (trace : Trace) (flow : ℕ → ℕ → ℕ) where
   pub compare-is : ((k j : ℕ) → j < parameterCount → parameterAt (trace k) j < cap) → (i a : ℕ) (op : Op) (x : Num)
-      → numBound cap x ≡ true → Stand cap trace flow i
+      → numBound cap velocities x ≡ true → Stand cap trace flow i
       (equation (comparisonOf (numKind x)) a (opNumber op) (numValue x) ∷ [])
       → (k c : ℕ) → flow k a ≡ min cap c → on flow i k ≡ compares op c (value x (trace k))
   unfolding kindOf

@@ -45,7 +45,7 @@ module _ (cap : ℕ) (trace : Trace) (flow : ℕ → ℕ → ℕ) where
           go (Latest.never never) = rw (not-started e never)
           go (Latest.since b d end begun) = rw (← end, started b d begun)
 
-      pub whole-is : (f : Formula) → Agrees cap trace flow s v f → (e : ℕ)
+      pub whole-is : (f : Formula) → Agrees trace flow s v f → (e : ℕ)
           → cond (on flow (o ⊕ 1) e) (truth (on flow (o ⊕ 2) e)) idleVerdict ≡ verdict trace f e
       whole-is f agree e = answers-since (on flow (o ⊕ 2) e) e ∙ go (latest-is trace (on flow s) begins e)
         where

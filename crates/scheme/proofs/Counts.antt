@@ -1,6 +1,6 @@
 -- How many equations an observer has, counted over the formula's tree: the rows of its nodes, and one more for each
--- signal that stands in it. The header has one for each named signal, however often it stands there, so it is a bound;
--- Sizes.antt has a coarser one that needs only the number of records. Assumes nothing.
+-- signal and for each velocity test that stands in it. The header has one for each named signal, however often it
+-- stands there, so it is a bound; Sizes.antt has a coarser one that needs only the number of records. Assumes nothing.
 use mathlib.Core.Bool.{Bool, true, false, _||_, cond}
 use mathlib.Core.List.{List, _∷_, _++_}
 use mathlib.Core.Path.{_≡_, refl}
@@ -10,7 +10,7 @@ use lib.Dec.{eqb}
 use lib.ListN.{length, length-append}
 use borrow.Author.Tests.{eqb-true, ne-eqb}
 use Rattle.formulas.specs.Formula.{Prop, Formula, Test, Count}
-use Rattle.formulas.specs.Formula.Prop.{constant, signal, negP, andP, orP}
+use Rattle.formulas.specs.Formula.Prop.{constant, signal, velocity, negP, andP, orP}
 use Rattle.formulas.specs.Formula.Test.{begin, end, point, held, kept}
 use Rattle.formulas.specs.Formula.Count.{sum, age}
 use Rattle.formulas.specs.Formula.Formula.{test, len, count, lag, neg, and, or, then}
@@ -21,10 +21,11 @@ use Rattle.tables.specs.Table.{Equation, equation}
 use Rattle.limits.specs.Limits.{signalCount}
 use Rattle.scheme.specs.Scheme.{Node, constantNode, signalNode, notNode, andNode, orNode, beginNode}
 use Rattle.scheme.specs.Scheme.{endNode, pointNode, heldNode, keptNode, lenNode, sumNode, ageNode, runNode}
-use Rattle.scheme.specs.Scheme.{fineNode, alwaysNode, leadEndNode, thenNode, wholeNode}
-use Rattle.scheme.specs.Emit.{placeAfter, emitP, emit, namedByP, namedBy, flowIn, signals-es, header, body}
+use Rattle.scheme.specs.Scheme.{fineNode, alwaysNode, leadEndNode, thenNode, velocityNode, wholeNode}
+use Rattle.scheme.specs.Emit.{placeAfter, emitP, emit, namedByP, namedBy, flowIn, signals-es, body}
 use Rattle.scheme.specs.Emit.{observer, startFlow, negatedFlow, headerCount, start-es, whole-es}
 use Rattle.scheme.specs.Emit.{afterRun, secondStart, secondNegated, secondPlace}
+use Rattle.scheme.specs.Emit.{testsP, testsOf, nextTestP, nextTest, testPlace, headPlace}
 
 -- ---- the count
 
@@ -47,6 +48,7 @@ countNode age = ageNode
 abbrev pub equationCount : Tree → ℕ
 equationCount (Tree.constant c) = rowCount constantNode
 equationCount (Tree.signal j) = rowCount signalNode + 1
+equationCount (Tree.velocity o n) = rowCount velocityNode + velocityNode .tests
 equationCount (Tree.neg t) = equationCount t + rowCount notNode
 equationCount (Tree.and a b) = equationCount a + equationCount b + rowCount andNode
 equationCount (Tree.or a b) = equationCount a + equationCount b + rowCount orNode
@@ -98,7 +100,7 @@ one-named i (suc m) j = with-first (eqb i j) refl (one-named i m (suc j))
     with-first true e h = let same = eqb-true i j e in omega (arith, past-named i m (suc j) (omega arith))
     with-first false e h = h
 
--- ---- a formula's equations, with those of the signals that it names among the m from j on
+-- ---- a formula's equations, with its tests and those of the signals that it names among the m from j on
 
 module _ (flowOf : ℕ → ℕ) (m j : ℕ) where
   abbrev namedP : Prop → ℕ
@@ -107,78 +109,80 @@ module _ (flowOf : ℕ → ℕ) (m j : ℕ) where
   abbrev named : Formula → ℕ
   named f = length (signals-es (namedBy f) j m)
 
-  prop-count : (p : Prop) (o : ℕ) → namedP p + length (emitP flowOf p o .es) ≤ equationCount (rawP p)
-  prop-count (constant c) o = omega (arith, none-named m j)
-  prop-count (signal i) o = omega (arith, one-named i m j)
-  prop-count (negP p) o = simp length-append (omega (arith, prop-count p o))
-  prop-count (andP p q) o =
+  prop-count : (p : Prop) (u o : ℕ)
+      → namedP p + (length (testsP p) + length (emitP flowOf p u o .es)) ≤ equationCount (rawP p)
+  prop-count (constant c) u o = omega (arith, none-named m j)
+  prop-count (signal i) u o = omega (arith, one-named i m j)
+  prop-count (velocity op n) u o = omega (arith, none-named m j)
+  prop-count (negP p) u o = simp length-append (omega (arith, prop-count p u o))
+  prop-count (andP p q) u o =
       simp length-append (omega (
         arith,
         both-named (namedByP p) (namedByP q) m j,
-        prop-count p o,
-        prop-count q (placeAfter o (emitP flowOf p o .es)),
+        prop-count p u o,
+        prop-count q (nextTestP u p) (placeAfter o (emitP flowOf p u o .es)),
       ))
-  prop-count (orP p q) o =
+  prop-count (orP p q) u o =
       simp length-append (omega (
         arith,
         both-named (namedByP p) (namedByP q) m j,
-        prop-count p o,
-        prop-count q (placeAfter o (emitP flowOf p o .es)),
+        prop-count p u o,
+        prop-count q (nextTestP u p) (placeAfter o (emitP flowOf p u o .es)),
       ))
 
-  formula-count : (f : Formula) (s n o : ℕ) → named f + length (emit flowOf f s n o .es) ≤ equationCount (raw f)
-  formula-count (test begin p) s n o = simp length-append (omega (arith, prop-count p o))
-  formula-count (test end p) s n o = omega (arith, prop-count p o)
-  formula-count (test point p) s n o = simp length-append (omega (arith, prop-count p o))
-  formula-count (test held p) s n o = simp length-append (omega (arith, prop-count p o))
-  formula-count (test kept p) s n o = simp length-append (omega (arith, prop-count p o))
-  formula-count (len op x) s n o = omega (arith, none-named m j)
-  formula-count (count sum p op x) s n o = simp length-append (omega (arith, prop-count p o))
-  formula-count (count age p op x) s n o = simp length-append (omega (arith, prop-count p o))
-  formula-count (lag p x q) s n o =
-      let o′ : ℕ = placeAfter o (emitP flowOf p o .es) in
+  formula-count : (f : Formula) (s n u o : ℕ)
+      → named f + (length (testsOf f) + length (emit flowOf f s n u o .es)) ≤ equationCount (raw f)
+  formula-count (test begin p) s n u o = simp length-append (omega (arith, prop-count p u o))
+  formula-count (test end p) s n u o = omega (arith, prop-count p u o)
+  formula-count (test point p) s n u o = simp length-append (omega (arith, prop-count p u o))
+  formula-count (test held p) s n u o = simp length-append (omega (arith, prop-count p u o))
+  formula-count (test kept p) s n u o = simp length-append (omega (arith, prop-count p u o))
+  formula-count (len op x) s n u o = omega (arith, none-named m j)
+  formula-count (count sum p op x) s n u o = simp length-append (omega (arith, prop-count p u o))
+  formula-count (count age p op x) s n u o = simp length-append (omega (arith, prop-count p u o))
+  formula-count (lag p x q) s n u o =
+      let o′ : ℕ = placeAfter o (emitP flowOf p u o .es) in
       simp length-append (omega (
         arith,
         both-named (namedByP p) (namedByP q) m j,
-        prop-count p o,
-        prop-count q (afterRun o′),
+        prop-count p u o,
+        prop-count q (nextTestP u p) (afterRun o′),
       ))
-  formula-count (neg f) s n o = simp length-append (omega (arith, formula-count f s n o))
-  formula-count (and f g) s n o =
+  formula-count (neg f) s n u o = simp length-append (omega (arith, formula-count f s n u o))
+  formula-count (and f g) s n u o =
       simp length-append (omega (
         arith,
         both-named (namedBy f) (namedBy g) m j,
-        formula-count f s n o,
-        formula-count g s n (placeAfter o (emit flowOf f s n o .es)),
+        formula-count f s n u o,
+        formula-count g s n (nextTest u f) (placeAfter o (emit flowOf f s n u o .es)),
       ))
-  formula-count (or f g) s n o =
+  formula-count (or f g) s n u o =
       simp length-append (omega (
         arith,
         both-named (namedBy f) (namedBy g) m j,
-        formula-count f s n o,
-        formula-count g s n (placeAfter o (emit flowOf f s n o .es)),
+        formula-count f s n u o,
+        formula-count g s n (nextTest u f) (placeAfter o (emit flowOf f s n u o .es)),
       ))
-  formula-count (then l f) s n o =
-      let o′ : ℕ = placeAfter o (emit flowOf l s n o .es) in
+  formula-count (then l f) s n u o =
+      let o′ : ℕ = placeAfter o (emit flowOf l s n u o .es) in
       simp length-append (omega (
         arith,
         both-named (namedBy l) (namedBy f) m j,
-        formula-count l s n o,
-        formula-count f (secondStart o′) (secondNegated o′) (secondPlace o′),
+        formula-count l s n u o,
+        formula-count f (secondStart o′) (secondNegated o′) (nextTest u l) (secondPlace o′),
       ))
 
 -- ---- the observer
 
--- The start flow and its negation, the named signals among the first m, the formula's equations and the whole rule's.
-parts-count : (named : ℕ → Bool) (m : ℕ) (own whole : List Equation) (c : ℕ)
-    → length (signals-es named 0 m) + length own ≤ c
-    → length ((start-es ++ signals-es named 0 m) ++ (own ++ whole)) ≤ headerCount + c + length whole
-parts-count named m own whole c h = simp length-append (omega arith)
+-- The start flow and its negation, the named signals among the first m, the formula's tests, its other equations and
+-- the whole rule's.
+parts-count : (named : ℕ → Bool) (m : ℕ) (tests own whole : List Equation) (c : ℕ)
+    → length (signals-es named 0 m) + (length tests + length own) ≤ c
+    → length ((start-es ++ signals-es named 0 m) ++ (tests ++ (own ++ whole))) ≤ headerCount + c + length whole
+parts-count named m tests own whole c h = simp length-append (omega arith)
 
 pub observer-count : (f : Formula) → length (observer f) ≤ headerCount + equationCount (raw f) + rowCount wholeNode
 observer-count f =
-    let named : ℕ → Bool = namedBy f in
-    let o : ℕ = placeAfter 0 (header named) in
-    parts-count named signalCount (body f .es) (whole-es startFlow (placeAfter o (body f .es)) (body f .out))
-    (equationCount (raw f))
-    (formula-count (flowIn named) signalCount 0 f startFlow negatedFlow o)
+    let whole : List Equation = whole-es startFlow (placeAfter (headPlace f) (body f .es)) (body f .out) in
+    parts-count (namedBy f) signalCount (testsOf f) (body f .es) whole (equationCount (raw f))
+    (formula-count (flowIn (namedBy f)) signalCount 0 f startFlow negatedFlow (testPlace f) (headPlace f))

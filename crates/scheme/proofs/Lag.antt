@@ -25,10 +25,10 @@ use Rattle.scheme.proofs.Local.{on, Stand}
 use Rattle.scheme.proofs.Atoms.{Since, run-is, compare-is}
 
 -- The start flow s and its negation n. The parameters are below the cap, and x, which is below it too, has one value.
-module _ (cap : ℕ) (trace : Trace) (flow : ℕ → ℕ → ℕ) (s n : ℕ)
+module _ (cap velocities : ℕ) (trace : Trace) (flow : ℕ → ℕ → ℕ) (s n : ℕ)
     (negated : (k : ℕ) → on flow n k ≡ not (on flow s k))
     (small : (k j : ℕ) → j < parameterCount → parameterAt (trace k) j < cap)
-    (x : Num) (steady : (i j : ℕ) → value x (trace i) ≡ value x (trace j)) (bound : numBound cap x ≡ true)
+    (x : Num) (steady : (i j : ℕ) → value x (trace i) ≡ value x (trace j)) (bound : numBound cap velocities x ≡ true)
     -- P and its run,
     (o p : ℕ) (P : ℕ → Bool) (says-p : (k : ℕ) → on flow p k ≡ P k) (run : Stand cap trace flow o (run-es n o p))
     -- Q, and whether it holds where it is asked for,
@@ -37,7 +37,7 @@ module _ (cap : ℕ) (trace : Trace) (flow : ℕ → ℕ → ℕ) (s n : ℕ)
     -- and that it was so at each tick.
     (always : Stand cap trace flow (o″ ⊕ 4) (always-es s (o″ ⊕ 4) (o″ ⊕ 3)))
   where
-    positive : numBound cap (literal 0) ≡ true
+    positive : numBound cap velocities (literal 0) ≡ true
     positive = lt-ltb 0 cap (omega (arith, small 0 0 (omega arith)))
 
     -- What the second rows say at tick k, where c is the run up to one tick ago.
@@ -45,8 +45,9 @@ module _ (cap : ℕ) (trace : Trace) (flow : ℕ → ℕ → ℕ) (s n : ℕ)
         → on flow (o″ ⊕ 3) k ≡ ((ltb c (value x (trace k)) || leb c 0) || Q k)
     unfolding kindOf
     fine-is k c ago =
-        let short = compare-is cap trace flow small o″ (o ⊕ 1) lt x bound (fine .0, tt) k c ago in
-        let none = compare-is cap trace flow small (o″ ⊕ 1) (o ⊕ 1) le (literal 0) positive (fine .1 .0, tt) k c ago in
+        let short = compare-is cap velocities trace flow small o″ (o ⊕ 1) lt x bound (fine .0, tt) k c ago in
+        let none =
+        compare-is cap velocities trace flow small (o″ ⊕ 1) (o ⊕ 1) le (literal 0) positive (fine .1 .0, tt) k c ago in
         fine .1 .1 .1 .0 k ∙ ap₂ _||_ (fine .1 .1 .0 k ∙ ap₂ _||_ short none) (says-q k)
 
     pub lag-is : (b d : ℕ) → Since (on flow s) b d

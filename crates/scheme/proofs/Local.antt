@@ -10,7 +10,7 @@ use Rattle.traces.specs.Compare.{opOf, compares}
 use Rattle.traces.proofs.Laws.{nonzero-truth, truth-nonzero}
 use Rattle.tables.specs.Table.{Equation, equationAt, Kind, kindOf, kindAt, shapeOf, sortOf, sameSort}
 use Rattle.tables.specs.Table.Kind.{signal, start, constant, negation, conjunction, disjunction, booleanPre}
-use Rattle.tables.specs.Table.Kind.{countPre, capped, ifElse, compareLiteral, compareParameter, unknown}
+use Rattle.tables.specs.Table.Kind.{countPre, capped, ifElse, compareLiteral, compareParameter, velocity, unknown}
 use Rattle.flows.specs.Flow.{increased, valueOf, initial}
 use Rattle.tables.specs.declared.Sort.the-variants.{Boolean}
 use Rattle.flows.specs.Lustre.{arrowPre, Lustre}
@@ -39,6 +39,7 @@ module _ (cap : ℕ) (trace : Trace) (flow : ℕ → ℕ → ℕ) where
   Local compareLiteral i e = (k : ℕ) → on flow i k ≡ compares (opOf (e .b)) (flow k (e .a)) (e .c)
   Local compareParameter i e =
       (k : ℕ) → on flow i k ≡ compares (opOf (e .b)) (flow k (e .a)) (parameterAt (trace k) (e .c))
+  Local velocity i e = (k : ℕ) → on flow i k ≡ compares (opOf (e .a)) ((trace k) .velocity) (e .b)
   Local unknown i e = Unit {0}
 
   -- A flow that satisfies its equation is so.
@@ -60,6 +61,7 @@ module _ (cap : ℕ) (trace : Trace) (flow : ℕ → ℕ → ℕ) where
   local compareLiteral i e h = λ k. rw (h k) (nonzero-truth (compares (opOf (e .b)) (flow k (e .a)) (e .c)))
   local compareParameter i e h = λ k.
       rw (h k) (nonzero-truth (compares (opOf (e .b)) (flow k (e .a)) (parameterAt (trace k) (e .c))))
+  local velocity i e h = λ k. rw (h k) (nonzero-truth (compares (opOf (e .a)) ((trace k) .velocity) (e .b)))
   local unknown i e h = tt
 
   -- The same of an equation with its own kind number, at place i,

@@ -9,7 +9,7 @@ use lib.ListN.{length}
 use Rattle.traces.specs.Trace.{truth}
 use Rattle.formulas.specs.Formula.{Num, Prop, Formula}
 use Rattle.formulas.specs.Formula.Num.{literal, parameter}
-use Rattle.formulas.specs.Formula.Prop.{constant, signal, negP, andP, orP}
+use Rattle.formulas.specs.Formula.Prop.{constant, signal, velocity, negP, andP, orP}
 use Rattle.formulas.specs.Formula.Test.{begin, end, point, held, kept}
 use Rattle.formulas.specs.Formula.Count.{sum, age}
 use Rattle.formulas.specs.Formula.Formula.{test, len, count, lag, neg, and, or, then}
@@ -22,7 +22,8 @@ use Rattle.tables.specs.Table.{Equation, kindOf, kindAt, isMemory}
 use Rattle.scheme.specs.Scheme.{_⊕_, comparisonOf}
 use Rattle.tables.specs.Table.{equation}
 use Rattle.scheme.specs.Emit.{placeAfter, emitP, emit, namedBy, flowIn, signals-es, header, whole-es, body}
-use Rattle.scheme.specs.Emit.{observer, startFlow, negatedFlow, start-es, numbersOf, afterRun}
+use Rattle.scheme.specs.Emit.{observer, startFlow, negatedFlow, start-es, numbersOf, afterRun, testsP, testsOf}
+use Rattle.scheme.specs.Emit.{nextTestP, nextTest, testPlace, headPlace}
 use Rattle.tables.specs.Table.{memories}
 use Rattle.scheme.proofs.Places.{four-more}
 
@@ -56,40 +57,66 @@ unfolding kindOf isMemory
 compare-none (literal n) = refl
 compare-none (parameter j) = refl
 
-module _ (flowOf : ℕ → ℕ) where
-  counted-prop : (p : Prop) (o : ℕ) → counted (emitP flowOf p o .es) ≡ 0
-  unfolding kindOf isMemory
-  counted-prop (constant c) o = refl
-  counted-prop (signal j) o = refl
-  counted-prop (negP p) o = simp (counted-append, counted-prop p o)
-  counted-prop (andP p q) o = simp
-      (counted-append, counted-prop p o, counted-prop q (placeAfter o (emitP flowOf p o .es)))
-  counted-prop (orP p q) o = simp
-      (counted-append, counted-prop p o, counted-prop q (placeAfter o (emitP flowOf p o .es)))
+-- No test is one.
+counted-both : (xs ys : List Equation) → counted xs ≡ 0 → counted ys ≡ 0 → counted (xs ++ ys) ≡ 0
+counted-both xs ys p q = simp (counted-append, p, q)
 
-  counted-formula : (f : Formula) (s n o : ℕ) → counted (emit flowOf f s n o .es) ≡ memoriesOf (raw f)
+counted-testsP : (p : Prop) → counted (testsP p) ≡ 0
+unfolding kindOf isMemory
+counted-testsP (constant c) = refl
+counted-testsP (signal j) = refl
+counted-testsP (velocity op n) = refl
+counted-testsP (negP p) = counted-testsP p
+counted-testsP (andP p q) = counted-both (testsP p) (testsP q) (counted-testsP p) (counted-testsP q)
+counted-testsP (orP p q) = counted-both (testsP p) (testsP q) (counted-testsP p) (counted-testsP q)
+
+counted-tests : (f : Formula) → counted (testsOf f) ≡ 0
+counted-tests (test k p) = counted-testsP p
+counted-tests (len op x) = refl
+counted-tests (count k p op x) = counted-testsP p
+counted-tests (lag p x q) = counted-both (testsP p) (testsP q) (counted-testsP p) (counted-testsP q)
+counted-tests (neg f) = counted-tests f
+counted-tests (and f g) = counted-both (testsOf f) (testsOf g) (counted-tests f) (counted-tests g)
+counted-tests (or f g) = counted-both (testsOf f) (testsOf g) (counted-tests f) (counted-tests g)
+counted-tests (then l f) = counted-both (testsOf l) (testsOf f) (counted-tests l) (counted-tests f)
+
+module _ (flowOf : ℕ → ℕ) where
+  counted-prop : (p : Prop) (u o : ℕ) → counted (emitP flowOf p u o .es) ≡ 0
   unfolding kindOf isMemory
-  counted-formula (test begin p) s n o = simp (counted-append, counted-prop p o)
-  counted-formula (test end p) s n o = counted-prop p o
-  counted-formula (test point p) s n o = simp (counted-append, counted-prop p o)
-  counted-formula (test held p) s n o = simp (counted-append, counted-prop p o)
-  counted-formula (test kept p) s n o = simp (counted-append, counted-prop p o)
-  counted-formula (len op x) s n o = simp (compare-none x)
-  counted-formula (count sum p op x) s n o = simp (counted-append, counted-prop p o, compare-none x)
-  counted-formula (count age p op x) s n o = simp (counted-append, counted-prop p o, compare-none x)
-  counted-formula (lag p x q) s n o =
-      let o′ : ℕ = placeAfter o (emitP flowOf p o .es) in
-      simp (counted-append, counted-prop p o, counted-prop q (afterRun o′), compare-none x)
-  counted-formula (neg f) s n o = simp (counted-append, counted-formula f s n o) (omega arith)
-  counted-formula (and f g) s n o =
-      let o′ : ℕ = placeAfter o (emit flowOf f s n o .es) in
-      simp (counted-append, counted-formula f s n o, counted-formula g s n o′) (omega arith)
-  counted-formula (or f g) s n o =
-      let o′ : ℕ = placeAfter o (emit flowOf f s n o .es) in
-      simp (counted-append, counted-formula f s n o, counted-formula g s n o′) (omega arith)
-  counted-formula (then l f) s n o =
-      let o′ : ℕ = placeAfter o (emit flowOf l s n o .es) in
-      simp (counted-append, counted-formula l s n o, counted-formula f (o′ ⊕ 3) (o′ ⊕ 4) (o′ ⊕ 5)) (omega arith)
+  counted-prop (constant c) u o = refl
+  counted-prop (signal j) u o = refl
+  counted-prop (velocity op n) u o = refl
+  counted-prop (negP p) u o = simp (counted-append, counted-prop p u o)
+  counted-prop (andP p q) u o = simp
+      (counted-append, counted-prop p u o, counted-prop q (nextTestP u p) (placeAfter o (emitP flowOf p u o .es)))
+  counted-prop (orP p q) u o = simp
+      (counted-append, counted-prop p u o, counted-prop q (nextTestP u p) (placeAfter o (emitP flowOf p u o .es)))
+
+  counted-formula : (f : Formula) (s n u o : ℕ) → counted (emit flowOf f s n u o .es) ≡ memoriesOf (raw f)
+  unfolding kindOf isMemory
+  counted-formula (test begin p) s n u o = simp (counted-append, counted-prop p u o)
+  counted-formula (test end p) s n u o = counted-prop p u o
+  counted-formula (test point p) s n u o = simp (counted-append, counted-prop p u o)
+  counted-formula (test held p) s n u o = simp (counted-append, counted-prop p u o)
+  counted-formula (test kept p) s n u o = simp (counted-append, counted-prop p u o)
+  counted-formula (len op x) s n u o = simp (compare-none x)
+  counted-formula (count sum p op x) s n u o = simp (counted-append, counted-prop p u o, compare-none x)
+  counted-formula (count age p op x) s n u o = simp (counted-append, counted-prop p u o, compare-none x)
+  counted-formula (lag p x q) s n u o =
+      let o′ : ℕ = placeAfter o (emitP flowOf p u o .es) in
+      simp (counted-append, counted-prop p u o, counted-prop q (nextTestP u p) (afterRun o′), compare-none x)
+  counted-formula (neg f) s n u o = simp (counted-append, counted-formula f s n u o) (omega arith)
+  counted-formula (and f g) s n u o =
+      let o′ : ℕ = placeAfter o (emit flowOf f s n u o .es) in
+      simp (counted-append, counted-formula f s n u o, counted-formula g s n (nextTest u f) o′) (omega arith)
+  counted-formula (or f g) s n u o =
+      let o′ : ℕ = placeAfter o (emit flowOf f s n u o .es) in
+      simp (counted-append, counted-formula f s n u o, counted-formula g s n (nextTest u f) o′) (omega arith)
+  counted-formula (then l f) s n u o =
+      let o′ : ℕ = placeAfter o (emit flowOf l s n u o .es) in
+      let first = counted-formula l s n u o in
+      let second = counted-formula f (o′ ⊕ 3) (o′ ⊕ 4) (nextTest u l) (o′ ⊕ 5) in
+      simp (counted-append, first, second) (omega arith)
 
 -- ---- the memories of a `lag`: one of a count, and one of a boolean
 
@@ -118,18 +145,18 @@ none-kinds (e ∷ es) h = with-first (isMemory (kindOf (e .kind))) h (none-kinds
     with-first false h others = others (omega arith)
 
 module _ (flowOf : ℕ → ℕ) where
-  prop-kinds : (p : Prop) (o : ℕ) → memoryKinds (emitP flowOf p o .es) ≡ []
-  prop-kinds p o = none-kinds (emitP flowOf p o .es) (counted-prop flowOf p o)
+  prop-kinds : (p : Prop) (u o : ℕ) → memoryKinds (emitP flowOf p u o .es) ≡ []
+  prop-kinds p u o = none-kinds (emitP flowOf p u o .es) (counted-prop flowOf p u o)
 
-  pub lag-kinds : (p : Prop) (x : Num) (q : Prop) (s n o : ℕ)
-      → memoryKinds (emit flowOf (lag p x q) s n o .es) ≡ COUNT-PRE ∷ BOOLEAN-PRE ∷ []
+  pub lag-kinds : (p : Prop) (x : Num) (q : Prop) (s n u o : ℕ)
+      → memoryKinds (emit flowOf (lag p x q) s n u o .es) ≡ COUNT-PRE ∷ BOOLEAN-PRE ∷ []
   unfolding kindOf isMemory
-  lag-kinds p (literal c) q s n o =
-      let o′ : ℕ = placeAfter o (emitP flowOf p o .es) in
-      simp (kinds-append, prop-kinds p o, prop-kinds q (afterRun o′))
-  lag-kinds p (parameter j) q s n o =
-      let o′ : ℕ = placeAfter o (emitP flowOf p o .es) in
-      simp (kinds-append, prop-kinds p o, prop-kinds q (afterRun o′))
+  lag-kinds p (literal c) q s n u o =
+      let o′ : ℕ = placeAfter o (emitP flowOf p u o .es) in
+      simp (kinds-append, prop-kinds p u o, prop-kinds q (nextTestP u p) (afterRun o′))
+  lag-kinds p (parameter j) q s n u o =
+      let o′ : ℕ = placeAfter o (emitP flowOf p u o .es) in
+      simp (kinds-append, prop-kinds p u o, prop-kinds q (nextTestP u p) (afterRun o′))
 
 -- ---- counted over an observer
 
@@ -138,17 +165,17 @@ counted-header : (named : ℕ → Bool) (m : ℕ) → counted
 unfolding kindOf isMemory
 counted-header named m = omega (arith, counted-signals named m 0)
 
-counted-three : (xs ys zs : List Equation) (k : ℕ) → counted xs ≡ 0 → counted ys ≡ k → counted zs ≡ 1
-    → counted (xs ++ (ys ++ zs)) ≡ k + 1
-counted-three xs ys zs k p q r = simp counted-append (omega arith)
+counted-four : (xs ts ys zs : List Equation) (k : ℕ) → counted xs ≡ 0 → counted ts ≡ 0 → counted ys ≡ k
+    → counted zs ≡ 1 → counted (xs ++ (ts ++ (ys ++ zs))) ≡ k + 1
+counted-four xs ts ys zs k p h q r = simp counted-append (omega arith)
 
 counted-observer : (f : Formula) → counted (observer f) ≡ ruleMemories (raw f)
 unfolding kindOf isMemory
 counted-observer f =
-    let o : ℕ = placeAfter 0 (header (namedBy f)) in
-    counted-three (header (namedBy f)) (body f .es) (whole-es startFlow (placeAfter o (body f .es)) (body f .out))
-    (memoriesOf (raw f)) (counted-header (namedBy f) signalCount)
-    (counted-formula (flowIn (namedBy f)) f startFlow negatedFlow o) refl
+    let whole : List Equation = whole-es startFlow (placeAfter (headPlace f) (body f .es)) (body f .out) in
+    counted-four (header (namedBy f)) (testsOf f) (body f .es) whole (memoriesOf (raw f))
+    (counted-header (namedBy f) signalCount) (counted-tests f)
+    (counted-formula (flowIn (namedBy f)) f startFlow negatedFlow (testPlace f) (headPlace f)) refl
 
 -- ---- counted over the table
 

@@ -1,5 +1,6 @@
 -- The equations of a proposition give what it says at each tick; those of a formula give, from the latest start of
--- their start flow on, the formula's meaning. Assumes nothing.
+-- their start flow on, the formula's meaning. The equations of the velocity tests stand at a place of their own.
+-- Assumes nothing.
 use mathlib.Core.Bool.{Bool, true, not, _&&_, _||_, or-true, and-eq-true-iff}
 use mathlib.Core.List.{List, _++_}
 use mathlib.Core.Path.{_≡_, refl, ap, ap₂, _∙_}
@@ -7,9 +8,9 @@ use Prim.Native.Nat.{ℕ, suc, _<_}
 use native.Mathlib.Omega.{arith}
 use borrow.Author.Tests.{eq-eqb}
 use Rattle.traces.specs.Trace.{Trace, signalAt, parameterAt}
-use Rattle.traces.proofs.Laws.{nonzero-truth}
+use Rattle.traces.proofs.Laws.{nonzero-truth, op-number}
 use Rattle.formulas.specs.Formula.{Num, Prop, Formula}
-use Rattle.formulas.specs.Formula.Prop.{constant, signal, negP, andP, orP}
+use Rattle.formulas.specs.Formula.Prop.{constant, signal, velocity, negP, andP, orP}
 use Rattle.formulas.specs.Formula.Test.{begin, end, point, held, kept}
 use Rattle.formulas.specs.Formula.Count.{sum, age}
 use Rattle.formulas.specs.Formula.Formula.{test, len, count, lag, neg, and, or, then}
@@ -21,7 +22,8 @@ use Rattle.formulas.proofs.Meaning.{value-same, lead-falls}
 use Rattle.tables.specs.Table.{Equation, kindOf}
 use Rattle.limits.specs.Limits.{parameterCount}
 use Rattle.scheme.specs.Scheme.{_⊕_}
-use Rattle.scheme.specs.Emit.{Block, placeAfter, emitP, emit, namedByP, namedBy, lead-end-es, then-es}
+use Rattle.scheme.specs.Emit.{Block, placeAfter, testsP, testsOf, nextTestP, nextTest, emitP, emit}
+use Rattle.scheme.specs.Emit.{namedByP, namedBy, lead-end-es, then-es}
 use Rattle.scheme.specs.Emit.{begin-es, point-es, kept-es, held-es, sum-es, age-es, run-es, fine-es, always-es}
 use Rattle.scheme.proofs.Offsets.{⊕-add, span, lt-longer, eq-longer}
 use Rattle.scheme.proofs.Places.{each-left, each-right}
@@ -31,7 +33,11 @@ use Rattle.scheme.proofs.Atoms.{compare-is}
 use Rattle.scheme.proofs.Lag.{lag-is}
 use Rattle.scheme.proofs.Then.{then-is, second-negated}
 
-module _ (cap : ℕ) (trace : Trace) (flow : ℕ → ℕ → ℕ) where
+-- The flow i says what f means, from the latest start of the flow s on.
+abbrev pub Agrees : Trace → (ℕ → ℕ → ℕ) → ℕ → ℕ → Formula → Type 0
+Agrees trace flow s i f = (b d : ℕ) → Since (on flow s) b d → on flow i (b ⊕ d) ≡ meaning trace f b (b ⊕ d)
+
+module _ (cap velocities : ℕ) (trace : Trace) (flow : ℕ → ℕ → ℕ) where
   -- ---- parts of equations that stand
 
   abbrev pub Stands : ℕ → List Equation → Type 0
@@ -63,133 +69,147 @@ module _ (cap : ℕ) (trace : Trace) (flow : ℕ → ℕ → ℕ) where
     named-right : (x y : ℕ → Bool) → Signals (λ j. x j || y j) → Signals y
     named-right x y h j e = h j (rw e (or-true (x j)))
 
-    -- The equations of a proposition, where they stand from place o on, give what it says.
-    abbrev PropIs : Prop → ℕ → Type 0
-    PropIs p o =
-        Signals (namedByP p) → Stands o (emitP flowOf p o .es) → (k : ℕ) → on flow (emitP flowOf p o .out) k
-        ≡ holds p (trace k)
+    -- The equations of a proposition, where they stand from place o on and those of its tests from place t on, give
+    -- what it says.
+    abbrev PropIs : Prop → ℕ → ℕ → Type 0
+    PropIs p t o =
+        Signals (namedByP p) → Stands t (testsP p) → Stands o (emitP flowOf p t o .es)
+        → (k : ℕ) → on flow (emitP flowOf p t o .out) k ≡ holds p (trace k)
 
     -- Two propositions that are joined by `&` or `|`, and the row that joins them.
-    both-are : (p q : Prop) (o : ℕ) (row : List Equation) →
-        let x : Block = emitP flowOf p o in
+    both-are : (p q : Prop) (t o : ℕ) (row : List Equation) →
+        let x : Block = emitP flowOf p t o in
         let o′ : ℕ = placeAfter o (x .es) in
-        let y : Block = emitP flowOf q o′ in
-        PropIs p o → PropIs q o′ → Signals (λ j. namedByP p j || namedByP q j) → Stands o (x .es ++ (y .es ++ row))
-        → (k : ℕ)
+        let y : Block = emitP flowOf q (nextTestP t p) o′ in
+        PropIs p t o → PropIs q (nextTestP t p) o′ → Signals (λ j. namedByP p j || namedByP q j)
+        → Stands t (testsP p ++ testsP q) → Stands o (x .es ++ (y .es ++ row)) → (k : ℕ)
         → (on flow (x .out) k ≡ holds p (trace k)) × (on flow (y .out) k ≡ holds q (trace k))
         × Stands (placeAfter o′ (y .es)) row
-    both-are p q o row p-is q-is signals h k =
-        let x : Block = emitP flowOf p o in
-        let y : Block = emitP flowOf q (placeAfter o (x .es)) in
+    both-are p q t o row p-is q-is signals tests h k =
+        let x : Block = emitP flowOf p t o in
+        let y : Block = emitP flowOf q (nextTestP t p) (placeAfter o (x .es)) in
         let parts = three (x .es) (y .es) row o h in (
-          p-is (named-left (namedByP p) (namedByP q) signals) (parts .0) k,
-          q-is (named-right (namedByP p) (namedByP q) signals) (parts .1) k,
+          p-is (named-left (namedByP p) (namedByP q) signals) (left (testsP p) (testsP q) t tests) (parts .0) k,
+          q-is (named-right (namedByP p) (namedByP q) signals) (right (testsP p) (testsP q) t tests) (parts .1) k,
           parts .2,
         )
 
-    prop-is : (p : Prop) (o : ℕ) → PropIs p o
+    prop-is : (p : Prop) (t o : ℕ) → PropIs p t o
     unfolding kindOf
-    prop-is (constant c) o signals h k = rw (h .0 k) (nonzero-truth c)
-    prop-is (signal j) o signals h k = signals j (eq-eqb j j refl) k
-    prop-is (negP p) o signals h k =
-        let x : Block = emitP flowOf p o in
-        right (x .es) _ o h .0 k ∙ ap not (prop-is p o signals (left (x .es) _ o h) k)
-    prop-is (andP p q) o signals h k =
-        let (first, second, row) = both-are p q o _ (prop-is p o) (prop-is q _) signals h k in
+    prop-is (constant c) t o signals tests h k = rw (h .0 k) (nonzero-truth c)
+    prop-is (signal j) t o signals tests h k = signals j (eq-eqb j j refl) k
+    prop-is (velocity op n) t o signals tests h k = rw (tests .0 k, op-number)
+    prop-is (negP p) t o signals tests h k =
+        let x : Block = emitP flowOf p t o in
+        right (x .es) _ o h .0 k ∙ ap not (prop-is p t o signals tests (left (x .es) _ o h) k)
+    prop-is (andP p q) t o signals tests h k =
+        let (first, second, row) = both-are p q t o _ (prop-is p t o) (prop-is q _ _) signals tests h k in
         row .0 k ∙ ap₂ _&&_ first second
-    prop-is (orP p q) o signals h k =
-        let (first, second, row) = both-are p q o _ (prop-is p o) (prop-is q _) signals h k in
+    prop-is (orP p q) t o signals tests h k =
+        let (first, second, row) = both-are p q t o _ (prop-is p t o) (prop-is q _ _) signals tests h k in
         row .0 k ∙ ap₂ _||_ first second
 
     -- ---- what is given of a formula, and of its parts
 
     -- Of equations es that stand from place o on, with the start flow s and its negation n: the formula's leads are
-    -- leads, its numbers are bounded, the signals that it names are there.
-    pub record Given (leading bounds : Bool) (named : ℕ → Bool) (s n o : ℕ) (es : List Equation) : Type 0 where
+    -- leads, its numbers are bounded, the signals that it names are there, and so are its tests, from place t on.
+    pub record Given (leading bounds : Bool) (named : ℕ → Bool) (s n t o : ℕ) (tests es : List Equation) : Type 0 where
       pub led : leading ≡ true
       pub bound : bounds ≡ true
       pub signals : Signals named
       pub negated : (k : ℕ) → on flow n k ≡ not (on flow s k)
+      pub tested : Stands t tests
       pub stands : Stands o es
 
-    abbrev pub GivenOf : Formula → ℕ → ℕ → ℕ → Type 0
-    GivenOf f s n o = Given (leads (raw f)) (bounded cap (raw f)) (namedBy f) s n o (emit flowOf f s n o .es)
+    abbrev pub GivenOf : Formula → ℕ → ℕ → ℕ → ℕ → Type 0
+    GivenOf f s n t o =
+        Given (leads (raw f)) (bounded cap velocities (raw f)) (namedBy f) s n t o (testsOf f)
+        (emit flowOf f s n t o .es)
 
     -- An atom's proposition, and the rows that follow its equations.
-    with-prop : {leading bounds : Bool} {s n o : ℕ} (p : Prop) (rows : ℕ → ℕ → List Equation) →
-        let x : Block = emitP flowOf p o in
-        Given leading bounds (namedByP p) s n o (x .es ++ rows (placeAfter o (x .es)) (x .out))
+    with-prop : {leading bounds : Bool} {s n t o : ℕ} (p : Prop) (rows : ℕ → ℕ → List Equation) →
+        let x : Block = emitP flowOf p t o in
+        Given leading bounds (namedByP p) s n t o (testsP p) (x .es ++ rows (placeAfter o (x .es)) (x .out))
         → ((k : ℕ) → on flow (x .out) k ≡ at trace p k) × Stands (placeAfter o (x .es))
         (rows (placeAfter o (x .es)) (x .out))
-    with-prop {o = o} p rows given =
-        let x : Block = emitP flowOf p o in
-        (prop-is p o (given .signals) (left (x .es) _ o (given .stands)), right (x .es) _ o (given .stands))
+    with-prop {t = t} {o = o} p rows given =
+        let x : Block = emitP flowOf p t o in (
+          prop-is p t o (given .signals) (given .tested) (left (x .es) _ o (given .stands)),
+          right (x .es) _ o (given .stands),
+        )
 
     -- A `lag`: its P and its Q, and the rows after each of them, the last ones in two parts.
     record LagParts (p q : Prop) (x : Num) (s n o′ o″ p-flow q-flow : ℕ) : Type 0 where
-      bound : numBound cap x ≡ true
+      bound : numBound cap velocities x ≡ true
       says-p : (k : ℕ) → on flow p-flow k ≡ at trace p k
       says-q : (k : ℕ) → on flow q-flow k ≡ at trace q k
       run : Stands o′ (run-es n o′ p-flow)
       fine : Stands o″ (fine-es x o″ (o′ ⊕ 1) q-flow)
       always : Stands (o″ ⊕ 4) (always-es s (o″ ⊕ 4) (o″ ⊕ 3))
 
-    lag-parts : (p : Prop) (x : Num) (q : Prop) {s n o : ℕ} → GivenOf (lag p x q) s n o →
-        let y : Block = emitP flowOf p o in
+    lag-parts : (p : Prop) (x : Num) (q : Prop) {s n t o : ℕ} → GivenOf (lag p x q) s n t o →
+        let y : Block = emitP flowOf p t o in
         let o′ : ℕ = placeAfter o (y .es) in
-        let z : Block = emitP flowOf q (o′ ⊕ 4) in
+        let z : Block = emitP flowOf q (nextTestP t p) (o′ ⊕ 4) in
         LagParts p q x s n o′ (placeAfter (o′ ⊕ 4) (z .es)) (y .out) (z .out)
-    lag-parts p x q {s} {n} {o} given =
-        let y : Block = emitP flowOf p o in
+    lag-parts p x q {s} {n} {t} {o} given =
+        let y : Block = emitP flowOf p t o in
         let o′ : ℕ = placeAfter o (y .es) in
-        let z : Block = emitP flowOf q (o′ ⊕ 4) in
+        let t′ : ℕ = nextTestP t p in
+        let z : Block = emitP flowOf q t′ (o′ ⊕ 4) in
         let o″ : ℕ = placeAfter (o′ ⊕ 4) (z .es) in
         let run : List Equation = run-es n o′ (y .out) in
         let fine : List Equation = fine-es x o″ (o′ ⊕ 1) (z .out) in
         let always : List Equation = always-es s (o″ ⊕ 4) (o″ ⊕ 3) in
         let parts = three (y .es) run (z .es ++ (fine ++ always)) o (given .stands) in
         let last = three (z .es) fine always (o′ ⊕ 4) (parts .2) in
-        let bounds = and-eq-true-iff (bounded cap (rawP p)) _ .0 (given .bound) .1 in
+        let first = left (testsP p) (testsP q) t (given .tested) in
+        let second = right (testsP p) (testsP q) t (given .tested) in
+        let bounds = and-eq-true-iff (bounded cap velocities (rawP p)) _ .0 (given .bound) .1 in
         record {
-          bound = and-eq-true-iff (numBound cap x) (bounded cap (rawP q)) .0 bounds .0;
-          says-p = prop-is p o (named-left (namedByP p) (namedByP q) (given .signals)) (parts .0);
-          says-q = prop-is q (o′ ⊕ 4) (named-right (namedByP p) (namedByP q) (given .signals)) (last .0);
+          bound = and-eq-true-iff (numBound cap velocities x) (bounded cap velocities (rawP q)) .0 bounds .0;
+          says-p = prop-is p t o (named-left (namedByP p) (namedByP q) (given .signals)) first (parts .0);
+          says-q = prop-is q t′ (o′ ⊕ 4) (named-right (namedByP p) (namedByP q) (given .signals)) second (last .0);
           run = parts .1;
           fine = last .1;
           always = last .2;
         }
 
     -- The formula under a `!`.
-    under-not : {leading bounds : Bool} {named : ℕ → Bool} {s n o : ℕ} (xs ys : List Equation)
-        → Given leading bounds named s n o (xs ++ ys) → Given leading bounds named s n o xs
+    under-not : {leading bounds : Bool} {named : ℕ → Bool} {s n t o : ℕ} {tests : List Equation}
+        (xs ys : List Equation) → Given leading bounds named s n t o tests (xs ++ ys)
+        → Given leading bounds named s n t o tests xs
     under-not {o = o} xs ys given =
         record {
           led = given .led;
           bound = given .bound;
           signals = given .signals;
           negated = given .negated;
+          tested = given .tested;
           stands = left xs ys o (given .stands);
         }
 
     -- Two formulas that are joined by `&` or `|`, and the row that joins them.
-    both : (f g : Formula) {s n o : ℕ} (row : List Equation) →
-        let x : Block = emit flowOf f s n o in
+    both : (f g : Formula) {s n t o : ℕ} (row : List Equation) →
+        let x : Block = emit flowOf f s n t o in
         let o′ : ℕ = placeAfter o (x .es) in
-        let y : Block = emit flowOf g s n o′ in
-        Given (leads (raw f) && leads (raw g)) (bounded cap (raw f) && bounded cap (raw g))
-        (λ j. namedBy f j || namedBy g j) s n o (x .es ++ (y .es ++ row))
-        → GivenOf f s n o × GivenOf g s n o′ × Stands (placeAfter o′ (y .es)) row
-    both f g {s} {n} {o} row given =
-        let x : Block = emit flowOf f s n o in
-        let y : Block = emit flowOf g s n (placeAfter o (x .es)) in
+        let y : Block = emit flowOf g s n (nextTest t f) o′ in
+        Given (leads (raw f) && leads (raw g)) (bounded cap velocities (raw f) && bounded cap velocities (raw g))
+        (λ j. namedBy f j || namedBy g j) s n t o (testsOf f ++ testsOf g) (x .es ++ (y .es ++ row))
+        → GivenOf f s n t o × GivenOf g s n (nextTest t f) o′ × Stands (placeAfter o′ (y .es)) row
+    both f g {s} {n} {t} {o} row given =
+        let x : Block = emit flowOf f s n t o in
+        let y : Block = emit flowOf g s n (nextTest t f) (placeAfter o (x .es)) in
         let parts = three (x .es) (y .es) row o (given .stands) in
         let led = and-eq-true-iff (leads (raw f)) (leads (raw g)) .0 (given .led) in
-        let bound = and-eq-true-iff (bounded cap (raw f)) (bounded cap (raw g)) .0 (given .bound) in (
+        let bound =
+        and-eq-true-iff (bounded cap velocities (raw f)) (bounded cap velocities (raw g)) .0 (given .bound) in (
           record {
             led = led .0;
             bound = bound .0;
             signals = named-left (namedBy f) (namedBy g) (given .signals);
             negated = given .negated;
+            tested = left (testsOf f) (testsOf g) t (given .tested);
             stands = parts .0;
           },
           record {
@@ -197,28 +217,29 @@ module _ (cap : ℕ) (trace : Trace) (flow : ℕ → ℕ → ℕ) where
             bound = bound .1;
             signals = named-right (namedBy f) (namedBy g) (given .signals);
             negated = given .negated;
+            tested = right (testsOf f) (testsOf g) t (given .tested);
             stands = parts .1;
           },
           parts .2,
         )
 
     -- A `then`: its lead, the end of the lead, the second part, which starts there, and the rest.
-    record ThenParts (l f : Formula) (s n o o′ o″ p g : ℕ) : Type 0 where
+    record ThenParts (l f : Formula) (s n t o o′ o″ p g : ℕ) : Type 0 where
       is-lead : lead (raw l) ≡ true
-      first : GivenOf l s n o
+      first : GivenOf l s n t o
       ending : Stands o′ (lead-end-es n o′ p)
-      second : GivenOf f (o′ ⊕ 3) (o′ ⊕ 4) (o′ ⊕ 5)
+      second : GivenOf f (o′ ⊕ 3) (o′ ⊕ 4) (nextTest t l) (o′ ⊕ 5)
       rest : Stands o″ (then-es n o″ (o′ ⊕ 3) g)
 
-    then-parts : (l f : Formula) {s n o : ℕ} → GivenOf (then l f) s n o →
-        let x : Block = emit flowOf l s n o in
+    then-parts : (l f : Formula) {s n t o : ℕ} → GivenOf (then l f) s n t o →
+        let x : Block = emit flowOf l s n t o in
         let o′ : ℕ = placeAfter o (x .es) in
-        let y : Block = emit flowOf f (o′ ⊕ 3) (o′ ⊕ 4) (o′ ⊕ 5) in
-        ThenParts l f s n o o′ (placeAfter (o′ ⊕ 5) (y .es)) (x .out) (y .out)
-    then-parts l f {s} {n} {o} given =
-        let x : Block = emit flowOf l s n o in
+        let y : Block = emit flowOf f (o′ ⊕ 3) (o′ ⊕ 4) (nextTest t l) (o′ ⊕ 5) in
+        ThenParts l f s n t o o′ (placeAfter (o′ ⊕ 5) (y .es)) (x .out) (y .out)
+    then-parts l f {s} {n} {t} {o} given =
+        let x : Block = emit flowOf l s n t o in
         let o′ : ℕ = placeAfter o (x .es) in
-        let y : Block = emit flowOf f (o′ ⊕ 3) (o′ ⊕ 4) (o′ ⊕ 5) in
+        let y : Block = emit flowOf f (o′ ⊕ 3) (o′ ⊕ 4) (nextTest t l) (o′ ⊕ 5) in
         let o″ : ℕ = placeAfter (o′ ⊕ 5) (y .es) in
         let ending : List Equation = lead-end-es n o′ (x .out) in
         let rest : List Equation = then-es n o″ (o′ ⊕ 3) (y .out) in
@@ -226,7 +247,8 @@ module _ (cap : ℕ) (trace : Trace) (flow : ℕ → ℕ → ℕ) where
         let rest-stands : Stands o″ rest = right (y .es) rest (o′ ⊕ 5) (parts .2) in
         let leading = and-eq-true-iff (lead (raw l)) (leads (raw l) && leads (raw f)) .0 (given .led) in
         let led = and-eq-true-iff (leads (raw l)) (leads (raw f)) .0 (leading .1) in
-        let bound = and-eq-true-iff (bounded cap (raw l)) (bounded cap (raw f)) .0 (given .bound) in
+        let bound =
+        and-eq-true-iff (bounded cap velocities (raw l)) (bounded cap velocities (raw f)) .0 (given .bound) in
         record {
           is-lead = leading .0;
           first = record {
@@ -234,6 +256,7 @@ module _ (cap : ℕ) (trace : Trace) (flow : ℕ → ℕ → ℕ) where
             bound = bound .0;
             signals = named-left (namedBy l) (namedBy f) (given .signals);
             negated = given .negated;
+            tested = left (testsOf l) (testsOf f) t (given .tested);
             stands = parts .0;
           };
           ending = parts .1;
@@ -243,6 +266,7 @@ module _ (cap : ℕ) (trace : Trace) (flow : ℕ → ℕ → ℕ) where
             signals = named-right (namedBy l) (namedBy f) (given .signals);
             negated =
                 second-negated cap trace flow s n (given .negated) o′ o″ (x .out) (y .out) (parts .1) rest-stands;
+            tested = right (testsOf l) (testsOf f) t (given .tested);
             stands = left (y .es) rest (o′ ⊕ 5) (parts .2);
           };
           rest = rest-stands;
@@ -250,85 +274,84 @@ module _ (cap : ℕ) (trace : Trace) (flow : ℕ → ℕ → ℕ) where
 
   -- ---- formulas
 
-  -- The flow i says what f means, from the latest start of the flow s on.
-  abbrev pub Agrees : ℕ → ℕ → Formula → Type 0
-  Agrees s i f = (b d : ℕ) → Since (on flow s) b d → on flow i (b ⊕ d) ≡ meaning trace f b (b ⊕ d)
-
   -- The parameters are the same at all ticks, and below the cap.
   module _ (same : (i j : ℕ) → (trace i) .parameters ≡ (trace j) .parameters)
       (small : (k j : ℕ) → j < parameterCount → parameterAt (trace k) j < cap) (flowOf : ℕ → ℕ) where
-    pub agrees : (f : Formula) (s n o : ℕ) → GivenOf flowOf f s n o → Agrees s (emit flowOf f s n o .out) f
+    pub agrees : (f : Formula) (s n t o : ℕ) → GivenOf flowOf f s n t o
+        → Agrees trace flow s (emit flowOf f s n t o .out) f
     unfolding kindOf
-    agrees (test begin p) s n o given =
-        let x : Block = emitP flowOf p o in
+    agrees (test begin p) s n t o given =
+        let x : Block = emitP flowOf p t o in
         let (says, rows) = with-prop flowOf p (begin-es s n) given in
         begin-is cap trace flow s n (given .negated) (placeAfter o (x .es)) (x .out) (at trace p) says rows
-    agrees (test end p) s n o given = λ b d since. prop-is flowOf p o (given .signals) (given .stands) (b ⊕ d)
-    agrees (test point p) s n o given = λ b d since.
-        let x : Block = emitP flowOf p o in
+    agrees (test end p) s n t o given = λ b d since.
+        prop-is flowOf p t o (given .signals) (given .tested) (given .stands) (b ⊕ d)
+    agrees (test point p) s n t o given = λ b d since.
+        let x : Block = emitP flowOf p t o in
         let (says, rows) = with-prop flowOf p (point-es s) given in
         rw (eq-longer b d)
         (point-is cap trace flow s n (given .negated) (placeAfter o (x .es)) (x .out) (at trace p) says rows b d since)
-    agrees (test held p) s n o given = λ b d since.
-        let x : Block = emitP flowOf p o in
+    agrees (test held p) s n t o given = λ b d since.
+        let x : Block = emitP flowOf p t o in
         let (says, rows) = with-prop flowOf p (held-es s n) given in
         rw (lt-longer b d, span b d)
         (held-is cap trace flow s n (given .negated) (placeAfter o (x .es)) (x .out) (at trace p) says rows b d since)
-    agrees (test kept p) s n o given = λ b d since.
-        let x : Block = emitP flowOf p o in
+    agrees (test kept p) s n t o given = λ b d since.
+        let x : Block = emitP flowOf p t o in
         let (says, rows) = with-prop flowOf p (kept-es s) given in
         rw (span b d)
         (kept-is cap trace flow s n (given .negated) (placeAfter o (x .es)) (x .out) (at trace p) says rows b d since)
-    agrees (len op x) s n o given = λ b d since.
+    agrees (len op x) s n t o given = λ b d since.
         let rows = given .stands in
         let counted = len-is cap trace flow s n (given .negated) o op x rows b d since in
         rw (span b d)
-        (compare-is cap trace flow small (o ⊕ 3) (o ⊕ 2) op x (given .bound) (rows .1 .1 .1) (b ⊕ d) d counted)
-    agrees (count sum p op x) s n o given = λ b d since.
-        let y : Block = emitP flowOf p o in
+        (compare-is cap velocities trace flow small (o ⊕ 3) (o ⊕ 2) op x (given .bound) (rows .1 .1 .1) (b ⊕ d) d
+        counted)
+    agrees (count sum p op x) s n t o given = λ b d since.
+        let y : Block = emitP flowOf p t o in
         let o′ : ℕ = placeAfter o (y .es) in
         let (says, rows) = with-prop flowOf p (sum-es n op x) given in
         let counted = sum-is cap trace flow s n (given .negated) o′ (y .out) (at trace p) says op x rows b d since in
-        let bound = and-eq-true-iff (bounded cap (rawP p)) (numBound cap x) .0 (given .bound) .1 in
+        let bound = and-eq-true-iff (bounded cap velocities (rawP p)) _ .0 (given .bound) .1 in
         rw (span b d)
-        (compare-is cap trace flow small (o′ ⊕ 3) (o′ ⊕ 1) op x bound (rows .1 .1 .1) (b ⊕ d)
+        (compare-is cap velocities trace flow small (o′ ⊕ 3) (o′ ⊕ 1) op x bound (rows .1 .1 .1) (b ⊕ d)
         (tally (at trace p) b d) counted)
-    agrees (count age p op x) s n o given = λ b d since.
-        let y : Block = emitP flowOf p o in
+    agrees (count age p op x) s n t o given = λ b d since.
+        let y : Block = emitP flowOf p t o in
         let o′ : ℕ = placeAfter o (y .es) in
         let (says, rows) = with-prop flowOf p (age-es n op x) given in
         let run : Stands o′ (run-es n o′ (y .out)) = (rows .0, (rows .1 .0, (rows .1 .1 .0, (rows .1 .1 .1 .0, tt)))) in
         let counted = run-is cap trace flow s n (given .negated) o′ (y .out) (at trace p) says run b d since in
-        let bound = and-eq-true-iff (bounded cap (rawP p)) (numBound cap x) .0 (given .bound) .1 in
+        let bound = and-eq-true-iff (bounded cap velocities (rawP p)) _ .0 (given .bound) .1 in
         rw (span b d)
-        (compare-is cap trace flow small (o′ ⊕ 4) (o′ ⊕ 3) op x bound (rows .1 .1 .1 .1) (b ⊕ d)
+        (compare-is cap velocities trace flow small (o′ ⊕ 4) (o′ ⊕ 3) op x bound (rows .1 .1 .1 .1) (b ⊕ d)
         (streak (at trace p) (b ⊕ d) d) counted)
-    agrees (lag p x q) s n o given = λ b d since.
-        let y : Block = emitP flowOf p o in
+    agrees (lag p x q) s n t o given = λ b d since.
+        let y : Block = emitP flowOf p t o in
         let o′ : ℕ = placeAfter o (y .es) in
-        let z : Block = emitP flowOf q (o′ ⊕ 4) in
+        let z : Block = emitP flowOf q (nextTestP t p) (o′ ⊕ 4) in
         let o″ : ℕ = placeAfter (o′ ⊕ 4) (z .es) in
         let parts = lag-parts flowOf p x q given in
-        lag-is cap trace flow s n (given .negated) small x (value-same trace same x) (parts .bound)
+        lag-is cap velocities trace flow s n (given .negated) small x (value-same trace same x) (parts .bound)
         o′ (y .out) (at trace p) (parts .says-p) (parts .run) o″ (z .out) (at trace q) (parts .says-q) (parts .fine)
         (parts .always) b d since
-    agrees (neg f) s n o given = λ b d since.
-        let x : Block = emit flowOf f s n o in
+    agrees (neg f) s n t o given = λ b d since.
+        let x : Block = emit flowOf f s n t o in
         let row = right (x .es) _ o (given .stands) in
-        row .0 (b ⊕ d) ∙ ap not (agrees f s n o (under-not flowOf (x .es) _ given) b d since)
-    agrees (and f g) s n o given = λ b d since.
+        row .0 (b ⊕ d) ∙ ap not (agrees f s n t o (under-not flowOf (x .es) _ given) b d since)
+    agrees (and f g) s n t o given = λ b d since.
         let (first, second, row) = both flowOf f g _ given in
-        row .0 (b ⊕ d) ∙ ap₂ _&&_ (agrees f s n o first b d since) (agrees g s n _ second b d since)
-    agrees (or f g) s n o given = λ b d since.
+        row .0 (b ⊕ d) ∙ ap₂ _&&_ (agrees f s n t o first b d since) (agrees g s n _ _ second b d since)
+    agrees (or f g) s n t o given = λ b d since.
         let (first, second, row) = both flowOf f g _ given in
-        row .0 (b ⊕ d) ∙ ap₂ _||_ (agrees f s n o first b d since) (agrees g s n _ second b d since)
-    agrees (then l f) s n o given = λ b d since.
-        let x : Block = emit flowOf l s n o in
+        row .0 (b ⊕ d) ∙ ap₂ _||_ (agrees f s n t o first b d since) (agrees g s n _ _ second b d since)
+    agrees (then l f) s n t o given = λ b d since.
+        let x : Block = emit flowOf l s n t o in
         let o′ : ℕ = placeAfter o (x .es) in
-        let y : Block = emit flowOf f (o′ ⊕ 3) (o′ ⊕ 4) (o′ ⊕ 5) in
+        let y : Block = emit flowOf f (o′ ⊕ 3) (o′ ⊕ 4) (nextTest t l) (o′ ⊕ 5) in
         let parts = then-parts flowOf l f given in
-        let first = agrees l s n o (parts .first) in
-        let second = agrees f (o′ ⊕ 3) (o′ ⊕ 4) (o′ ⊕ 5) (parts .second) in
+        let first = agrees l s n t o (parts .first) in
+        let second = agrees f (o′ ⊕ 3) (o′ ⊕ 4) (nextTest t l) (o′ ⊕ 5) (parts .second) in
         let falls : (d : ℕ) → meaning trace l b (suc (b ⊕ d)) ≡ true → meaning trace l b (b ⊕ d) ≡ true =
         λ d. lead-falls trace same l (parts .is-lead) b (b ⊕ d) (rw ⊕-add (omega arith)) in
         rw (span b d)

@@ -13,12 +13,12 @@ use Rattle.tables.specs.Table.{shapeFits}
 use Rattle.tables.specs.declared.Sort.{Sort}
 use Rattle.tables.specs.declared.Sort.the-variants.{Boolean, Count}
 use Rattle.tables.specs.declared.Operand.{Operand}
-use Rattle.tables.specs.declared.Operand.the-variants.{Unused, Earlier, Anywhere, Below}
+use Rattle.tables.specs.declared.Operand.the-variants.{Unused, Earlier, Anywhere, Below, Velocity}
 use Rattle.tables.specs.declared.Shape.{Shape}
 use Rattle.tables.proofs.Tests.{all-at}
 use Rattle.scheme.specs.Scheme.{_⊕_, rowAt, valueNamed, kindFor, resolved, filled}
 use Rattle.scheme.specs.Scheme.{Name}
-use Rattle.scheme.specs.Scheme.Name.{Nought, Negated, Start, Last, Previous, Signal, A, C}
+use Rattle.scheme.specs.Scheme.Name.{Nought, Negated, Start, Last, Previous, Signal, Tested, A, C}
 use Rattle.scheme.specs.Scheme.Name.{First, Second, Third, Fourth, Fifth}
 use Rattle.scheme.specs.Scheme.{Row}
 use Rattle.scheme.specs.Scheme.{Values}
@@ -42,6 +42,7 @@ rolesOf n s p q a c Start = s
 rolesOf n s p q a c Last = p
 rolesOf n s p q a c Previous = q
 rolesOf n s p q a c Signal = free
+rolesOf n s p q a c Tested = free
 rolesOf n s p q a c A = below a
 rolesOf n s p q a c C = below c
 rolesOf n s p q a c First = own 0
@@ -78,12 +79,13 @@ module _ (v : Values) (roles : Name → Role) (rows : List Row) where
   isFlowOf k s (below b) = false
   isFlowOf k s (own j) = ltb j k && sameSort (sortOf (kindIn v (rowAt rows j))) s
 
-  -- The name x can be such an operand in row i.
+  -- The name x can be such an operand in row i. No row has a velocity: the tests stand before all rows.
   abbrev pub operandOk : ℕ → Operand → Name → Bool
   operandOk i Unused x = isNought (roles x)
   operandOk i (Below k) x = isBelow k (roles x)
   operandOk i (Earlier s) x = isFlowOf i s (roles x)
   operandOk i (Anywhere s) x = isFlowOf (length rows) s (roles x)
+  operandOk i Velocity x = false
 
   abbrev pub shapeOk : ℕ → Shape → Row → Bool
   shapeOk i s r = operandOk i (s .a) (r .a) && (operandOk i (s .b) (r .b) && operandOk i (s .c) (r .c))
@@ -110,8 +112,8 @@ unfolding isFlow
 is-flow {t} {i} {s} {x} b = rw (lt-ltb x i (b .earlier), b .sorted)
 
 -- The equation e, at place i of the table t of N equations, keeps the rules of its kind.
-pub record Fits (t : List ℕ) (N i : ℕ) (e : Equation) : Type 0 where
-  pub fits : shapeFits t N i (shapeOf (kindOf (e .kind))) e ≡ true
+pub record Fits (velocities : ℕ) (t : List ℕ) (N i : ℕ) (e : Equation) : Type 0 where
+  pub fits : shapeFits velocities t N i (shapeOf (kindOf (e .kind))) e ≡ true
 
 -- The table has the kind of the equation e at place i.
 abbrev pub KindAt : List ℕ → ℕ → Equation → Type 0
@@ -129,7 +131,7 @@ module _ (v : Values) where
   filled-at (r ∷ rs) (suc i) h = filled-at rs i (omega arith)
 
 -- Rows from place o on.
-module _ (t : List ℕ) (N o : ℕ) where
+module _ (velocities : ℕ) (t : List ℕ) (N o : ℕ) where
   -- The number v is what its role says.
   abbrev pub Plays : Role → ℕ → Type 0
   Plays nought v = v ≡ 0
@@ -185,7 +187,7 @@ module _ (t : List ℕ) (N o : ℕ) where
         rw h (is-flow flow)
 
     operand-fits : (i : ℕ) → i < length rows → (a : Operand) (x : Name) → operandOk v roles rows i a x ≡ true
-        → operandFits t N (o ⊕ i) a (valueNamed v x) ≡ true
+        → operandFits velocities t N (o ⊕ i) a (valueNamed v x) ≡ true
     unfolding operandFits
     operand-fits i h Unused x e = eq-eqb (valueNamed v x) 0 (nought-fits (roles x) (valueNamed v x) (play x) e)
     operand-fits i h (Earlier s) x e =
@@ -193,9 +195,10 @@ module _ (t : List ℕ) (N o : ℕ) where
     operand-fits i h (Anywhere s) x e =
         flow-fits (length rows) N (omega arith) room s (roles x) (valueNamed v x) (play x) e
     operand-fits i h (Below k) x e = lt-ltb (valueNamed v x) k (below-fits k (roles x) (valueNamed v x) (play x) e)
+    operand-fits i h Velocity x e = absurd (false≢true e)
 
     row-fits : (i : ℕ) → i < length rows → rowOk v roles rows i ≡ true
-        → Fits t N (o ⊕ i) (resolved v (rowAt rows i))
+        → Fits velocities t N (o ⊕ i) (resolved v (rowAt rows i))
     unfolding shapeFits
     row-fits i h e =
         let r : Row = rowAt rows i in
@@ -207,9 +210,9 @@ module _ (t : List ℕ) (N o : ℕ) where
         let c = operand-fits i h (s .c) (r .c) (others .1) in
         record { fits = rw (a, b, c) }
 
-    pub rows-fit : rowsOk v roles rows ≡ true → Each (Fits t N) o (filled v rows)
+    pub rows-fit : rowsOk v roles rows ≡ true → Each (Fits velocities t N) o (filled v rows)
     rows-fit e =
-        each-from (Fits t N) (filled v rows) o
+        each-from (Fits velocities t N) (filled v rows) o
         (λ i h.
         let h′ : i < length rows = rw (filled-length v rows) at h in
         rw (filled-at v rows i h′) (row-fits i h′ (all-at (rowOk v roles rows) (length rows) e i h′)))

@@ -25,7 +25,7 @@ use Rattle.scheme.specs.Scheme.{_⊕_, constantRows, notRows, andRows, o
 use Rattle.scheme.specs.Scheme.{heldRows, lenRows, sumRows, runRows, ageRows, fineRows, leadEndRows, thenRows}
 use Rattle.scheme.specs.Scheme.{wholeRows, valueNamed, comparisonOf, filled}
 use Rattle.scheme.specs.Scheme.{Name}
-use Rattle.scheme.specs.Scheme.Name.{Nought, Negated, Start, Last, Previous, Signal, A, C}
+use Rattle.scheme.specs.Scheme.Name.{Nought, Negated, Start, Last, Previous, Signal, Tested, A, C}
 use Rattle.scheme.specs.Scheme.Name.{First, Second, Third, Fourth, Fifth}
 use Rattle.scheme.specs.Scheme.{Row}
 use Rattle.scheme.specs.Scheme.{Values}
@@ -40,7 +40,7 @@ truth-below : (c : Bool) → truth c < truthCount
 truth-below true = omega arith
 truth-below false = omega arith
 
-op-below : (o : Op) → opNumber o < comparisonCount
+pub op-below : (o : Op) → opNumber o < comparisonCount
 op-below le = omega arith
 op-below lt = omega arith
 op-below eq = omega arith
@@ -48,13 +48,13 @@ op-below gt = omega arith
 op-below ge = omega arith
 
 -- In a table t of N equations, from place o on:
-module _ (t : List ℕ) (N o : ℕ) where
+module _ (velocities : ℕ) (t : List ℕ) (N o : ℕ) where
   abbrev pub Kinded : List Equation → Type 0
   Kinded = Each (KindAt t) o
 
   -- The equations fit, and the flow v is one of that sort before place o′;
   abbrev pub FineOf : Sort → List Equation → ℕ → ℕ → Type 0
-  FineOf s es o′ v = Each (Fits t N) o es × Before t o′ s v
+  FineOf s es o′ v = Each (Fits velocities t N) o es × Before t o′ s v
 
   -- it is a boolean.
   abbrev pub Fine : List Equation → ℕ → ℕ → Type 0
@@ -72,7 +72,7 @@ module _ (t : List ℕ) (N o : ℕ) where
     unused : Given free 0
     used : {s : Sort} {x : ℕ} → Before t o s x → Given (given s) x
 
-  plays : {r : Role} {x : ℕ} → Given r x → Plays t N o r x
+  plays : {r : Role} {x : ℕ} → Given r x → Plays velocities t N o r x
   plays unused = tt
   plays (used b) = b
 
@@ -81,16 +81,19 @@ module _ (t : List ℕ) (N o : ℕ) where
       (gs : Given rs (v .start))
       (gp : Given rp (v .last)) (gq : Given rq (v .previous)) where
     numbers-fit : (ba bc : ℕ) (rows : List Row) → v .a < ba → v .c < bc → o ⊕ length rows ≤ N
-        → Kinded (filled v rows) → rowsOk v (rolesOf rn rs rp rq ba bc) rows ≡ true → Each (Fits t N) o (filled v rows)
-    numbers-fit ba bc rows la lc room kinds ok = rows-fit t N o v (rolesOf rn rs rp rq ba bc) rows play room kinds ok
+        → Kinded (filled v rows) → rowsOk v (rolesOf rn rs rp rq ba bc) rows ≡ true
+        → Each (Fits velocities t N) o (filled v rows)
+    numbers-fit ba bc rows la lc room kinds ok =
+        rows-fit velocities t N o v (rolesOf rn rs rp rq ba bc) rows play room kinds ok
       where
-        play : (x : Name) → Plays t N o (rolesOf rn rs rp rq ba bc x) (valueNamed v x)
+        play : (x : Name) → Plays velocities t N o (rolesOf rn rs rp rq ba bc x) (valueNamed v x)
         play Nought = refl
         play Negated = plays gn
         play Start = plays gs
         play Last = plays gp
         play Previous = plays gq
         play Signal = tt
+        play Tested = tt
         play A = la
         play C = lc
         play First = placed
@@ -104,18 +107,18 @@ module _ (t : List ℕ) (N o : ℕ) where
     where
       plain-fit : (rows : List Row) → o ⊕ length rows ≤ N → Kinded (filled (flowsAt o n s p q) rows)
           → rowsOk (flowsAt o n s p q) (rolesOf rn rs rp rq 1 1) rows ≡ true
-          → Each (Fits t N) o (filled (flowsAt o n s p q) rows)
+          → Each (Fits velocities t N) o (filled (flowsAt o n s p q) rows)
       plain-fit rows = numbers-fit (flowsAt o n s p q) refl gn gs gp gq 1 1 rows (omega arith) (omega arith)
 
   -- Rows with a comparison, with a literal below the cap, which is at most a million, or with a parameter.
   module _ {rn rp rq : Role} {n p q : ℕ} (gn : Given rn n) (gp : Given rp p) (gq : Given rq q) where
-    compare-fit : (cap : ℕ) → cap ≤ literalCount → (op : Op) (x : Num) → numBound cap x ≡ true → (rows : List Row)
-        → o ⊕ length rows ≤ N → Kinded (filled (comparing o n p q op x) rows)
+    compare-fit : (cap : ℕ) → cap ≤ literalCount → (op : Op) (x : Num) → numBound cap velocities x ≡ true
+        → (rows : List Row) → o ⊕ length rows ≤ N → Kinded (filled (comparing o n p q op x) rows)
         → ((c : ℕ) → rowsOk (comparing o n p q op (literal c))
         (rolesOf rn free rp rq comparisonCount literalCount) rows ≡ true)
         → ((c : ℕ) → rowsOk (comparing o n p q op (parameter c))
         (rolesOf rn free rp rq comparisonCount parameterCount) rows ≡ true)
-        → Each (Fits t N) o (filled (comparing o n p q op x) rows)
+        → Each (Fits velocities t N) o (filled (comparing o n p q op x) rows)
     compare-fit cap low op (literal c) bound rows room kinds ok ok′ =
         numbers-fit (comparing o n p q op (literal c)) refl gn unused gp gq comparisonCount literalCount
         rows (op-below op) (omega (arith, ltb-true c cap bound)) room kinds (ok c)
@@ -181,7 +184,7 @@ module _ (t : List ℕ) (N o : ℕ) where
     held-fine room k =
         (plain-fit (used bn) (used bs) (used bp) unused heldRows room k refl, here (o ⊕ 3) AND (k .1 .1 .1 .0) refl)
 
-    module _ (cap : ℕ) (low : cap ≤ literalCount) (op : Op) (x : Num) (bound : numBound cap x ≡ true) where
+    module _ (cap : ℕ) (low : cap ≤ literalCount) (op : Op) (x : Num) (bound : numBound cap velocities x ≡ true) where
       pub len-fine : o ⊕ 4 ≤ N → Kinded (len-es n o op x) → Fine (len-es n o op x) (o ⊕ 4) (o ⊕ 3)
       unfolding all kindOf shapeOf sameSort
       len-fine room k = (
@@ -214,7 +217,7 @@ module _ (t : List ℕ) (N o : ℕ) where
 
   -- and that its q holds if it is due after the run r.
   pub due-fine : {r q : ℕ} → Before t o Count r → Before t o Boolean q → (cap : ℕ) → cap ≤ literalCount → (x : Num)
-      → numBound cap x ≡ true → o ⊕ 4 ≤ N → Kinded (fine-es x o r q) → Fine (fine-es x o r q) (o ⊕ 4) (o ⊕ 3)
+      → numBound cap velocities x ≡ true → o ⊕ 4 ≤ N → Kinded (fine-es x o r q) → Fine (fine-es x o r q) (o ⊕ 4) (o ⊕ 3)
   unfolding all kindOf shapeOf sameSort
   due-fine br bq cap low x bound room k = (
     compare-fit unused (used bq) (used br) cap low lt x bound fineRows room k (λ c. refl) (λ c. refl),
@@ -223,7 +226,8 @@ module _ (t : List ℕ) (N o : ℕ) where
 
   -- The end of the lead p: flows 3 and 4 are the second part's start and its negation.
   pub lead-end-fine : {n p : ℕ} → Before t o Boolean n → Before t o Boolean p → o ⊕ 5 ≤ N → Kinded (lead-end-es n o p)
-      → Each (Fits t N) o (lead-end-es n o p) × (Before t (o ⊕ 5) Boolean (o ⊕ 3) × Before t (o ⊕ 5) Boolean (o ⊕ 4))
+      → Each (Fits velocities t N) o (lead-end-es n o p)
+      × (Before t (o ⊕ 5) Boolean (o ⊕ 3) × Before t (o ⊕ 5) Boolean (o ⊕ 4))
   unfolding all kindOf shapeOf sameSort
   lead-end-fine bn bp room k = (
     plain-fit (used bn) unused (used bp) unused leadEndRows room k refl,

@@ -1,7 +1,7 @@
 -- The equations of a formula: its observer. First stand the start flow and its negation, then the signals that the
--- formula names, lowest first, then its nodes, a block for each after the blocks of its operands (`then` and `lag` have
--- a part of their block between those of their operands), then what tells whether there was a start, and the verdict.
--- Definitions only.
+-- formula names, lowest first, then its velocity tests, one for each place in the text, in its order. Then come its
+-- nodes, a block for each after the blocks of its operands (`then` and `lag` have a part of their block between those
+-- of their operands), then what tells whether there was a start, and the verdict. Definitions only.
 use mathlib.Core.Bool.{Bool, false, _||_, cond}
 use mathlib.Core.List.{List, [], _∷_, _++_}
 use Prim.Native.Nat.{ℕ, zero, suc}
@@ -13,19 +13,19 @@ use Rattle.traces.specs.Compare.{opNumber}
 use Rattle.traces.specs.declared.Op.{Op}
 use Rattle.traces.specs.declared.Op.the-variants.{Below as lt}
 use Rattle.formulas.specs.Formula.{Num, Prop, Formula}
-use Rattle.formulas.specs.Formula.Prop.{constant, signal, negP, andP, orP}
+use Rattle.formulas.specs.Formula.Prop.{constant, signal, velocity, negP, andP, orP}
 use Rattle.formulas.specs.Formula.Test.{begin, end, point, held, kept}
 use Rattle.formulas.specs.Formula.Count.{sum, age}
 use Rattle.formulas.specs.Formula.Formula.{test, len, count, lag, neg, and, or, then}
 use Rattle.formulas.specs.Arena.{numKind, numValue}
 use Rattle.tables.specs.Table.{Equation}
-use Rattle.tables.specs.Kind.{SIGNAL, START, NOT}
+use Rattle.tables.specs.Kind.{SIGNAL, START, NOT, VELOCITY}
 use Rattle.limits.specs.Limits.{signalCount}
 use Rattle.tables.specs.Table.{equation}
 use Rattle.scheme.specs.Scheme.{_⊕_, Name, Node, constantNode, signalNode, notNode, andNode, orNode, beginNode}
 use Rattle.scheme.specs.Scheme.{endNode, pointNode, heldNode, keptNode, lenNode, sumNode, ageNode, runNode}
-use Rattle.scheme.specs.Scheme.{fineNode, alwaysNode, leadEndNode, thenNode, wholeNode, Values, valueNamed}
-use Rattle.scheme.specs.Scheme.{comparisonOf, filled}
+use Rattle.scheme.specs.Scheme.{fineNode, alwaysNode, leadEndNode, thenNode, velocityNode, wholeNode}
+use Rattle.scheme.specs.Scheme.{Values, valueNamed, comparisonOf, filled}
 use Rattle.scheme.specs.Scheme.Name.{Fourth}
 
 -- A block of equations, and the flow that is its result.
@@ -43,7 +43,18 @@ placeAfter o (e ∷ es) = placeAfter (suc o) es
 -- The values at a node: its place, the negated start flow, the start flow, the last operand and the one before it.
 abbrev pub flowsAt : (place negated start last previous : ℕ) → Values
 flowsAt o n s p q =
-    record { place = o; negated = n; start = s; last = p; previous = q; signal = 0; a = 0; comparison = 0; c = 0 }
+    record {
+      place = o;
+      negated = n;
+      start = s;
+      last = p;
+      previous = q;
+      signal = 0;
+      tested = 0;
+      a = 0;
+      comparison = 0;
+      c = 0;
+    }
 
 -- The values at a comparison of a count with x.
 abbrev pub comparing : (place negated last previous : ℕ) → Op → Num → Values
@@ -55,20 +66,39 @@ comparing o n p q op x =
       last = p;
       previous = q;
       signal = 0;
+      tested = 0;
       a = opNumber op;
       comparison = comparisonOf (numKind x);
       c = numValue x;
     }
 
+-- The values at a leaf: its place, the flow of its signal, the flow of its test, and its record's first number.
+abbrev pub leafAt : (place signal tested a : ℕ) → Values
+leafAt o x t a =
+    record {
+      place = o;
+      negated = 0;
+      start = 0;
+      last = 0;
+      previous = 0;
+      signal = x;
+      tested = t;
+      a = a;
+      comparison = 0;
+      c = 0;
+    }
+
 -- The value at a constant.
 abbrev pub constantAt : ℕ → Bool → Values
-constantAt o c =
-    record { place = o; negated = 0; start = 0; last = 0; previous = 0; signal = 0; a = truth c; comparison = 0; c = 0 }
+constantAt o c = leafAt o 0 0 (truth c)
 
 -- The value at a signal, whose flow is x.
 abbrev pub signalling : ℕ → Values
-signalling x =
-    record { place = 0; negated = 0; start = 0; last = 0; previous = 0; signal = x; a = 0; comparison = 0; c = 0 }
+signalling x = leafAt 0 x 0 0
+
+-- The value at a velocity test, whose flow is x.
+abbrev pub testing : ℕ → Values
+testing x = leafAt 0 0 x 0
 
 -- s and n are the start flow and its negation, p the flow of the node's proposition or operand, q that of the operand
 -- before it.
@@ -149,6 +179,11 @@ abbrev pub signal-block : ℕ → Block
 signal-block x =
     record { es = filled (signalling x) (signalNode .rows); out = valueNamed (signalling x) (signalNode .result) }
 
+-- A velocity test's flow stands in the header too.
+abbrev pub velocity-block : ℕ → Block
+velocity-block x =
+    record { es = filled (testing x) (velocityNode .rows); out = valueNamed (testing x) (velocityNode .result) }
+
 -- An `end` adds no row to its proposition's.
 abbrev pub end-block : Block → Block
 end-block x = record { es = x .es; out = valueNamed (flowsAt 0 0 0 (x .out) 0) (endNode .result) }
@@ -197,33 +232,70 @@ then-block n o′ x y =
       out = ownFlow o″ (thenNode .result);
     }
 
--- The equations of a proposition and of a formula from place o on. flowOf has the flow of each signal; s and n are the
--- start flow of the formula's interval and its negation.
-module _ (flowOf : ℕ → ℕ) where
-  abbrev pub emitP : Prop → ℕ → Block
-  emitP (constant c) o = record { es = constant-es c o; out = ownFlow o (constantNode .result) }
-  emitP (signal j) o = signal-block (flowOf j)
-  emitP (negP p) o = not-block o (emitP p o)
-  emitP (andP p q) o = join-block and-es andNode o (emitP p o) (emitP q (placeAfter o (emitP p o .es)))
-  emitP (orP p q) o = join-block or-es orNode o (emitP p o) (emitP q (placeAfter o (emitP p o .es)))
+-- ---- the velocity tests
 
-  abbrev pub emit : Formula → ℕ → ℕ → ℕ → Block
-  emit (test begin p) s n o = atom-block (begin-es s n) beginNode o (emitP p o)
-  emit (test end p) s n o = end-block (emitP p o)
-  emit (test point p) s n o = atom-block (point-es s) pointNode o (emitP p o)
-  emit (test held p) s n o = atom-block (held-es s n) heldNode o (emitP p o)
-  emit (test kept p) s n o = atom-block (kept-es s) keptNode o (emitP p o)
-  emit (len op x) s n o = record { es = len-es n o op x; out = ownFlow o (lenNode .result) }
-  emit (count sum p op x) s n o = atom-block (sum-es n op x) sumNode o (emitP p o)
-  emit (count age p op x) s n o = atom-block (age-es n op x) ageNode o (emitP p o)
-  emit (lag p x q) s n o =
-      let o′ : ℕ = placeAfter o (emitP p o .es) in lag-block s n x o′ (emitP p o) (emitP q (afterRun o′))
-  emit (neg f) s n o = not-block o (emit f s n o)
-  emit (and f g) s n o = join-block and-es andNode o (emit f s n o) (emit g s n (placeAfter o (emit f s n o .es)))
-  emit (or f g) s n o = join-block or-es orNode o (emit f s n o) (emit g s n (placeAfter o (emit f s n o .es)))
-  emit (then l f) s n o =
-      let o′ : ℕ = placeAfter o (emit l s n o .es) in
-      then-block n o′ (emit l s n o) (emit f (secondStart o′) (secondNegated o′) (secondPlace o′))
+-- The equations of the tests of a proposition and of a formula, one for each place, in the text's order.
+abbrev pub testsP : Prop → List Equation
+testsP (constant c) = []
+testsP (signal j) = []
+testsP (velocity o n) = equation VELOCITY (opNumber o) n 0 ∷ []
+testsP (negP p) = testsP p
+testsP (andP p q) = testsP p ++ testsP q
+testsP (orP p q) = testsP p ++ testsP q
+
+abbrev pub testsOf : Formula → List Equation
+testsOf (test k p) = testsP p
+testsOf (len o n) = []
+testsOf (count k p o n) = testsP p
+testsOf (lag p n q) = testsP p ++ testsP q
+testsOf (neg f) = testsOf f
+testsOf (and f g) = testsOf f ++ testsOf g
+testsOf (or f g) = testsOf f ++ testsOf g
+testsOf (then f g) = testsOf f ++ testsOf g
+
+-- The place after the tests of a proposition and of a formula, where the first of them stands at place t.
+abbrev pub nextTestP : ℕ → Prop → ℕ
+nextTestP t p = placeAfter t (testsP p)
+
+abbrev pub nextTest : ℕ → Formula → ℕ
+nextTest t f = placeAfter t (testsOf f)
+
+-- ---- propositions and formulas
+
+-- The equations of a proposition and of a formula from place o on, where their tests stand from place t on. flowOf has
+-- the flow of each signal; s and n are the start flow of the formula's interval and its negation.
+module _ (flowOf : ℕ → ℕ) where
+  abbrev pub emitP : Prop → ℕ → ℕ → Block
+  emitP (constant c) t o = record { es = constant-es c o; out = ownFlow o (constantNode .result) }
+  emitP (signal j) t o = signal-block (flowOf j)
+  emitP (velocity op n) t o = velocity-block t
+  emitP (negP p) t o = not-block o (emitP p t o)
+  emitP (andP p q) t o =
+      join-block and-es andNode o (emitP p t o) (emitP q (nextTestP t p) (placeAfter o (emitP p t o .es)))
+  emitP (orP p q) t o =
+      join-block or-es orNode o (emitP p t o) (emitP q (nextTestP t p) (placeAfter o (emitP p t o .es)))
+
+  abbrev pub emit : Formula → ℕ → ℕ → ℕ → ℕ → Block
+  emit (test begin p) s n t o = atom-block (begin-es s n) beginNode o (emitP p t o)
+  emit (test end p) s n t o = end-block (emitP p t o)
+  emit (test point p) s n t o = atom-block (point-es s) pointNode o (emitP p t o)
+  emit (test held p) s n t o = atom-block (held-es s n) heldNode o (emitP p t o)
+  emit (test kept p) s n t o = atom-block (kept-es s) keptNode o (emitP p t o)
+  emit (len op x) s n t o = record { es = len-es n o op x; out = ownFlow o (lenNode .result) }
+  emit (count sum p op x) s n t o = atom-block (sum-es n op x) sumNode o (emitP p t o)
+  emit (count age p op x) s n t o = atom-block (age-es n op x) ageNode o (emitP p t o)
+  emit (lag p x q) s n t o =
+      let o′ : ℕ = placeAfter o (emitP p t o .es) in
+      lag-block s n x o′ (emitP p t o) (emitP q (nextTestP t p) (afterRun o′))
+  emit (neg f) s n t o = not-block o (emit f s n t o)
+  emit (and f g) s n t o =
+      join-block and-es andNode o (emit f s n t o) (emit g s n (nextTest t f) (placeAfter o (emit f s n t o .es)))
+  emit (or f g) s n t o =
+      join-block or-es orNode o (emit f s n t o) (emit g s n (nextTest t f) (placeAfter o (emit f s n t o .es)))
+  emit (then l f) s n t o =
+      let o′ : ℕ = placeAfter o (emit l s n t o .es) in
+      then-block n o′ (emit l s n t o)
+      (emit f (secondStart o′) (secondNegated o′) (nextTest t l) (secondPlace o′))
 
 -- ---- the named signals
 
@@ -231,6 +303,7 @@ module _ (flowOf : ℕ → ℕ) where
 abbrev pub namedByP : Prop → ℕ → Bool
 namedByP (constant c) j = false
 namedByP (signal i) j = eqb i j
+namedByP (velocity o n) j = false
 namedByP (negP p) j = namedByP p j
 namedByP (andP p q) j = namedByP p j || namedByP q j
 namedByP (orP p q) j = namedByP p j || namedByP q j
@@ -279,16 +352,22 @@ header named = start-es ++ signals-es named 0 signalCount
 abbrev pub flowIn : (ℕ → Bool) → ℕ → ℕ
 flowIn named j = numberAt (places named 0 headerCount signalCount) j
 
+-- After these the tests: the place of the first of them, and the place after them, where the table's head ends.
+abbrev pub testPlace : Formula → ℕ
+testPlace f = placeAfter 0 (header (namedBy f))
+
+abbrev pub headPlace : Formula → ℕ
+headPlace f = nextTest (testPlace f) f
+
 -- ---- the observer
 
 abbrev pub body : Formula → Block
-body f = emit (flowIn (namedBy f)) f startFlow negatedFlow (placeAfter 0 (header (namedBy f)))
+body f = emit (flowIn (namedBy f)) f startFlow negatedFlow (testPlace f) (headPlace f)
 
 abbrev pub observer : Formula → List Equation
 observer f =
     header (namedBy f)
-    ++ (body f .es
-    ++ whole-es startFlow (placeAfter (placeAfter 0 (header (namedBy f))) (body f .es)) (body f .out))
+    ++ (testsOf f ++ (body f .es ++ whole-es startFlow (placeAfter (headPlace f) (body f .es)) (body f .out)))
 
 -- The numbers of equations, four each.
 abbrev pub numbersOf : List Equation → List ℕ

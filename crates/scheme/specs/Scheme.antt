@@ -20,10 +20,10 @@ o ⊕ suc k = suc (o ⊕ k)
 -- ---- rows
 
 -- What a number of a row stands for: 0; the negated start flow, and the start flow; the flow of the last operand, and
--- of the one before it; the flow of the signal that the record names; the record's first and last number; the node's
--- own flows.
+-- of the one before it; the flow of the signal that the record names; the flow of the next test in the table's head;
+-- the record's first and last number; the node's own flows.
 pub data Name : Type 0 where
-  Nought Negated Start Last Previous Signal A C First Second Third Fourth Fifth : Name
+  Nought Negated Start Last Previous Signal Tested A C First Second Third Fourth Fifth : Name
 
 -- The kind of a row's equation: always that one, or the comparison that the record asks for.
 pub data RowKind : Type 0 where
@@ -123,16 +123,18 @@ widest = 5
 
 -- ---- nodes
 
--- A node: its rows, how many operands it takes off the stack, which value it leaves there, and which value is the
--- negated start flow from here on.
+-- A node: its rows, how many operands it takes off the stack, how many tests of the table's head are its own, which
+-- value it leaves on the stack, and which value is the negated start flow from here on.
 pub record Node : Type 0 where
   pub rows : List Row
   pub takes : ℕ
+  pub tests : ℕ
   pub result : Name
   pub negated : Name
 
 abbrev pub node : List Row → ℕ → Name → Name → Node
-node rows takes result negated = record { rows = rows; takes = takes; result = result; negated = negated }
+node rows takes result negated =
+    record { rows = rows; takes = takes; tests = 0; result = result; negated = negated }
 
 abbrev pub constantNode : Node
 constantNode = node constantRows 0 First Negated
@@ -192,6 +194,10 @@ leadEndNode = node leadEndRows 1 Negated Fifth
 abbrev pub thenNode : Node
 thenNode = node thenRows 2 Fourth Previous
 
+-- The equation of a velocity test stands in the table's head.
+abbrev pub velocityNode : Node
+velocityNode = record { rows = []; takes = 0; tests = 1; result = Tested; negated = Negated }
+
 abbrev pub wholeNode : Node
 wholeNode = node wholeRows 1 Third Negated
 
@@ -200,7 +206,8 @@ abbrev pub nodeList : List Node
 nodeList =
     constantNode ∷ signalNode ∷ notNode ∷ andNode ∷ orNode
     ∷ beginNode ∷ endNode ∷ pointNode ∷ heldNode ∷ keptNode
-    ∷ lenNode ∷ sumNode ∷ ageNode ∷ runNode ∷ fineNode ∷ alwaysNode ∷ leadEndNode ∷ thenNode ∷ wholeNode ∷ []
+    ∷ lenNode ∷ sumNode ∷ ageNode ∷ runNode ∷ fineNode ∷ alwaysNode ∷ leadEndNode ∷ thenNode ∷ velocityNode
+    ∷ wholeNode ∷ []
 
 abbrev pub nodeCount : ℕ
 nodeCount = suc WHOLE
@@ -222,6 +229,7 @@ pub record Values : Type 0 where
   pub last : ℕ
   pub previous : ℕ
   pub signal : ℕ
+  pub tested : ℕ
   pub a : ℕ
   pub comparison : ℕ
   pub c : ℕ
@@ -233,6 +241,7 @@ valueNamed v Start = v .start
 valueNamed v Last = v .last
 valueNamed v Previous = v .previous
 valueNamed v Signal = v .signal
+valueNamed v Tested = v .tested
 valueNamed v A = v .a
 valueNamed v C = v .c
 valueNamed v First = v .place

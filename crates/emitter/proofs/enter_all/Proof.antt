@@ -11,11 +11,11 @@ use Rattle.emitter.proofs.enter_all.Statement.{statement}
 use Rattle.emitter.proofs.enter_all.Tie as tie
 
 abbrev Inv-loop : tie.InvT-loop
-Inv-loop arena places table₀ next nodes stack₀ m₀ i₀ table stack m i =
-    Entering arena places table₀ next table stack m i
+Inv-loop arena places table₀ tests next nodes stack₀ m₀ i₀ table stack m i =
+    Entering arena places table₀ tests next table stack m i
 
 abbrev μ-loop : tie.MeasureT-loop
-μ-loop arena places table₀ next nodes stack₀ m₀ i₀ table stack m i = length arena - i
+μ-loop arena places table₀ tests next nodes stack₀ m₀ i₀ table stack m i = length arena - i
 
 -- The places: a record is entered; its place is known; it is read; the turn begins.
 abbrev entered : tie.After-stack2 Inv-loop μ-loop → tie.After-enter Inv-loop μ-loop
@@ -38,7 +38,7 @@ enter-requires : tie.Need-enter-requires Inv-loop μ-loop
 enter-requires c κs =
     let place = placed c in
     let nodes = read place .before .before .all-nodes in (
-      record { near = omega arith; low = omega arith },
+      record { near = omega arith; tested = omega arith; low = omega arith },
       node-found _ (read place .record-from .result .kind) (place .place-of .result) _ (nodes .ensures)
           (place .place-of .ensures),
     )
