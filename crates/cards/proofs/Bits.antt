@@ -6,14 +6,15 @@ use mathlib.Core.List.{List, [], _∷_}
 use Prim.Native.Nat.{ℕ, zero, suc, _+_, _-_, _*_, _/_, _%_, _^_, _≤_, _<_}
 use native.Mathlib.Omega.{arith}
 use lib.Dec.{ltb, eqb}
-use lib.ListN.{length, getD, drop, length-drop}
+use lib.ListN.{length, getD, take, drop, length-drop}
 use lib.Pow.{high, shr-shr}
-use lib.Seq.{getD-drop}
+use lib.Seq.{getD-drop, getD-take}
 use borrow.Author.Tests.{eqb-true, ltb-true, ltb-false}
 use Rattle.traces.specs.Trace.{bit}
-use Rattle.cards.specs.Ticks.{hexOf, hexes, tickLine}
-use Rattle.cards.specs.declared.TickLine.the-variants.{Is, Broken}
-use Rattle.cards.proofs.Hex.{passed, not-failed}
+use Rattle.cards.specs.Ticks.{hexOf, hexes, plainTick, tickLine}
+use Rattle.cards.specs.declared.TickLine.the-variants.{Is}
+use Rattle.cards.proofs.Hex.{passed, not-failed, broken-is}
+use Rattle.cards.proofs.Ticks.{ticked}
 
 -- One more digit is the four lowest bits, and moves the others up by four.
 bit-low : (x d b : ℕ) → b < 4 → bit (x * 16 + d) b ≡ bit d b
@@ -55,30 +56,27 @@ module _ (c : ℕ) (l : List ℕ) (x y : ℕ) (small : hexOf c ≤ 15) (h : Digi
             ap (bit y) z ∙ h .above (4 + k) ∙ bit-high x (hexOf c) k small;
       }
 
--- A broken line is no tick.
-broken-is : {s y : ℕ} → Broken ≡ Is s y → ⊥
-broken-is e = let z : _≡_ {A = ℕ} 0 1 = cc in omega arith
-
-split : (c : ℕ) (l : List ℕ) (s x s' y : ℕ) (t : Bool) → ltb 15 (hexOf c) ≡ t
-    → ((z : ℕ) → hexes s z l ≡ Is s' y → Digits l z y) → hexes s x (c ∷ l) ≡ Is s' y → Digits (c ∷ l) x y
+split : (c : ℕ) (l : List ℕ) (s x s' y v : ℕ) (t : Bool) → ltb 15 (hexOf c) ≡ t
+    → ((z : ℕ) → hexes s z l ≡ Is s' y v → Digits l z y) → hexes s x (c ∷ l) ≡ Is s' y v → Digits (c ∷ l) x y
 unfolding hexes
-split c l s x s' y true e ih h = absurd (broken-is (rw e at h))
-split c l s x s' y false e ih h = more c l x y (ltb-false _ _ e) (ih (x * 16 + hexOf c) (rw e at h))
+split c l s x s' y v true e ih h = absurd (broken-is (rw e at h))
+split c l s x s' y v false e ih h = more c l x y (ltb-false _ _ e) (ih (x * 16 + hexOf c) (rw e at h))
 
-made : (l : List ℕ) (s x s' y : ℕ) → hexes s x l ≡ Is s' y → Digits l x y
+made : (l : List ℕ) (s x s' y v : ℕ) → hexes s x l ≡ Is s' y v → Digits l x y
 unfolding hexes
-made [] s x s' y e =
+made [] s x s' y v e =
     let z : x ≡ y = cc in
     record {
       inside = λ i b p q. absurd (omega arith);
       above = λ k. let w : 0 + k ≡ k = omega arith in rw w (ap (λ (n : ℕ). bit n k) (sym z));
     }
-made (c ∷ l) s x s' y e = split c l s x s' y (ltb 15 (hexOf c)) refl (λ z. made l s z s' y) e
+made (c ∷ l) s x s' y v e = split c l s x s' y v (ltb 15 (hexOf c)) refl (λ z. made l s z s' y v) e
 
-pub signal-bits : (l : List ℕ) (s x : ℕ) → tickLine l ≡ Is s x → (i b : ℕ) → i < 16 → b < 4
+-- In a line with no velocity, and in the tick line of any edition.
+plain-bits : (l : List ℕ) (s x v : ℕ) → plainTick l ≡ Is s x v → (i b : ℕ) → i < 16 → b < 4
     → bit x (4 * i + b) ≡ bit (hexOf (getD l (19 - i) 0)) b
-unfolding tickLine
-signal-bits l s x e i b p q =
+unfolding plainTick
+plain-bits l s x v e i b p q =
     let size = passed (eqb (length l) 20) e in
     let t = passed (eqb (getD l 0 0) 116) (size .1) in
     let equals = passed (eqb (getD l 1 0) 61) (t .1) in
@@ -86,8 +84,14 @@ signal-bits l s x e i b p q =
     let start = not-failed (ltb 49 (getD l 2 0)) (not-failed (ltb (getD l 2 0) 48) (comma .1) .1) in
     let twenty : length l ≡ 20 = eqb-true _ _ (size .0) in
     let sixteen : length (drop 4 l) ≡ 16 = omega (arith, length-drop 4 l) in
-    let digits = made (drop 4 l) (getD l 2 0 - 48) 0 s x (start .1) in
+    let digits = made (drop 4 l) (getD l 2 0 - 48) 0 s x v (start .1) in
     let z : 4 + (length (drop 4 l) - 1 - i) ≡ 19 - i = omega arith in
     digits .inside i b (omega arith) q
     ∙ ap (λ (c : ℕ). bit (hexOf c) b)
     (getD-drop 4 l (length (drop 4 l) - 1 - i) 0 ∙ ap (λ (n : ℕ). getD l n 0) z)
+
+pub signal-bits : (velocities e : ℕ) (l : List ℕ) (s x v : ℕ) → tickLine velocities e l ≡ Is s x v
+    → (i b : ℕ) → i < 16 → b < 4 → bit x (4 * i + b) ≡ bit (hexOf (getD l (19 - i) 0)) b
+signal-bits velocities e l s x v h i b p q =
+    plain-bits (take 20 l) s x 0 (ticked velocities e l h .front) i b p q
+    ∙ ap (λ (c : ℕ). bit (hexOf c) b) (getD-take 20 l (19 - i) 0 (omega arith))

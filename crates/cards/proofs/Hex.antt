@@ -13,7 +13,7 @@ use lib.Seq.{drop-cons}
 use borrow.Author.Tests.{eq-eqb, lt-ltb, le-ltb, le-leb, lt-leb, eqb-true}
 use Rattle.lists.specs.Text.{byte}
 use Rattle.lists.specs.Decimal.{isDigit, digitValue}
-use Rattle.cards.specs.Ticks.{hexOf, hexes, tickLength, tickLine}
+use Rattle.cards.specs.Ticks.{hexOf, hexes, tickLength, plainTick}
 use Rattle.cards.specs.declared.TickLine.{TickLine}
 use Rattle.cards.specs.declared.TickLine.the-variants.{Is, Broken}
 
@@ -28,7 +28,7 @@ module _ (s : List ℕ) (i start x : ℕ) where
   unfolding hexes
   hexes-more h e = rw (drop-cons s i 0, le-ltb _ _ e, add-one i)
 
-  pub hexes-end : length s ≤ i → hexes start x (drop i s) ≡ Is start x
+  pub hexes-end : length s ≤ i → hexes start x (drop i s) ≡ Is start x 0
   unfolding hexes
   hexes-end h = rw (drop-of-length-le s h)
 
@@ -72,45 +72,51 @@ module _ (b : ℕ) where
       (rw (le-leb (byte "a") b h, le-leb b (byte "f") k) (omega arith))
 
 -- A line that is not broken passes each of its tests.
-module _ {start signals : ℕ} where
-  pub passed : (t : Bool) {a : TickLine} → cond t a Broken ≡ Is start signals → (t ≡ true) × (a ≡ Is start signals)
+module _ {start signals velocity : ℕ} where
+  pub passed : (t : Bool) {a : TickLine} → cond t a Broken ≡ Is start signals velocity
+      → (t ≡ true) × (a ≡ Is start signals velocity)
   passed true e = (refl, e)
   passed false e = (cc, cc)
 
-  pub not-failed : (t : Bool) {a : TickLine} → cond t Broken a ≡ Is start signals
-      → (t ≡ false) × (a ≡ Is start signals)
+  pub not-failed : (t : Bool) {a : TickLine} → cond t Broken a ≡ Is start signals velocity
+      → (t ≡ false) × (a ≡ Is start signals velocity)
   not-failed true e = (cc, cc)
   not-failed false e = (refl, e)
 
-pub tick-length : (l : List ℕ) (start signals : ℕ) → tickLine l ≡ Is start signals → length l ≡ tickLength
-unfolding tickLine
-tick-length l start signals e = eqb-true _ _ (passed (eqb (length l) tickLength) e .0)
+-- A broken line is no tick.
+pub broken-is : {start signals velocity : ℕ} → Broken ≡ Is start signals velocity → ⊥
+broken-is e = let z : _≡_ {A = ℕ} 0 1 = cc in omega arith
+
+pub plain-length : (l : List ℕ) {start signals velocity : ℕ} → plainTick l ≡ Is start signals velocity
+    → length l ≡ tickLength
+unfolding plainTick
+plain-length l e = eqb-true _ _ (passed (eqb (length l) tickLength) e .0)
 
 -- A line that is well made up to its digits.
 pub tick-digits : (s : List ℕ) → length s ≡ tickLength → getD s 0 0 ≡ byte "t" → getD s 1 0 ≡ byte "="
     → getD s 3 0 ≡ byte "," → byte "0" ≤ getD s 2 0 → getD s 2 0 ≤ byte "1"
-    → hexes (digitValue (getD s 2 0)) 0 (drop 4 s) ≡ tickLine s
-unfolding tickLine
+    → hexes (digitValue (getD s 2 0)) 0 (drop 4 s) ≡ plainTick s
+unfolding plainTick
 tick-digits s l a b c lo hi =
     rw (eq-eqb _ _ l, eq-eqb _ _ a, eq-eqb _ _ b, eq-eqb _ _ c, le-ltb _ _ lo, le-ltb _ _ hi)
 
--- The loop of `tick_line`: the digits from place i on, after those that made x, read as the line does.
+-- The loop of `plain_line`: the digits from place i on, after those that made x, read as the line does.
 pub record Hexing (s : List ℕ) (b x i : ℕ) : Type 0 where
-  pub rest : hexes (digitValue b) x (drop i s) ≡ tickLine s
+  pub rest : hexes (digitValue b) x (drop i s) ≡ plainTick s
   pub low : 4 ≤ i
   pub high : i ≤ tickLength
   pub whole : length s ≡ tickLength
   pub below : x < 16 ^ (i - 4)
 
 module _ {s : List ℕ} {b x i : ℕ} (k : Hexing s b x i) where
-  pub hexing-end : tickLength ≤ i → Is (digitValue b) x ≡ tickLine s
+  pub hexing-end : tickLength ≤ i → Is (digitValue b) x 0 ≡ plainTick s
   hexing-end h = sym (hexes-end s i (digitValue b) x (omega (arith, k .whole))) ∙ k .rest
 
   module _ (h : i < tickLength) {d : ℕ} (q : d ≡ hexOf (getD s i 0)) where
     there : i < length s
     there = omega (arith, k .whole)
 
-    pub hexing-bad : 15 < d → Broken ≡ tickLine s
+    pub hexing-bad : 15 < d → Broken ≡ plainTick s
     hexing-bad g = sym (hexes-bad s i (digitValue b) x there (rw (← q) g)) ∙ k .rest
 
     pub hexing-fits : d ≤ 15 → x * 16 + d < 18446744073709551616

@@ -104,16 +104,16 @@ module _ {w s : List ℕ} {k : ℕ} (m : Matching w s k) where
   match-more h g e = record { rest = sym (prefix-more w s k h g e) ∙ m .rest; within = omega arith }
 
 -- What the decimal reader answers.
-module _ {s : List ℕ} {at : ℕ} {r : Decimal} (h : DecimalAt s at lastLiteral r) where
-  pub number-is : {v n : ℕ} → r ≡ D.Is v n → ReadsAs (N.Is v n) s (number (drop at s))
+module _ {s : List ℕ} {at max : ℕ} {r : Decimal} (h : DecimalAt s at max r) where
+  pub number-is : {v n : ℕ} → r ≡ D.Is v n → ReadsAs (N.Is v n) s (number max (drop at s))
   unfolding number
   number-is e = record { means = sym (ap parsed (is-of h e)); within = is-next h e }
 
-  pub number-above : {n : ℕ} → r ≡ D.Above n → ReadsAs N.Broken s (number (drop at s))
+  pub number-above : {n : ℕ} → r ≡ D.Above n → ReadsAs N.Broken s (number max (drop at s))
   unfolding number
   number-above e = record { means = sym (ap parsed (above-of h e)); within = omega arith }
 
-  pub number-missing : r ≡ D.Missing → ReadsAs N.Broken s (number (drop at s))
+  pub number-missing : r ≡ D.Missing → ReadsAs N.Broken s (number max (drop at s))
   unfolding number
   number-missing e = record { means = sym (ap parsed (missing-of h e)); within = omega arith }
 
@@ -173,7 +173,7 @@ listing-begun s ps e h = record { rest = rw e; within = omega arith; eight = h }
 
 module _ {s ps : List ℕ} {at i : ℕ} (k : Listing s ps at i) {r : Number} where
   -- One of the first seven, before a comma.
-  module _ (h : i < lastParameter) (q : ReadsAs r s (beforeComma (number (drop at s)))) where
+  module _ (h : i < lastParameter) (q : ReadsAs r s (beforeComma (number lastLiteral (drop at s)))) where
     one-more : numbers (suc (lastParameter - (i + 1))) (take i ps) (drop at s) ≡ parametersOf s
     one-more = let z : lastParameter - i ≡ suc (lastParameter - (i + 1)) = omega arith in rw z at (k .rest)
 
@@ -193,8 +193,8 @@ module _ {s ps : List ℕ} {at i : ℕ} (k : Listing s ps at i) {r : Number} whe
         }
 
   -- The eighth: the line has to end.
-  module _ (h : lastParameter ≤ i) (q : ReadsAs r s (number (drop at s))) where
-    all-seven : atEnd (take lastParameter ps) (number (drop at s)) ≡ parametersOf s
+  module _ (h : lastParameter ≤ i) (q : ReadsAs r s (number lastLiteral (drop at s))) where
+    all-seven : atEnd (take lastParameter ps) (number lastLiteral (drop at s)) ≡ parametersOf s
     unfolding numbers
     all-seven = let z : i ≡ lastParameter = omega (arith, k .within) in rw z at (k .rest)
 

@@ -1,4 +1,5 @@
--- What is known of a line of numbers that was read: its numbers are at most 999,999, and it is short. Assumes nothing.
+-- What is known of numbers that were read: none is above the highest that is asked for, and where that is at most
+-- 999,999 a line of them is short. Assumes nothing.
 use mathlib.Core.Path.{_≡_, refl, subst}
 use mathlib.Core.Bool.{Bool, true, false, cond}
 use mathlib.Core.List.{List, [], _∷_, _++_}
@@ -26,32 +27,32 @@ use Rattle.cards.specs.declared.Count.the-variants as K
 abbrev pub Low : List ℕ → Type 0
 Low ps = (j : ℕ) → getD ps j 0 < literalCount
 
-append-low : (got : List ℕ) (v : ℕ) → Low got → v < literalCount → Low (got ++ (v ∷ []))
-append-low [] v h l zero = l
+append-low : (got : List ℕ) (v : ℕ) → Low got → v ≤ lastLiteral → Low (got ++ (v ∷ []))
+append-low [] v h l zero = omega arith
 append-low [] v h l (suc j) = omega arith
 append-low (x ∷ got) v h l zero = h 0
 append-low (x ∷ got) v h l (suc j) = append-low got v (λ i. h (suc i)) l j
 
--- A number that was read is at most 999,999.
-abbrev Small : Parsed → Type 0
-Small (done v r) = v < literalCount
-Small none = Unit {0}
+-- A number that was read is at most max.
+abbrev Small : ℕ → Parsed → Type 0
+Small max (done v r) = v ≤ max
+Small max none = Unit {0}
 
-parsed-small : (l : List ℕ) (n : Numeral) → numeral lastLiteral l ≡ n → Small (parsed n)
-parsed-small l (is v r) e = omega (arith, is-bounded lastLiteral l e)
-parsed-small l (above r) e = tt
-parsed-small l missing e = tt
+parsed-small : (max : ℕ) (l : List ℕ) (n : Numeral) → numeral max l ≡ n → Small max (parsed n)
+parsed-small max l (is v r) e = is-bounded max l e
+parsed-small max l (above r) e = tt
+parsed-small max l missing e = tt
 
-number-small : (l : List ℕ) → Small (number l)
+number-small : (max : ℕ) (l : List ℕ) → Small max (number max l)
 unfolding number
-number-small l = parsed-small l (numeral lastLiteral l) refl
+number-small max l = parsed-small max l (numeral max l) refl
 
 -- So all numbers of a list that was read are.
 abbrev AllLow : Listed → Type 0
 AllLow (are ps) = Low ps
 AllLow broken = Unit {0}
 
-end-low : (got : List ℕ) (p : Parsed) → Low got → Small p → AllLow (atEnd got p)
+end-low : (got : List ℕ) (p : Parsed) → Low got → Small lastLiteral p → AllLow (atEnd got p)
 unfolding atEnd
 end-low got none h s = tt
 end-low got (done v []) h s = append-low got v h s
@@ -61,22 +62,23 @@ if-low : (b : Bool) (x : Listed) → AllLow x → AllLow (cond b x broken)
 if-low true x h = h
 if-low false x h = tt
 
-comma-small : (p : Parsed) → Small p → Small (beforeComma p)
+comma-small : (max : ℕ) (p : Parsed) → Small max p → Small max (beforeComma p)
 unfolding beforeComma
-comma-small none h = tt
-comma-small (done v []) h = tt
-comma-small (done v (b ∷ l)) h = chosen Small (eqb b 44) (λ _. h) (λ _. tt)
+comma-small max none h = tt
+comma-small max (done v []) h = tt
+comma-small max (done v (b ∷ l)) h = chosen (Small max) (eqb b 44) (λ _. h) (λ _. tt)
 
-then-low : (p : Parsed) (k : ℕ → List ℕ → Listed) → Small p
-    → ((v : ℕ) (r : List ℕ) → v < literalCount → AllLow (k v r)) → AllLow (thenListed p k)
+then-low : (p : Parsed) (k : ℕ → List ℕ → Listed) → Small lastLiteral p
+    → ((v : ℕ) (r : List ℕ) → v ≤ lastLiteral → AllLow (k v r)) → AllLow (thenListed p k)
 then-low none k s h = tt
 then-low (done v l) k s h = h v l s
 
 numbers-low : (m : ℕ) (got l : List ℕ) → Low got → AllLow (numbers m got l)
 unfolding numbers
-numbers-low zero got l h = end-low got (number l) h (number-small l)
+numbers-low zero got l h = end-low got (number lastLiteral l) h (number-small lastLiteral l)
 numbers-low (suc m) got l h =
-    then-low (beforeComma (number l)) _ (comma-small (number l) (number-small l))
+    let first = number lastLiteral l in
+    then-low (beforeComma first) _ (comma-small lastLiteral first (number-small lastLiteral l))
     (λ v r s. numbers-low m (got ++ (v ∷ [])) r (append-low got v h s))
 
 pub parameters-low : (l ps : List ℕ) → parametersOf l ≡ are ps → Low ps
@@ -87,26 +89,27 @@ parameters-low l ps e =
     (if-low (hasPrefix parametersHead l) (numbers lastParameter [] rest)
     (numbers-low lastParameter [] rest (λ j. omega arith)))
 
--- So is a number of ticks.
-abbrev pub CountLow : Count → Type 0
-CountLow (K.Is k) = k < literalCount
-CountLow K.Broken = Unit {0}
+-- So is a number that ends a line, and a number of ticks.
+abbrev pub CountLow : ℕ → Count → Type 0
+CountLow max (K.Is k) = k ≤ max
+CountLow max K.Broken = Unit {0}
 
-wholly-low : (p : Parsed) → Small p → CountLow (wholly p)
+wholly-low : (max : ℕ) (p : Parsed) → Small max p → CountLow max (wholly p)
 unfolding wholly
-wholly-low none h = tt
-wholly-low (done v []) h = h
-wholly-low (done v (b ∷ l)) h = tt
+wholly-low max none h = tt
+wholly-low max (done v []) h = h
+wholly-low max (done v (b ∷ l)) h = tt
 
-if-count : (b : Bool) (x : Count) → CountLow x → CountLow (cond b x K.Broken)
-if-count true x h = h
-if-count false x h = tt
+pub last-low : (max : ℕ) (l : List ℕ) → CountLow max (wholly (number max l))
+last-low max l = wholly-low max (number max l) (number-small max l)
 
-pub count-low : (l : List ℕ) → CountLow (countOf l)
+if-count : (max : ℕ) (b : Bool) (x : Count) → CountLow max x → CountLow max (cond b x K.Broken)
+if-count max true x h = h
+if-count max false x h = tt
+
+pub count-low : (l : List ℕ) → CountLow lastLiteral (countOf l)
 unfolding countOf
-count-low l =
-    if-count (hasPrefix countHead l) (wholly (number (afterHead countHead l)))
-    (wholly-low (number (afterHead countHead l)) (number-small (afterHead countHead l)))
+count-low l = if-count lastLiteral (hasPrefix countHead l) _ (last-low lastLiteral (afterHead countHead l))
 
 -- ---- how long
 
@@ -143,46 +146,51 @@ least-step (suc (suc (suc (suc zero)))) = omega arith
 least-step (suc (suc (suc (suc (suc zero))))) = omega arith
 least-step (suc (suc (suc (suc (suc (suc k)))))) = omega arith
 
--- The digits end here: the number is read, or it is too large.
-settled-spends : (m v : ℕ) (l r : List ℕ) → length l ≤ m + length r → Spends m l (settled lastLiteral v r)
-settled-spends m v l r h = chosen (Spends m l) (leb v lastLiteral) (λ _. h) (λ _. tt)
+-- The highest number is at most 999,999.
+module _ (max : ℕ) (small : max ≤ lastLiteral) where
+  -- The digits end here: the number is read, or it is too large.
+  settled-spends : (m v : ℕ) (l r : List ℕ) → length l ≤ m + length r → Spends m l (settled max v r)
+  settled-spends m v l r h = chosen (Spends m l) (leb v max) (λ _. h) (λ _. tt)
 
-large-settled : (m v : ℕ) (l r : List ℕ) → literalCount ≤ v → Spends m l (settled lastLiteral v r)
-large-settled m v l r h =
-    chosen (Spends m l) (leb v lastLiteral)
-    (λ e. absurd (omega (arith, leb-true v lastLiteral e))) (λ _. tt)
+  large-settled : (m v : ℕ) (l r : List ℕ) → literalCount ≤ v → Spends m l (settled max v r)
+  large-settled m v l r h =
+      chosen (Spends m l) (leb v max) (λ e. absurd (omega (arith, leb-true v max e))) (λ _. tt)
 
--- A number that is too large is none, whatever digits follow.
-large-spends : (r : List ℕ) (m v : ℕ) (l : List ℕ) → literalCount ≤ v → Spends m l (digitsAfter lastLiteral v r)
-unfolding digitsAfter
-large-spends [] m v l h = large-settled m v l [] h
-large-spends (b ∷ r) m v l h =
-    chosen (Spends m l) (isDigit b) (λ _. large-spends r m (v * 10 + (b - 48)) l (omega arith))
-    (λ _. large-settled m v l (b ∷ r) h)
+  -- A number that is too large is none, whatever digits follow.
+  large-spends : (r : List ℕ) (m v : ℕ) (l : List ℕ) → literalCount ≤ v → Spends m l (digitsAfter max v r)
+  unfolding digitsAfter
+  large-spends [] m v l h = large-settled m v l [] h
+  large-spends (b ∷ r) m v l h =
+      chosen (Spends m l) (isDigit b) (λ _. large-spends r m (v * 10 + (b - 48)) l (omega arith))
+      (λ _. large-settled m v l (b ∷ r) h)
 
-digit-spends : (k b v : ℕ) (l : List ℕ) → least k ≤ v
-    → ((m : ℕ) → least m ≤ v * 10 + (b - 48) → Spends m l (digitsAfter lastLiteral (v * 10 + (b - 48)) l))
-    → Spends k (b ∷ l) (digitsAfter lastLiteral (v * 10 + (b - 48)) l)
-digit-spends zero b v l h ih = large-spends l zero (v * 10 + (b - 48)) (b ∷ l) (omega arith)
-digit-spends (suc k) b v l h ih =
-    one-more k b l (digitsAfter lastLiteral (v * 10 + (b - 48)) l) (ih k (omega (arith, h, least-step k)))
+  digit-spends : (k b v : ℕ) (l : List ℕ) → least k ≤ v
+      → ((m : ℕ) → least m ≤ v * 10 + (b - 48) → Spends m l (digitsAfter max (v * 10 + (b - 48)) l))
+      → Spends k (b ∷ l) (digitsAfter max (v * 10 + (b - 48)) l)
+  digit-spends zero b v l h ih = large-spends l zero (v * 10 + (b - 48)) (b ∷ l) (omega arith)
+  digit-spends (suc k) b v l h ih =
+      one-more k b l (digitsAfter max (v * 10 + (b - 48)) l) (ih k (omega (arith, h, least-step k)))
 
-digits-spend : (l : List ℕ) (k v : ℕ) → least k ≤ v → Spends k l (digitsAfter lastLiteral v l)
-unfolding digitsAfter
-digits-spend [] k v h = settled-spends k v [] [] (omega arith)
-digits-spend (b ∷ l) k v h =
-    chosen (Spends k (b ∷ l)) (isDigit b)
-    (λ _. digit-spends k b v l h (λ m g. digits-spend l m (v * 10 + (b - 48)) g))
-    (λ _. settled-spends k v (b ∷ l) (b ∷ l) (omega arith))
+  digits-spend : (l : List ℕ) (k v : ℕ) → least k ≤ v → Spends k l (digitsAfter max v l)
+  unfolding digitsAfter
+  digits-spend [] k v h = settled-spends k v [] [] (omega arith)
+  digits-spend (b ∷ l) k v h =
+      chosen (Spends k (b ∷ l)) (isDigit b)
+      (λ _. digit-spends k b v l h (λ m g. digits-spend l m (v * 10 + (b - 48)) g))
+      (λ _. settled-spends k v (b ∷ l) (b ∷ l) (omega arith))
 
-number-takes : (l : List ℕ) → Takes 7 l (number l)
-unfolding number numeral
-number-takes [] = tt
-number-takes (b ∷ l) =
-    chosen (Spends 7 (b ∷ l)) (eqb b 48) (λ _. omega arith)
-    (λ z. chosen (Spends 7 (b ∷ l)) (isDigit b)
-    (λ d. one-more 6 b l (digitsAfter lastLiteral (b - 48) l)
-    (digits-spend l 6 (b - 48) (omega (arith, eqb-false b 48 z, digit-range b d)))) (λ _. tt))
+  number-takes : (l : List ℕ) → Takes 7 l (number max l)
+  unfolding number numeral
+  number-takes [] = tt
+  number-takes (b ∷ l) =
+      chosen (Spends 7 (b ∷ l)) (eqb b 48) (λ _. omega arith)
+      (λ z. chosen (Spends 7 (b ∷ l)) (isDigit b)
+      (λ d. one-more 6 b l (digitsAfter max (b - 48) l)
+      (digits-spend l 6 (b - 48) (omega (arith, eqb-false b 48 z, digit-range b d)))) (λ _. tt))
+
+-- A number of SPEC 10.3 or SPEC 10.5.
+literal-takes : (l : List ℕ) → Takes 7 l (number lastLiteral l)
+literal-takes l = number-takes lastLiteral (omega arith) l
 
 -- A list of numbers that was read has at most m bytes.
 abbrev Spans : ℕ → List ℕ → Listed → Type 0
@@ -216,9 +224,10 @@ span (suc m) = 8 + span m
 
 numbers-span : (m : ℕ) (got l : List ℕ) → Spans (span m) l (numbers m got l)
 unfolding numbers
-numbers-span zero got l = end-spans got l (number l) (number-takes l)
+numbers-span zero got l = end-spans got l (number lastLiteral l) (literal-takes l)
 numbers-span (suc m) got l =
-    then-spans 8 (span m) l (beforeComma (number l)) _ (comma-takes l (number l) (number-takes l))
+    let first = number lastLiteral l in
+    then-spans 8 (span m) l (beforeComma first) _ (comma-takes l first (literal-takes l))
     (λ v r. numbers-span m (got ++ (v ∷ [])) r)
 
 if-spans : (m : ℕ) (l : List ℕ) (b : Bool) (x : Listed) → Spans m l x → Spans m l (cond b x broken)
@@ -246,6 +255,10 @@ wholly-counts l none h = tt
 wholly-counts l (done v []) h = omega arith
 wholly-counts l (done v (b ∷ r)) h = tt
 
+-- A number that ends a line, up to at most 999,999, has at most seven bytes.
+pub last-short : (max : ℕ) → max ≤ lastLiteral → (l : List ℕ) (k : ℕ) → wholly (number max l) ≡ K.Is k → length l ≤ 7
+last-short max h l k e = subst (Counts 7 l) e (wholly-counts l (number max l) (number-takes max h l))
+
 if-counts : (m : ℕ) (l : List ℕ) (b : Bool) (x : Count) → Counts m l x → Counts m l (cond b x K.Broken)
 if-counts m l true x h = h
 if-counts m l false x h = tt
@@ -256,6 +269,6 @@ count-short l k e =
     let rest = afterHead countHead l in
     let most : length rest ≤ 7 =
     subst (Counts 7 rest) e
-    (if-counts 7 rest (hasPrefix countHead l) (wholly (number rest))
-    (wholly-counts rest (number rest) (number-takes rest))) in
+    (if-counts 7 rest (hasPrefix countHead l) (wholly (number lastLiteral rest))
+    (wholly-counts rest (number lastLiteral rest) (literal-takes rest))) in
     omega (arith, most, length-drop (length countHead) l)

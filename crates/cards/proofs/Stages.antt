@@ -8,15 +8,16 @@ use native.Mathlib.Omega.{arith}
 use lib.Dec.{eqb}
 use lib.ListN.{length}
 use borrow.Author.Tests.{eqb-false, ne-eqb, le-leb, leb-false}
-use Rattle.limits.specs.Limits.{literalCount, lineLimit}
-use Rattle.cards.specs.Heads.{ruleHead, afterHead}
+use Rattle.lists.proofs.Choice.{chosen}
+use Rattle.limits.specs.Limits.{literalCount, lastLiteral, lineLimit}
+use Rattle.cards.specs.Heads.{noEdition, ruleHead, afterHead}
 use Rattle.cards.specs.Numbers.{hasPrefix, Listed, parametersOf, countOf}
 use Rattle.cards.specs.Numbers.Listed.{are, broken}
-use Rattle.cards.specs.Ticks.{tickLine}
+use Rattle.cards.specs.Ticks.{tickLength, tickLine}
 use Rattle.cards.specs.Lines.{overLong}
 use Rattle.cards.specs.Heads.{headRefusal, tickRefusal}
-use Rattle.cards.specs.Says.{Says, stageAt, isOver, brokenBy, editionOf, parametersSay, countSays, tickSays}
-use Rattle.cards.specs.Says.{saysIn, lineSays, stageAfter, endIn, endSays}
+use Rattle.cards.specs.Says.{Says, stageAt, isOver, brokenBy, editionOf, editionSays, parametersSay, countSays}
+use Rattle.cards.specs.Says.{tickSays, saysIn, lineSays, stageAfter, endIn, endSays}
 use Rattle.cards.specs.Says.Says.{edition, parameters, rule, count, tick, refused, nothing}
 use Rattle.cards.specs.declared.Phase.{Phase}
 use Rattle.cards.specs.declared.Phase.the-variants as P
@@ -26,18 +27,18 @@ use Rattle.cards.specs.declared.Count.the-variants as K
 use Rattle.cards.specs.declared.TickLine.{TickLine}
 use Rattle.cards.specs.declared.TickLine.the-variants as T
 use Rattle.cards.proofs.Numbers.{prefix-long}
-use Rattle.cards.proofs.Hex.{tick-length}
 use Rattle.cards.proofs.Sized.{CountLow, count-low}
+use Rattle.cards.proofs.Ticks.{ticked, ticked-long}
 
 -- ---- in which stage a line says what it says
 
 -- A line of n bytes says so in phase p, where so many ticks are left.
 abbrev pub Follows : Phase → ℕ → ℕ → Says → Type 0
-Follows p left n edition = p ≡ P.Edition
+Follows p left n (edition e) = p ≡ P.Edition
 Follows p left n (parameters ps) = p ≡ P.Parameters
 Follows p left n (rule text) = (p ≡ P.Rule) × (length ruleHead ≤ n)
 Follows p left n (count k) = (p ≡ P.Count) × (k < literalCount)
-Follows p left n (tick start signals) = (p ≡ P.Ticks) × (0 < left) × (n ≡ 20)
+Follows p left n (tick start signals velocity) = (p ≡ P.Ticks) × (0 < left) × (tickLength ≤ n)
 Follows p left n (refused r) = isOver p ≡ false
 Follows p left n nothing = p ≡ P.Over
 
@@ -49,9 +50,9 @@ broken-follows P.Count left n = refl
 broken-follows P.Ticks left n = refl
 broken-follows P.Over left n = refl
 
-edition-follows : (b : Bool) (left n : ℕ) → Follows P.Edition left n (cond b edition (refused headRefusal))
-edition-follows true left n = refl
-edition-follows false left n = refl
+edition-follows : (e left n : ℕ) → Follows P.Edition left n (editionSays e)
+edition-follows e left n =
+    chosen (Follows P.Edition left n) (eqb e noEdition) (λ _. refl) (λ _. refl)
 
 parameters-follow : (l : Listed) (left n : ℕ) → Follows P.Parameters left n (parametersSay l)
 parameters-follow (are ps) left n = refl
@@ -62,47 +63,49 @@ rule-follows : (l : List ℕ) (left : ℕ) (b : Bool) → hasPrefix ruleHead l �
 rule-follows l left true e = (refl, prefix-long ruleHead l e)
 rule-follows l left false e = refl
 
-count-follows : (k : Count) (left n : ℕ) → CountLow k → Follows P.Count left n (countSays k)
-count-follows (K.Is k) left n h = (refl, h)
+count-follows : (k : Count) (left n : ℕ) → CountLow lastLiteral k → Follows P.Count left n (countSays k)
+count-follows (K.Is k) left n h = (refl, omega arith)
 count-follows K.Broken left n h = refl
 
-tick-follows : (l : List ℕ) (left : ℕ) (k : TickLine) (b : Bool) → tickLine l ≡ k → eqb left 0 ≡ b
-    → Follows P.Ticks left (length l) (cond b (refused tickRefusal) (tickSays k))
-tick-follows l left k true e h = refl
-tick-follows l left (T.Is start signals) false e h =
-    (refl, omega (arith, eqb-false left 0 h), tick-length l start signals e)
-tick-follows l left T.Broken false e h = refl
+module _ (velocities : ℕ) where
+  tick-follows : (l : List ℕ) (e left : ℕ) (k : TickLine) (b : Bool) → tickLine velocities e l ≡ k → eqb left 0 ≡ b
+      → Follows P.Ticks left (length l) (cond b (refused tickRefusal) (tickSays k))
+  tick-follows l e left k true q h = refl
+  tick-follows l e left (T.Is start signals velocity) false q h =
+      (refl, omega (arith, eqb-false left 0 h), ticked-long (ticked velocities e l q))
+  tick-follows l e left T.Broken false q h = refl
 
-in-follows : (p : Phase) (left : ℕ) (l : List ℕ) → Follows p left (length l) (saysIn p left l)
-in-follows P.Edition left l = edition-follows (editionOf l) left (length l)
-in-follows P.Parameters left l = parameters-follow (parametersOf l) left (length l)
-in-follows P.Rule left l = rule-follows l left (hasPrefix ruleHead l) refl
-in-follows P.Count left l = count-follows (countOf l) left (length l) (count-low l)
-in-follows P.Ticks left l = tick-follows l left (tickLine l) (eqb left 0) refl refl
-in-follows P.Over left l = refl
+  in-follows : (p : Phase) (e left : ℕ) (l : List ℕ) → Follows p left (length l) (saysIn velocities p e left l)
+  in-follows P.Edition e left l = edition-follows (editionOf l) left (length l)
+  in-follows P.Parameters e left l = parameters-follow (parametersOf l) left (length l)
+  in-follows P.Rule e left l = rule-follows l left (hasPrefix ruleHead l) refl
+  in-follows P.Count e left l = count-follows (countOf l) left (length l) (count-low l)
+  in-follows P.Ticks e left l = tick-follows l e left (tickLine velocities e l) (eqb left 0) refl refl
+  in-follows P.Over e left l = refl
 
-says-split : (k : Stage) (l : List ℕ) (t : Bool) → overLong l ≡ t
-    → Follows (k .phase) (k .left) (length l) (lineSays k l)
-unfolding lineSays
-says-split k l true e = rw e (broken-follows (k .phase) (k .left) (length l))
-says-split k l false e = rw e (in-follows (k .phase) (k .left) l)
+  says-split : (k : Stage) (l : List ℕ) (t : Bool) → overLong l ≡ t
+      → Follows (k .phase) (k .left) (length l) (lineSays velocities k l)
+  unfolding lineSays
+  says-split k l true q = rw q (broken-follows (k .phase) (k .left) (length l))
+  says-split k l false q = rw q (in-follows (k .phase) (k .edition) (k .left) l)
 
-pub says-follows : (k : Stage) (l : List ℕ) → Follows (k .phase) (k .left) (length l) (lineSays k l)
-says-follows k l = says-split k l (overLong l) refl
+  pub says-follows : (k : Stage) (l : List ℕ) → Follows (k .phase) (k .left) (length l) (lineSays velocities k l)
+  says-follows k l = says-split k l (overLong l) refl
 
 -- ---- over-long lines, and a card that is over
 
-pub long-says : (k : Stage) (l : List ℕ) → lineLimit ≤ length l → lineSays k l ≡ brokenBy (k .phase)
-unfolding lineSays
-long-says k l h = rw (le-leb lineLimit (length l) h)
+module _ (velocities : ℕ) (k : Stage) (l : List ℕ) where
+  pub long-says : lineLimit ≤ length l → lineSays velocities k l ≡ brokenBy (k .phase)
+  unfolding lineSays
+  long-says h = rw (le-leb lineLimit (length l) h)
 
-over-split : (k : Stage) (l : List ℕ) (t : Bool) → overLong l ≡ t → k .phase ≡ P.Over → lineSays k l ≡ nothing
-unfolding lineSays
-over-split k l true h e = rw h (ap brokenBy e)
-over-split k l false h e = rw h (ap (λ (p : Phase). saysIn p (k .left) l) e)
+  over-split : (t : Bool) → overLong l ≡ t → k .phase ≡ P.Over → lineSays velocities k l ≡ nothing
+  unfolding lineSays
+  over-split true h e = rw h (ap brokenBy e)
+  over-split false h e = rw h (ap (λ (p : Phase). saysIn velocities p (k .edition) (k .left) l) e)
 
-pub over-says : (k : Stage) (l : List ℕ) → k .phase ≡ P.Over → lineSays k l ≡ nothing
-over-says k l e = over-split k l (overLong l) refl e
+  pub over-says : k .phase ≡ P.Over → lineSays velocities k l ≡ nothing
+  over-says e = over-split (overLong l) refl e
 
 pub is-over : (p : Phase) → isOver p ≡ true → p ≡ P.Over
 is-over P.Edition e = absurd (false≢true e)
@@ -142,9 +145,9 @@ rankIn P.Over left = 0
 unfoldable pub rank : Stage → ℕ
 rank k = rankIn (k .phase) (k .left)
 
-pub rank-first : (left : ℕ) → rank (stageAt P.Edition left) ≡ literalCount + 4
+pub rank-first : (e left : ℕ) → rank (stageAt P.Edition e left) ≡ literalCount + 4
 unfolding rank
-rank-first left = refl
+rank-first e left = refl
 
 -- Where the card is not over, a line more may come.
 in-positive : (p : Phase) (left : ℕ) → isOver p ≡ false → 0 < rankIn p left
@@ -160,40 +163,40 @@ unfolding rank
 rank-positive k e = in-positive (k .phase) (k .left) e
 
 -- A line leaves fewer, unless the card is over after it.
-fewer-in : (p : Phase) (left n : ℕ) (s : Says) → Follows p left n s
-    → isOver (stageAfter left s .phase) ≡ false → rank (stageAfter left s) + 1 ≤ rankIn p left
+fewer-in : (k : Stage) (n : ℕ) (s : Says) → Follows (k .phase) (k .left) n s
+    → isOver (stageAfter k s .phase) ≡ false → rank (stageAfter k s) + 1 ≤ rank k
 unfolding rank
-fewer-in p left n edition h o = rw h (omega arith)
-fewer-in p left n (parameters ps) h o = rw h (omega arith)
-fewer-in p left n (rule text) h o = rw (h .0) (omega arith)
-fewer-in p left n (count k) h o = rw (h .0) (omega (arith, h .1))
-fewer-in p left n (tick start signals) h o = rw (h .0) (omega (arith, h .1))
-fewer-in p left n (refused r) h o = absurd (false≢true (sym o))
-fewer-in p left n nothing h o = absurd (false≢true (sym o))
+fewer-in k n (edition e) h o = rw h (omega arith)
+fewer-in k n (parameters ps) h o = rw h (omega arith)
+fewer-in k n (rule text) h o = rw (h .0) (omega arith)
+fewer-in k n (count m) h o = rw (h .0) (omega (arith, h .1))
+fewer-in k n (tick start signals velocity) h o = rw (h .0) (omega (arith, h .1))
+fewer-in k n (refused r) h o = absurd (false≢true (sym o))
+fewer-in k n nothing h o = absurd (false≢true (sym o))
 
-long-over : (p : Phase) (left : ℕ) → isOver (stageAfter left (brokenBy p) .phase) ≡ true
-long-over P.Edition left = refl
-long-over P.Parameters left = refl
-long-over P.Rule left = refl
-long-over P.Count left = refl
-long-over P.Ticks left = refl
-long-over P.Over left = refl
+long-over : (k : Stage) (p : Phase) → isOver (stageAfter k (brokenBy p) .phase) ≡ true
+long-over k P.Edition = refl
+long-over k P.Parameters = refl
+long-over k P.Rule = refl
+long-over k P.Count = refl
+long-over k P.Ticks = refl
+long-over k P.Over = refl
 
 -- A line after which the card is not over is not over-long, and fewer lines may come after it.
-pub record Near (k : Stage) (l : List ℕ) : Type 0 where
+pub record Near (velocities : ℕ) (k : Stage) (l : List ℕ) : Type 0 where
   pub short : length l < lineLimit
-  pub fewer : rank (stageAfter (k .left) (lineSays k l)) + 1 ≤ rank k
+  pub fewer : rank (stageAfter k (lineSays velocities k l)) + 1 ≤ rank k
 
-near-split : (k : Stage) (l : List ℕ) (t : Bool) → overLong l ≡ t
-    → isOver (stageAfter (k .left) (lineSays k l) .phase) ≡ false → Near k l
-unfolding lineSays rank
-near-split k l true e o =
-    absurd (false≢true (sym (rw e at o) ∙ long-over (k .phase) (k .left)))
-near-split k l false e o =
-    record {
-      short = leb-false lineLimit (length l) e;
-      fewer = fewer-in (k .phase) (k .left) (length l) (lineSays k l) (says-follows k l) o;
-    }
+module _ (velocities : ℕ) (k : Stage) (l : List ℕ) where
+  near-split : (t : Bool) → overLong l ≡ t → isOver (stageAfter k (lineSays velocities k l) .phase) ≡ false
+      → Near velocities k l
+  unfolding lineSays
+  near-split true e o = absurd (false≢true (sym (rw e at o) ∙ long-over k (k .phase)))
+  near-split false e o =
+      record {
+        short = leb-false lineLimit (length l) e;
+        fewer = fewer-in k (length l) (lineSays velocities k l) (says-follows velocities k l) o;
+      }
 
-pub near : (k : Stage) (l : List ℕ) → isOver (stageAfter (k .left) (lineSays k l) .phase) ≡ false → Near k l
-near k l o = near-split k l (overLong l) refl o
+  pub near : isOver (stageAfter k (lineSays velocities k l) .phase) ≡ false → Near velocities k l
+  near o = near-split (overLong l) refl o

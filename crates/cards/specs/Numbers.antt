@@ -21,9 +21,9 @@ parsed (is v l) = done v l
 parsed (above l) = none
 parsed missing = none
 
--- A number of SPEC 10.3 or SPEC 10.5: at most 999,999, its digits by SPEC 2.8.
-unfoldable pub number : List ℕ → Parsed
-number l = parsed (numeral lastLiteral l)
+-- A number up to max, its digits by SPEC 2.8; in SPEC 10.3 and SPEC 10.5 it is at most 999,999.
+unfoldable pub number : ℕ → List ℕ → Parsed
+number max l = parsed (numeral max l)
 
 -- Whether the second text begins with the first.
 unfoldable pub hasPrefix : List ℕ → List ℕ → Bool
@@ -55,8 +55,8 @@ atEnd got (done v (b ∷ l)) = broken
 
 -- m numbers before commas and a last one, after those that were read.
 unfoldable pub numbers : ℕ → List ℕ → List ℕ → Listed
-numbers zero got l = atEnd got (number l)
-numbers (suc m) got l = thenListed (beforeComma (number l)) (λ v r. numbers m (got ++ (v ∷ [])) r)
+numbers zero got l = atEnd got (number lastLiteral l)
+numbers (suc m) got l = thenListed (beforeComma (number lastLiteral l)) (λ v r. numbers m (got ++ (v ∷ [])) r)
 
 -- The place of the last parameter.
 abbrev pub lastParameter : ℕ
@@ -74,4 +74,4 @@ wholly (done v (b ∷ l)) = K.Broken
 
 -- SPEC 10.5: how many ticks follow.
 unfoldable pub countOf : List ℕ → Count
-countOf l = cond (hasPrefix countHead l) (wholly (number (afterHead countHead l))) K.Broken
+countOf l = cond (hasPrefix countHead l) (wholly (number lastLiteral (afterHead countHead l))) K.Broken

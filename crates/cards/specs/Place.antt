@@ -3,18 +3,19 @@
 use mathlib.Core.Bool.{cond}
 use mathlib.Core.List.{List}
 use mathlib.Core.Path.{_≡_}
-use Prim.Native.Nat.{ℕ, _≤_}
-use lib.Dec.{leb, eqb}
-use lib.ListN.{length, take, drop}
-use Rattle.lists.specs.Text.{lineEnd}
-use Rattle.lists.specs.Number.{numberAt}
+use Prim.Native.Nat.{ℕ, _+_, _≤_}
+use lib.Dec.{ltb}
+use lib.ListN.{length, drop}
+use Rattle.lists.specs.Line.{line}
 use Rattle.cards.specs.Numbers.{Parsed}
 use Rattle.cards.specs.Numbers.Parsed.{done, none}
-use Rattle.cards.specs.Ticks.{tickLength, tickLine}
+use Rattle.cards.specs.Ticks.{tickLine}
 use Rattle.cards.specs.declared.decimals.Number.{Number}
 use Rattle.cards.specs.declared.decimals.Number.the-variants as N
 use Rattle.cards.specs.declared.TickLine.{TickLine}
-use Rattle.cards.specs.declared.TickLine.the-variants.{Broken}
+use Rattle.cards.specs.declared.TickLine.the-variants as T
+use Rattle.cards.specs.declared.TickFound.{TickFound}
+use Rattle.cards.specs.declared.TickFound.the-variants as F
 
 -- What the code's answer says: the number, and what stands from `next` on.
 abbrev pub readTo : Number → List ℕ → Parsed
@@ -31,7 +32,13 @@ pub record ReadsAs (r : Number) (s : List ℕ) (p : Parsed) : Type 0 where
   pub within : nextIn r (length s) ≤ length s
 
 -- The tick line at the front of these bytes, where it is there with its byte 10.
-unfoldable pub tickFirst : List ℕ → TickLine
-tickFirst s =
-    cond (leb (length s) tickLength) Broken
-    (cond (eqb (numberAt s tickLength) lineEnd) (tickLine (take tickLength s)) Broken)
+unfoldable pub tickFirst : ℕ → ℕ → List ℕ → TickLine
+tickFirst velocities e s = cond (ltb (length (line s)) (length s)) (tickLine velocities e (line s)) T.Broken
+
+-- The same as the code's answer, where the line stands at a place: its byte 10 is the last before `next`.
+abbrev pub foundAs : ℕ → TickLine → TickFound
+foundAs next (T.Is start signals velocity) = F.Is start signals velocity next
+foundAs next T.Broken = F.Broken
+
+abbrev pub tickAt : ℕ → ℕ → List ℕ → ℕ → TickFound
+tickAt velocities e s at = foundAs (at + length (line (drop at s)) + 1) (tickFirst velocities e (drop at s))

@@ -2,11 +2,11 @@
 -- input says (`endSays`): the card as lines, with no table, no state and no step. A rule's own refusal and a step's are
 -- the player's. Definitions only.
 use mathlib.Core.Bool.{Bool, true, false, cond}
-use mathlib.Core.List.{List}
+use mathlib.Core.List.{List, [], _∷_}
 use Prim.Native.Nat.{ℕ, _-_}
 use lib.Dec.{eqb}
 use Rattle.lists.specs.Same.{same}
-use Rattle.cards.specs.Heads.{editionLine, ruleHead, afterHead, headRefusal, tickRefusal}
+use Rattle.cards.specs.Heads.{editions, editionLine, noEdition, ruleHead, afterHead, headRefusal, tickRefusal}
 use Rattle.cards.specs.Numbers.{hasPrefix, Listed, parametersOf, countOf}
 use Rattle.cards.specs.Numbers.Listed.{are, broken}
 use Rattle.cards.specs.Ticks.{tickLine}
@@ -21,34 +21,37 @@ use Rattle.cards.specs.declared.Count.the-variants as K
 use Rattle.cards.specs.declared.TickLine.{TickLine}
 use Rattle.cards.specs.declared.TickLine.the-variants as T
 
--- What a line says: the edition is fine, the eight parameters, the rule text, the number of ticks, a tick's start and
--- signals, a refusal; nothing, once the card is over.
+-- What a line says: the edition, the eight parameters, the rule text, the number of ticks, a tick's start, signals and
+-- velocity, a refusal; nothing, once the card is over.
 pub data Says : Type 0 where
-  edition : Says
+  edition : ℕ → Says
   parameters : List ℕ → Says
   rule : List ℕ → Says
   count : ℕ → Says
-  tick : ℕ → ℕ → Says
+  tick : ℕ → ℕ → ℕ → Says
   refused : ℕ → Says
   nothing : Says
 
 -- What the code's answer says: the parameters stand beside it, and the rule text is the part after `watch=` of the
 -- line l.
 abbrev pub saysBy : Content → List ℕ → List ℕ → Says
-saysBy C.Edition ps l = edition
+saysBy (C.Edition e) ps l = edition e
 saysBy C.Parameters ps l = parameters ps
 saysBy C.Rule ps l = rule (afterHead ruleHead l)
 saysBy (C.Count k) ps l = count k
-saysBy (C.Tick start signals) ps l = tick start signals
+saysBy (C.Tick start signals velocity) ps l = tick start signals velocity
 saysBy (C.Refused r) ps l = refused r
 saysBy C.Nothing ps l = nothing
 
-abbrev pub stageAt : Phase → ℕ → Stage
-stageAt p left = record { phase = p; left = left }
+abbrev pub stageAt : Phase → ℕ → ℕ → Stage
+stageAt p e left = record { phase = p; edition = e; left = left }
 
--- Before the first line.
+-- Before the first line, and once the card is over.
 abbrev pub firstStage : Stage
-firstStage = stageAt P.Edition 0
+firstStage = stageAt P.Edition noEdition 0
+
+abbrev pub overStage : Stage
+overStage = stageAt P.Over noEdition 0
 
 abbrev pub isOver : Phase → Bool
 isOver P.Edition = false
@@ -67,9 +70,16 @@ brokenBy P.Count = refused headRefusal
 brokenBy P.Ticks = refused tickRefusal
 brokenBy P.Over = nothing
 
--- The first line (SPEC 10.2): these bytes and no other.
-abbrev pub editionOf : List ℕ → Bool
-editionOf l = same l editionLine
+-- The first line (SPEC 10.2): the one of these editions whose line it is, byte by byte, or none.
+abbrev pub editionIn : List ℕ → List ℕ → ℕ
+editionIn [] l = noEdition
+editionIn (e ∷ es) l = cond (same l (editionLine e)) e (editionIn es l)
+
+abbrev pub editionOf : List ℕ → ℕ
+editionOf l = editionIn editions l
+
+abbrev pub editionSays : ℕ → Says
+editionSays e = cond (eqb e noEdition) (refused headRefusal) (edition e)
 
 -- The second line (SPEC 10.3).
 abbrev pub parametersSay : Listed → Says
@@ -83,35 +93,39 @@ countSays K.Broken = refused headRefusal
 
 -- A tick line (SPEC 10.6),
 abbrev pub tickSays : TickLine → Says
-tickSays (T.Is start signals) = tick start signals
+tickSays (T.Is start signals velocity) = tick start signals velocity
 tickSays T.Broken = refused tickRefusal
 
 -- where so many ticks are left: with none left, any line is one too many (SPEC 10.8).
-abbrev pub tickIn : ℕ → List ℕ → Says
-tickIn left l = cond (eqb left 0) (refused tickRefusal) (tickSays (tickLine l))
+abbrev pub tickIn : ℕ → ℕ → ℕ → List ℕ → Says
+tickIn velocities e left l = cond (eqb left 0) (refused tickRefusal) (tickSays (tickLine velocities e l))
 
--- What a line says that is not too long, where so many ticks are left. The third has the rule's text (SPEC 10.4).
-abbrev pub saysIn : Phase → ℕ → List ℕ → Says
-saysIn P.Edition left l = cond (editionOf l) edition (refused headRefusal)
-saysIn P.Parameters left l = parametersSay (parametersOf l)
-saysIn P.Rule left l = cond (hasPrefix ruleHead l) (rule (afterHead ruleHead l)) (refused headRefusal)
-saysIn P.Count left l = countSays (countOf l)
-saysIn P.Ticks left l = tickIn left l
-saysIn P.Over left l = nothing
+-- What a line says that is not too long, in an edition and where so many ticks are left. The third has the rule's text
+-- (SPEC 10.4).
+abbrev pub saysIn : ℕ → Phase → ℕ → ℕ → List ℕ → Says
+saysIn velocities P.Edition e left l = editionSays (editionOf l)
+saysIn velocities P.Parameters e left l = parametersSay (parametersOf l)
+saysIn velocities P.Rule e left l =
+    cond (hasPrefix ruleHead l) (rule (afterHead ruleHead l)) (refused headRefusal)
+saysIn velocities P.Count e left l = countSays (countOf l)
+saysIn velocities P.Ticks e left l = tickIn velocities e left l
+saysIn velocities P.Over e left l = nothing
 
 -- SPEC 10.9, one line after another: what a line says, given without its byte 10.
-unfoldable pub lineSays : Stage → List ℕ → Says
-lineSays k l = cond (overLong l) (brokenBy (k .phase)) (saysIn (k .phase) (k .left) l)
+unfoldable pub lineSays : ℕ → Stage → List ℕ → Says
+lineSays velocities k l =
+    cond (overLong l) (brokenBy (k .phase)) (saysIn velocities (k .phase) (k .edition) (k .left) l)
 
--- The stage after a line, where so many ticks were left before it. After a refusal the card is over (SPEC 10.10).
-abbrev pub stageAfter : ℕ → Says → Stage
-stageAfter left edition = stageAt P.Parameters 0
-stageAfter left (parameters ps) = stageAt P.Rule 0
-stageAfter left (rule text) = stageAt P.Count 0
-stageAfter left (count k) = stageAt P.Ticks k
-stageAfter left (tick start signals) = stageAt P.Ticks (left - 1)
-stageAfter left (refused r) = stageAt P.Over 0
-stageAfter left nothing = stageAt P.Over 0
+-- The stage after a line: the edition goes on, and a tick is one less that is left. After a refusal the card is over
+-- (SPEC 10.10).
+abbrev pub stageAfter : Stage → Says → Stage
+stageAfter k (edition e) = stageAt P.Parameters e 0
+stageAfter k (parameters ps) = stageAt P.Rule (k .edition) 0
+stageAfter k (rule text) = stageAt P.Count (k .edition) 0
+stageAfter k (count m) = stageAt P.Ticks (k .edition) m
+stageAfter k (tick start signals velocity) = stageAt P.Ticks (k .edition) (k .left - 1)
+stageAfter k (refused r) = overStage
+stageAfter k nothing = overStage
 
 -- What the end of the input says, after so many bytes with no byte 10: a line fails (SPEC 10.7), unless every tick was
 -- read and nothing comes after the last (SPEC 10.8).

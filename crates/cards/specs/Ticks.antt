@@ -3,10 +3,15 @@ use mathlib.Core.Bool.{_&&_, cond}
 use mathlib.Core.List.{List, [], _∷_}
 use Prim.Native.Nat.{ℕ, _+_, _-_, _*_}
 use lib.Dec.{ltb, leb, eqb}
-use lib.ListN.{length, drop}
+use lib.ListN.{length, take, drop}
+use Rattle.limits.specs.Limits.{lastLiteral}
 use Rattle.lists.specs.Decimal.{isDigit, digitValue}
 use Rattle.lists.specs.Number.{numberAt}
 use Rattle.lists.specs.Text.{byte}
+use Rattle.cards.specs.Heads.{plainEdition}
+use Rattle.cards.specs.Numbers.{number, wholly}
+use Rattle.cards.specs.declared.Count.{Count}
+use Rattle.cards.specs.declared.Count.the-variants as K
 use Rattle.cards.specs.declared.TickLine.{TickLine}
 use Rattle.cards.specs.declared.TickLine.the-variants.{Is, Broken}
 
@@ -19,21 +24,42 @@ hexOf b =
 -- The digits that are left, x being the number so far: each digit is worth 16 times the one after it. So the last
 -- digit has the bits 0 to 3, and bit j of the number is bit j of the digits.
 unfoldable pub hexes : ℕ → ℕ → List ℕ → TickLine
-hexes start x [] = Is start x
+hexes start x [] = Is start x 0
 hexes start x (b ∷ l) = cond (ltb 15 (hexOf b)) Broken (hexes start (x * 16 + hexOf b) l)
 
 -- A start of 0 or 1, and the digits after the comma.
 abbrev pub started : ℕ → List ℕ → TickLine
 started b l = cond (ltb b (byte "0")) Broken (cond (ltb (byte "1") b) Broken (hexes (digitValue b) 0 l))
 
--- The bytes of a tick line, its byte 10 not counted.
+-- The bytes of a tick line with no velocity, its byte 10 not counted.
 abbrev pub tickLength : ℕ
 tickLength = 20
 
--- The line has so many bytes: `t=`, the start at place 2, a comma at place 3, 16 digits from place 4 on.
-unfoldable pub tickLine : List ℕ → TickLine
-tickLine l =
+-- Such a line has so many bytes: `t=`, the start at place 2, a comma at place 3, 16 digits from place 4 on. Its
+-- velocity is 0.
+unfoldable pub plainTick : List ℕ → TickLine
+plainTick l =
     cond (eqb (length l) tickLength)
     (cond (eqb (numberAt l 0) (byte "t"))
     (cond (eqb (numberAt l 1) (byte "="))
     (cond (eqb (numberAt l 3) (byte ",")) (started (numberAt l 2) (drop 4 l)) Broken) Broken) Broken) Broken
+
+-- A tick with this velocity, where it is below how many there are.
+abbrev pub struckBy : ℕ → TickLine → Count → TickLine
+struckBy velocities (Is start signals none) (K.Is velocity) =
+    cond (ltb velocity velocities) (Is start signals velocity) Broken
+struckBy velocities (Is start signals none) K.Broken = Broken
+struckBy velocities Broken k = Broken
+
+-- A line with a velocity: its first bytes, which say this tick, then a comma, and the velocity up to the line's end.
+abbrev pub struckAfter : ℕ → TickLine → List ℕ → TickLine
+struckAfter velocities front l =
+    cond (eqb (numberAt l tickLength) (byte ","))
+    (struckBy velocities front (wholly (number lastLiteral (drop (tickLength + 1) l)))) Broken
+
+unfoldable pub struckTick : ℕ → List ℕ → TickLine
+struckTick velocities l = struckAfter velocities (plainTick (take tickLength l)) l
+
+-- SPEC 10.6: the tick line of an edition.
+unfoldable pub tickLine : ℕ → ℕ → List ℕ → TickLine
+tickLine velocities edition l = cond (eqb edition plainEdition) (plainTick l) (struckTick velocities l)

@@ -28,11 +28,11 @@ pub fn has_prefix(s: &[u8], w: &[u8]) -> bool
     true
 }
 
-// The decimal number at a place, as SPEC 10.3 and SPEC 10.5 ask for it: at most 999,999, its digits by SPEC 2.8.
-pub fn decimal_at(s: &[u8], at: usize) -> Number
-    ensures { λ r. ⌜ ReadsAs r (now (s .entry)) (number (drop at (now (s .entry)))) ⌝ }
+// The decimal number at a place, up to a highest one, its digits by SPEC 2.8.
+pub fn decimal_at(s: &[u8], at: usize, max: u32) -> Number
+    ensures { λ r. ⌜ ReadsAs r (now (s .entry)) (number max (drop at (now (s .entry)))) ⌝ }
 {
-    match lists::read_decimal(s, at, limits::LAST_LITERAL) {
+    match lists::read_decimal(s, at, max) {
         Decimal::Is { value, next } => Number::Is { value, next },
         Decimal::Above { next } => Number::Broken,
         Decimal::Missing => Number::Broken,
@@ -40,10 +40,10 @@ pub fn decimal_at(s: &[u8], at: usize) -> Number
 }
 
 // The same before a comma; the place after it is the one after the comma.
-pub fn decimal_before_comma(s: &[u8], at: usize) -> Number
-    ensures { λ r. ⌜ ReadsAs r (now (s .entry)) (beforeComma (number (drop at (now (s .entry))))) ⌝ }
+pub fn decimal_before_comma(s: &[u8], at: usize, max: u32) -> Number
+    ensures { λ r. ⌜ ReadsAs r (now (s .entry)) (beforeComma (number max (drop at (now (s .entry))))) ⌝ }
 {
-    let Number::Is { value, next } = decimal_at(s, at) else {
+    let Number::Is { value, next } = decimal_at(s, at, max) else {
         return Number::Broken;
     };
     if s.len() <= next {

@@ -9,20 +9,29 @@ ghost use mathlib.Core.List.{List};
 ghost use Prim.Native.Nat.{ℕ};
 ghost use lib.ListN.{drop, replicate};
 ghost use Rattle.limits.specs.Limits.{parameterCount};
-ghost use Rattle.cards.specs.Numbers.{parametersOf, countOf};
-ghost use Rattle.cards.specs.Ticks.{hexOf, tickLine};
-ghost use Rattle.cards.specs.Place.{tickFirst};
-ghost use Rattle.cards.specs.Says.{editionOf, parametersSay, countSays, tickIn, saysBy, brokenBy, lineSays};
+ghost use Rattle.cards.specs.Numbers.{number, parametersOf, wholly, countOf};
+ghost use Rattle.cards.specs.Ticks.{hexOf, plainTick, struckAfter, tickLine};
+ghost use Rattle.cards.specs.Place.{tickAt};
+ghost use Rattle.cards.specs.Says.{editionOf, editionSays, parametersSay, countSays, tickIn, saysBy, brokenBy};
+ghost use Rattle.cards.specs.Says.{lineSays};
 ghost use Rattle.cards.specs.Says.{endSays, stageAt, stageAfter, firstStage, isOver};
 
 // The place of the last parameter.
 const LAST: usize = limits::PARAMETERS - 1;
 
-// The bytes of a tick line, its byte 10 not counted.
-pub const TICK_LINE: usize = 20;
+// The bytes of a tick line with no velocity, its byte 10 not counted.
+const TICK_LINE: usize = 20;
 
-// The first line of a card (SPEC 10.2), and how the next three begin (SPEC 10.3, SPEC 10.4, SPEC 10.5).
-const EDITION_LINE: [u8; 9] = *b"edition=1";
+// No edition is known: before the first line, and once the card is over.
+pub const NO_EDITION: u32 = 0;
+
+// The edition whose tick lines have no velocity (SPEC 10.6).
+const PLAIN_EDITION: u32 = 1;
+
+// The first line of each edition (SPEC 10.2), and how the next three begin (SPEC 10.3, SPEC 10.4, SPEC 10.5).
+const EDITION_1: [u8; 9] = *b"edition=1";
+
+const EDITION_2: [u8; 9] = *b"edition=2";
 
 const PARAMETERS_HEAD: [u8; 2] = *b"k=";
 
@@ -35,15 +44,21 @@ const HEAD_REFUSAL: u32 = 17;
 
 const TICK_REFUSAL: u32 = 18;
 
-// The number of ticks.
+// A number that a line ends with: how many ticks there are, or a velocity.
 pub enum Count {
     Is(u32),
     Broken,
 }
 
-// A tick's start and signals.
+// A tick's start, signals and velocity.
 pub enum TickLine {
-    Is { start: u32, signals: u64 },
+    Is(u32, u64, u32),
+    Broken,
+}
+
+// The same of a tick line at a place, and the place after its byte 10.
+pub enum TickFound {
+    Is(u32, u64, u32, usize),
     Broken,
 }
 
@@ -57,19 +72,21 @@ pub enum Phase {
     Over,
 }
 
-// The line that comes next, and the ticks that are left.
+// The line that comes next, the card's edition, and the ticks that are left.
 pub struct Stage {
     pub phase: Phase,
+    pub edition: u32,
     pub left: u32,
 }
 
 // What a line says. The parameters stand beside it (`LineRead`), and the rule text is a part of the line.
 pub enum Content {
-    Edition,
+    Edition(u32),
     Parameters,
     Rule,
     Count(u32),
-    Tick { start: u32, signals: u64 },
+    // A tick's start, signals and velocity.
+    Tick(u32, u64, u32),
     Refused(u32),
     // The card was over before it.
     Nothing,
@@ -104,14 +121,15 @@ fn parameters_line(s: &[u8]) -> LineRead
     let mut at = PARAMETERS_HEAD.len();
     let mut i = 0;
     while i < LAST {
-        let Number::Is { value, next } = decimals::decimal_before_comma(s, at) else {
+        let Number::Is { value, next } = decimals::decimal_before_comma(s, at, limits::LAST_LITERAL)
+        else {
             return plain(Content::Refused(HEAD_REFUSAL));
         };
         ps[i] = value;
         at = next;
         i += 1;
     }
-    let Number::Is { value, next } = decimals::decimal_at(s, at) else {
+    let Number::Is { value, next } = decimals::decimal_at(s, at, limits::LAST_LITERAL) else {
         return plain(Content::Refused(HEAD_REFUSAL));
     };
     if next < s.len() {
@@ -124,6 +142,19 @@ fn parameters_line(s: &[u8]) -> LineRead
     }
 }
 
+// The number from a place up to the line's end, up to a highest one.
+fn last_number(s: &[u8], at: usize, max: u32) -> Count
+    ensures { λ r. ⌜ r ≡ wholly (number max (drop at (now (s .entry)))) ⌝ }
+{
+    let Number::Is { value, next } = decimals::decimal_at(s, at, max) else {
+        return Count::Broken;
+    };
+    if next < s.len() {
+        return Count::Broken;
+    }
+    Count::Is(value)
+}
+
 // SPEC 10.5: the line of the number of ticks.
 fn count_line(s: &[u8]) -> Count
     ensures { λ r. ⌜ r ≡ countOf (now (s .entry)) ⌝ }
@@ -131,13 +162,7 @@ fn count_line(s: &[u8]) -> Count
     if !decimals::has_prefix(s, &COUNT_HEAD) {
         return Count::Broken;
     }
-    let Number::Is { value, next } = decimals::decimal_at(s, COUNT_HEAD.len()) else {
-        return Count::Broken;
-    };
-    if next < s.len() {
-        return Count::Broken;
-    }
-    Count::Is(value)
+    last_number(s, COUNT_HEAD.len(), limits::LAST_LITERAL)
 }
 
 // The value of a hexadecimal digit of SPEC 10.6, 16 for any other byte.
@@ -159,9 +184,9 @@ fn hex_digit(b: u8) -> u64
     (b % 16 + b / 64 * 9) as u64
 }
 
-// SPEC 10.6: a tick line.
-fn tick_line(s: &[u8]) -> TickLine
-    ensures { λ r. ⌜ r ≡ tickLine (now (s .entry)) ⌝ }
+// A tick line with no velocity.
+fn plain_line(s: &[u8]) -> TickLine
+    ensures { λ r. ⌜ r ≡ plainTick (now (s .entry)) ⌝ }
 {
     if s.len() != TICK_LINE {
         return TickLine::Broken;
@@ -192,34 +217,81 @@ fn tick_line(s: &[u8]) -> TickLine
         x = x * 16 + d;
         i += 1;
     }
-    TickLine::Is {
-        start: (b - b'0') as u32,
-        signals: x,
-    }
+    TickLine::Is((b - b'0') as u32, x, 0)
 }
 
-// SPEC 10.2: the first line.
-fn edition_line(s: &[u8]) -> bool
-    ensures { λ r. ⌜ r ≡ editionOf (now (s .entry)) ⌝ }
-{
-    lists::same_bytes(s, &EDITION_LINE)
-}
-
-// The tick line at a place of s, where it is there with its byte 10.
-pub fn tick_at(s: &[u8], at: usize) -> TickLine
-    ensures { λ r. ⌜ r ≡ tickFirst (drop at (now (s .entry))) ⌝ }
+// The tick of a line whose first bytes say this one: a comma and the velocity are behind them.
+fn struck_line(velocities: u32, front: TickLine, s: &[u8]) -> TickLine
+    ensures { λ r. ⌜ r ≡ struckAfter velocities front (now (s .entry)) ⌝ }
 {
     if s.len() <= TICK_LINE {
         return TickLine::Broken;
     }
+    if s[TICK_LINE] != b',' {
+        return TickLine::Broken;
+    }
+    let TickLine::Is(start, signals, _) = front else {
+        return TickLine::Broken;
+    };
+    let Count::Is(velocity) = last_number(s, TICK_LINE + 1, limits::LAST_LITERAL) else {
+        return TickLine::Broken;
+    };
+    if velocities <= velocity {
+        return TickLine::Broken;
+    }
+    TickLine::Is(start, signals, velocity)
+}
+
+// SPEC 10.6: the tick line of an edition.
+fn tick_line(velocities: u32, edition: u32, s: &[u8]) -> TickLine
+    ensures { λ r. ⌜ r ≡ tickLine velocities edition (now (s .entry)) ⌝ }
+{
+    if s.len() < TICK_LINE {
+        return TickLine::Broken;
+    }
+    let front = plain_line(&s[..TICK_LINE]);
+    if edition != PLAIN_EDITION {
+        return struck_line(velocities, front, s);
+    }
+    if TICK_LINE < s.len() {
+        return TickLine::Broken;
+    }
+    front
+}
+
+// SPEC 10.2: which edition's line the first line is.
+fn edition_of(s: &[u8]) -> u32
+    ensures { λ r. ⌜ r ≡ editionOf (now (s .entry)) ⌝ }
+{
+    if lists::same_bytes(s, &EDITION_1) {
+        return 1;
+    }
+    if lists::same_bytes(s, &EDITION_2) {
+        return 2;
+    }
+    NO_EDITION
+}
+
+// The tick line at a place of s, where it is there with its byte 10: this one is looked for behind the bytes that each
+// tick line has.
+pub fn tick_at(velocities: u32, edition: u32, s: &[u8], at: usize) -> TickFound
+    ensures { λ r. ⌜ r ≡ tickAt velocities edition (now (s .entry)) at ⌝ }
+{
+    if s.len() <= TICK_LINE {
+        return TickFound::Broken;
+    }
     if s.len() - TICK_LINE <= at {
-        return TickLine::Broken;
+        return TickFound::Broken;
     }
-    let stop = at + TICK_LINE;
-    if s[stop] != lists::LINE_END {
-        return TickLine::Broken;
+    let from = at + TICK_LINE;
+    let stop = from + lists::line_length(s, from);
+    if stop == s.len() {
+        return TickFound::Broken;
     }
-    tick_line(&s[at..stop])
+    let TickLine::Is(start, signals, velocity) = tick_line(velocities, edition, &s[at..stop]) else {
+        return TickFound::Broken;
+    };
+    TickFound::Is(start, signals, velocity, stop + 1)
 }
 
 // What a line says that fails (SPEC 10.7): nothing once the card is over.
@@ -236,6 +308,17 @@ pub fn broken(p: Phase) -> Content
     }
 }
 
+// What the first line says.
+fn edition_content(s: &[u8]) -> Content
+    ensures { λ r. ⌜ ((ps l : List ℕ) → saysBy r ps l ≡ editionSays (editionOf (now (s .entry)))) ⌝ }
+{
+    let edition = edition_of(s);
+    if edition == NO_EDITION {
+        return Content::Refused(HEAD_REFUSAL);
+    }
+    Content::Edition(edition)
+}
+
 // What the line `ticks=` says.
 fn count_content(s: &[u8]) -> Content
     ensures { λ r. ⌜ ((ps l : List ℕ) → saysBy r ps l ≡ countSays (countOf (now (s .entry)))) ⌝ }
@@ -248,22 +331,22 @@ fn count_content(s: &[u8]) -> Content
 }
 
 // What a line says at the ticks, where so many of them are left: with none left, any line is refused (SPEC 10.8).
-fn tick_content(left: u32, s: &[u8]) -> Content
-    ensures { λ r. ⌜ ((ps l : List ℕ) → saysBy r ps l ≡ tickIn left (now (s .entry))) ⌝ }
+fn tick_content(velocities: u32, edition: u32, left: u32, s: &[u8]) -> Content
+    ensures { λ r. ⌜ ((ps l : List ℕ) → saysBy r ps l ≡ tickIn velocities edition left (now (s .entry))) ⌝ }
 {
     if left == 0 {
         return Content::Refused(TICK_REFUSAL);
     }
-    let t = tick_line(s);
+    let t = tick_line(velocities, edition, s);
     match t {
         TickLine::Broken => Content::Refused(TICK_REFUSAL),
-        TickLine::Is { start, signals } => Content::Tick { start, signals },
+        TickLine::Is(start, signals, velocity) => Content::Tick(start, signals, velocity),
     }
 }
 
 // SPEC 10.9, one line after another: what a line says, given without its byte 10.
-pub fn read_line(stage: Stage, s: &[u8]) -> LineRead
-    ensures { λ r. ⌜ (saysBy (r .content) (r .parameters) (now (s .entry)) ≡ lineSays stage (now (s .entry)))
+pub fn read_line(velocities: u32, stage: Stage, s: &[u8]) -> LineRead
+    ensures { λ r. ⌜ (saysBy (r .content) (r .parameters) (now (s .entry)) ≡ lineSays velocities stage (now (s .entry)))
         × ((r .content ≡ Content.Parameters → ⊥) → r .parameters ≡ replicate parameterCount 0) ⌝ }
 {
     let phase = stage.phase;
@@ -271,12 +354,7 @@ pub fn read_line(stage: Stage, s: &[u8]) -> LineRead
         return plain(broken(phase));
     }
     match phase {
-        Phase::Edition => {
-            if edition_line(s) {
-                return plain(Content::Edition);
-            }
-            plain(Content::Refused(HEAD_REFUSAL))
-        }
+        Phase::Edition => plain(edition_content(s)),
         Phase::Parameters => parameters_line(s),
         Phase::Rule => {
             if decimals::has_prefix(s, &RULE_HEAD) {
@@ -285,34 +363,40 @@ pub fn read_line(stage: Stage, s: &[u8]) -> LineRead
             plain(Content::Refused(HEAD_REFUSAL))
         }
         Phase::Count => plain(count_content(s)),
-        Phase::Ticks => plain(tick_content(stage.left, s)),
+        Phase::Ticks => plain(tick_content(velocities, stage.edition, stage.left, s)),
         Phase::Over => plain(Content::Nothing),
     }
 }
 
-fn stage_at(phase: Phase, left: u32) -> Stage
-    ensures { λ r. ⌜ r ≡ stageAt phase left ⌝ }
+fn stage_at(phase: Phase, edition: u32, left: u32) -> Stage
+    ensures { λ r. ⌜ r ≡ stageAt phase edition left ⌝ }
 {
-    Stage { phase, left }
+    Stage {
+        phase,
+        edition,
+        left,
+    }
 }
 
-// The stage after a line, where so many ticks were left before it.
-pub fn stage_after(left: u32, content: Content) -> Stage
-    ensures { λ r. ⌜ ((ps l : List ℕ) → r ≡ stageAfter left (saysBy content ps l)) ⌝ }
+// The stage after a line, with the one before it.
+pub fn stage_after(stage: Stage, content: Content) -> Stage
+    ensures { λ r. ⌜ ((ps l : List ℕ) → r ≡ stageAfter stage (saysBy content ps l)) ⌝ }
 {
+    let edition = stage.edition;
+    let left = stage.left;
     match content {
-        Content::Edition => stage_at(Phase::Parameters, 0),
-        Content::Parameters => stage_at(Phase::Rule, 0),
-        Content::Rule => stage_at(Phase::Count, 0),
-        Content::Count(k) => stage_at(Phase::Ticks, k),
-        Content::Tick { start, signals } => {
+        Content::Edition(e) => stage_at(Phase::Parameters, e, 0),
+        Content::Parameters => stage_at(Phase::Rule, edition, 0),
+        Content::Rule => stage_at(Phase::Count, edition, 0),
+        Content::Count(k) => stage_at(Phase::Ticks, edition, k),
+        Content::Tick(start, signals, velocity) => {
             if left == 0 {
-                return stage_at(Phase::Ticks, 0);
+                return stage_at(Phase::Ticks, edition, 0);
             }
-            stage_at(Phase::Ticks, left - 1)
+            stage_at(Phase::Ticks, edition, left - 1)
         }
-        Content::Refused(r) => stage_at(Phase::Over, 0),
-        Content::Nothing => stage_at(Phase::Over, 0),
+        Content::Refused(r) => stage_at(Phase::Over, NO_EDITION, 0),
+        Content::Nothing => stage_at(Phase::Over, NO_EDITION, 0),
     }
 }
 
@@ -344,7 +428,7 @@ pub fn end(stage: Stage, n: usize) -> Content
 pub fn first_stage() -> Stage
     ensures { λ r. ⌜ r ≡ firstStage ⌝ }
 {
-    stage_at(Phase::Edition, 0)
+    stage_at(Phase::Edition, NO_EDITION, 0)
 }
 
 // Whether nothing more is said.

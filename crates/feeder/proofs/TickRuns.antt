@@ -1,21 +1,21 @@
 -- Tick lines at the front of a piece, where no step has a refusal: what such a line does. Assumes nothing.
 use mathlib.Core.Path.{_≡_, refl, _∙_, sym, ap, subst}
 use mathlib.Core.List.{List}
-use Prim.Native.Nat.{ℕ, _+_, _-_, _≤_, _<_}
+use Prim.Native.Nat.{ℕ, _+_, _≤_, _<_}
 use native.Mathlib.Omega.{arith}
-use lib.ListN.{length, take, drop, length-drop}
-use Rattle.limits.specs.Limits.{standardCap}
+use lib.ListN.{length, drop, length-drop}
+use borrow.Author.Tests.{lt-ltb}
+use Rattle.limits.specs.Limits.{standardCap, velocityCount}
 use Rattle.flows.specs.Step.{AfterStep, afterStep, parameterFits, stepChecked, stepped}
 use Rattle.tables.specs.declared.Checked.the-variants.{Passed}
 use Rattle.flows.specs.declared.Stepped.the-variants as S
 use Rattle.flows.proofs.Lists.{step-on}
 use Rattle.lists.specs.Line.{line}
-use Rattle.cards.specs.Ticks.{tickLength}
-use Rattle.cards.specs.Place.{tickFirst}
+use Rattle.cards.specs.Place.{tickAt}
 use Rattle.cards.specs.declared.Phase.the-variants as P
-use Rattle.cards.specs.declared.TickLine.the-variants as T
+use Rattle.cards.specs.declared.TickFound.the-variants as F
 use Rattle.cards.proofs.Front.{First, first-tick}
-use Rattle.cards.proofs.Hex.{tick-length}
+use Rattle.cards.proofs.Ticks.{ticked}
 use Rattle.traces.specs.Trace.{tickOf}
 use Rattle.traces.specs.declared.Tick.{Tick}
 use Rattle.player.specs.Card.{World, worldOf, lined}
@@ -28,71 +28,74 @@ use Rattle.feeder.proofs.Resuming.{goes-none}
 use Rattle.feeder.proofs.Feeding.{Between, said-room, after-line}
 
 module _ (ps t : List ℕ) where
-  -- A step's refusals do not depend on its start and signals.
-  any-start : (n : ℕ) (c v : List ℕ) → stepChecked standardCap t n c v (tickOf 0 0 ps) ≡ Passed
-      → (start signals : ℕ) → stepChecked standardCap t n c v (tickOf start signals ps) ≡ Passed
+  -- A step's refusals do not depend on its start and signals, nor on which of the velocities it has.
+  any-tick : (n : ℕ) (c v : List ℕ) → stepChecked standardCap velocityCount t n c v (tickOf 0 0 0 ps) ≡ Passed
+      → (start signals velocity : ℕ) → velocity < velocityCount
+      → stepChecked standardCap velocityCount t n c v (tickOf start signals velocity ps) ≡ Passed
   unfolding stepChecked parameterFits
-  any-start n c v e start signals = e
+  any-tick n c v e start signals velocity low = rw (lt-ltb velocity velocityCount low) e
 
-  pub passes-any : (n : ℕ) (c v : List ℕ) {k : Tick} → k ≡ tickOf 0 0 ps
-      → stepChecked standardCap t n c v k ≡ Passed
-      → (start signals : ℕ) → stepChecked standardCap t n c v (tickOf start signals ps) ≡ Passed
-  passes-any n c v e h = any-start n c v (ap (stepChecked standardCap t n c v) (sym e) ∙ h)
+  pub passes-any : (n : ℕ) (c v : List ℕ) {k : Tick} → k ≡ tickOf 0 0 0 ps
+      → stepChecked standardCap velocityCount t n c v k ≡ Passed
+      → (start signals velocity : ℕ) → velocity < velocityCount
+      → stepChecked standardCap velocityCount t n c v (tickOf start signals velocity ps) ≡ Passed
+  passes-any n c v e h = any-tick n c v (ap (stepChecked standardCap velocityCount t n c v) (sym e) ∙ h)
 
   -- So every tick with these parameters passes where one does.
-  pub passes-at : {w : Watch} {c v : List ℕ} {k : Tick} {i j : ℕ} → Admitted (worldOf w ps t c v)
-      → k ≡ tickOf i j ps → stepChecked standardCap t (w .n) c v k ≡ Passed
-  passes-at {w} {c} {v} {k} {i} {j} h e = ap (stepChecked standardCap t (w .n) c v) e ∙ h .passes i j
+  pub passes-at : {w : Watch} {c v : List ℕ} {k : Tick} {i j u : ℕ} → Admitted (worldOf w ps t c v)
+      → u < velocityCount → k ≡ tickOf i j u ps → stepChecked standardCap velocityCount t (w .n) c v k ≡ Passed
+  passes-at {w} {c} {v} {k} {i} {j} {u} h low e =
+      ap (stepChecked standardCap velocityCount t (w .n) c v) e ∙ h .passes i j u low
 
-  -- The step of a line at the ticks, where no step has a refusal.
-  module _
-      {w : Watch} {c v c′ v′ : List ℕ} {x : ℕ} (k : Admitted (worldOf w ps t c v)) {y : Tick} (i j : ℕ)
-      (is : y ≡ tickOf i j ps) (a : afterStep (S.Verdict x) c′ v′ ≡ stepped standardCap t (w .n) c v y) where
-    at-tick : afterStep (S.Verdict x) c′ v′ ≡ stepped standardCap t (w .n) c v (tickOf i j ps)
-    at-tick = a ∙ ap (stepped standardCap t (w .n) c v) is
+  -- The step of a line at the ticks, where no step has a refusal: the line is at the place p of a piece.
+  module _ {w : Watch} {c v : List ℕ} {i j u next : ℕ} (b : List ℕ) (p : ℕ)
+      (k : Admitted (worldOf w ps t c v)) (f : F.Is i j u next ≡ tickAt velocityCount (w .stage .edition) b p) where
+    first : First velocityCount (w .stage .edition) (drop p b) i j u
+    first = first-tick velocityCount (w .stage .edition) b p f .0
 
-    -- It leaves it so.
-    pub admitted-on : Admitted (worldOf (oneLess w) ps t c′ v′)
-    admitted-on =
-        record {
-          phase = k .phase;
-          passes = λ start signals.
-              subst
-              (λ (y : AfterStep).
-              stepChecked standardCap t (w .n) (y .state) (y .values) (tickOf start signals ps) ≡ Passed)
-              (sym at-tick)
-              (step-on standardCap t (w .n) c v (tickOf i j ps) (k .passes i j) (tickOf start signals ps) refl);
-        }
+    pub velocity-low : u < velocityCount
+    velocity-low = ticked velocityCount (w .stage .edition) (line (drop p b)) (first .tick) .low (omega arith)
 
-    -- The line is at the place u of a piece.
-    module _
-        {w₀ : World} {b out₀ out : List ℕ} {u at : ℕ} (s : Between w₀ b out₀ (worldOf w ps t c v) out u at)
-        (f : T.Is i j ≡ tickFirst (drop u b)) (more : 0 < w .stage .left) where
-      first : First (drop u b) i j
-      first = first-tick (drop u b) i j f
+    module _ {c′ v′ : List ℕ} {x : ℕ} {y : Tick} (is : y ≡ tickOf i j u ps)
+        (a : afterStep (S.Verdict x) c′ v′ ≡ stepped standardCap velocityCount t (w .n) c v y) where
+      at-tick : afterStep (S.Verdict x) c′ v′ ≡ stepped standardCap velocityCount t (w .n) c v (tickOf i j u ps)
+      at-tick = a ∙ ap (stepped standardCap velocityCount t (w .n) c v) is
 
-      as-long : tickLength ≡ length (line (drop u b))
-      as-long = sym (ap length (first .ends) ∙ tick-length (take tickLength (drop u b)) i j (first .tick))
+      -- It leaves it so.
+      pub admitted-on : Admitted (worldOf (oneLess w) ps t c′ v′)
+      admitted-on =
+          record {
+            phase = k .phase;
+            passes = λ start signals velocity low.
+                subst
+                (λ (y : AfterStep).
+                stepChecked standardCap velocityCount t (w .n) (y .state) (y .values)
+                (tickOf start signals velocity ps) ≡ Passed)
+                (sym at-tick)
+                (step-on standardCap velocityCount t (w .n) c v (tickOf i j u ps) (k .passes i j u velocity-low)
+                (tickOf start signals velocity ps) refl low);
+          }
 
-      pub line-inside : u + tickLength < length b
-      line-inside = omega (arith, first .whole, length-drop u b)
+      module _ {w₀ : World} {out₀ out : List ℕ} {at : ℕ} (s : Between w₀ b out₀ (worldOf w ps t c v) out p at)
+          (more : 0 < w .stage .left) where
+        line-inside : p + length (line (drop p b)) < length b
+        line-inside = omega (arith, first .whole, length-drop p b)
 
-      does : saying ps t (oneLess w) x c′ v′ ≡ lined (worldOf w ps t c v) (line (drop u b))
-      does =
-          let l = take tickLength (drop u b) in
-          let after = afterStep (S.Verdict x) c′ v′ in
-          rw (first .ends) (sym (tick-lined ps t w l i j x c v after (k .phase) more (first .tick) (sym at-tick) refl))
+        does : saying ps t (oneLess w) x c′ v′ ≡ lined (worldOf w ps t c v) (line (drop p b))
+        does =
+            let after = afterStep (S.Verdict x) c′ v′ in
+            sym (tick-lined ps t w (line (drop p b)) i j u x c v after (k .phase) more (first .tick) (sym at-tick) refl)
 
-      pub verdict-room : at + length (outputBytes (O.Verdict x)) ≤ length out
-      verdict-room = said-room s tickLength as-long line-inside does
+        pub verdict-room : at + length (outputBytes (O.Verdict x)) ≤ length out
+        verdict-room = said-room s (length (line (drop p b))) refl line-inside does
 
-      pub after-tick : {out′ : List ℕ} {at′ : ℕ} → at′ ≡ at + length (outputBytes (O.Verdict x))
-          → out′ ≡ placed out at (outputBytes (O.Verdict x))
-          → Between w₀ b out₀ (worldOf (oneLess w) ps t c′ v′) out′ (u + (tickLength + 1)) at′
-      after-tick {out′} {at′} e p =
-          let z : u + tickLength + 1 ≡ u + (tickLength + 1) = omega arith in
-          subst (λ (m : ℕ). Between w₀ b out₀ (worldOf (oneLess w) ps t c′ v′) out′ m at′) z
-          (after-line s tickLength as-long line-inside does e p)
+        pub after-tick : {out′ : List ℕ} {at′ : ℕ} → at′ ≡ at + length (outputBytes (O.Verdict x))
+            → out′ ≡ placed out at (outputBytes (O.Verdict x))
+            → Between w₀ b out₀ (worldOf (oneLess w) ps t c′ v′) out′ next at′
+        after-tick {out′} {at′} e q =
+            let end = first-tick velocityCount (w .stage .edition) b p f .1 in
+            subst (λ (m : ℕ). Between w₀ b out₀ (worldOf (oneLess w) ps t c′ v′) out′ m at′) (sym end)
+            (after-line s (length (line (drop p b))) refl line-inside does e q)
 
 -- No lines are used up.
 pub runs-none : (w : World) (b out : List ℕ) → Runs w b (fedTo (w .watch) 0 0) w out out

@@ -5,7 +5,7 @@ use mathlib.Core.Path.{_≡_}
 use Prim.Native.Nat.{ℕ, _+_, _-_, _≤_, _<_}
 use lib.Dec.{leb}
 use lib.ListN.{length, take, drop}
-use Rattle.limits.specs.Limits.{standardCap, lineLimit}
+use Rattle.limits.specs.Limits.{standardCap, velocityCount, lineLimit}
 use Rattle.flows.specs.Step.{stepChecked}
 use Rattle.tables.specs.declared.Checked.the-variants.{Passed}
 use Rattle.lists.specs.Line.{line}
@@ -56,13 +56,14 @@ tailBytes p n = cond (leb lineLimit n) (brokenBytes p) []
 
 -- No tick line that could be run is left at the front of these bytes.
 abbrev pub Stops : Watch → List ℕ → Type 0
-Stops w s = 0 < w .stage .left → tickFirst s ≡ T.Broken
+Stops w s = 0 < w .stage .left → tickFirst velocityCount (w .stage .edition) s ≡ T.Broken
 
--- The ticks come next, and a step with these parameters has no refusal, whatever its start and signals.
+-- The ticks come next, and a step with these parameters has no refusal, whatever its start, signals and velocity.
 pub record Admitted (w : World) : Type 0 where
   pub phase : w .watch .stage .phase ≡ P.Ticks
-  pub passes : (start signals : ℕ) → stepChecked standardCap (w .table) (w .watch .n) (w .state) (w .values)
-      (tickOf start signals (w .parameters)) ≡ Passed
+  pub passes : (start signals velocity : ℕ) → velocity < velocityCount
+      → stepChecked standardCap velocityCount (w .table) (w .watch .n) (w .state) (w .values)
+      (tickOf start signals velocity (w .parameters)) ≡ Passed
 
 abbrev pub fedTo : Watch → ℕ → ℕ → Fed
 fedTo w used filled = record { watch = w; used = used; filled = filled }

@@ -2,7 +2,7 @@
 // is `player`'s; what a piece of a card does is defined in specs/Feed.antt.
 use cards::Phase;
 use cards::Stage;
-use cards::TickLine;
+use cards::TickFound;
 use player::Output;
 use player::Watch;
 use tables::Checked;
@@ -14,9 +14,6 @@ ghost use Rattle.player.specs.Card.{brought, entering, leaving, watchOf, longes
 ghost use Rattle.player.specs.Output.{outputBytes};
 ghost use Rattle.feeder.specs.Feed.{Room, Stops, Admitted, fedTo, Runs, tailBytes, tailFed, Feeds};
 ghost use Rattle.feeder.specs.Feed.{shifted, Turns, Short, Finishes, placed};
-
-// The bytes of a tick line with its byte 10.
-const TICK: usize = cards::TICK_LINE + 1;
 
 // After a piece of a card: how many of its bytes are used up, and how many bytes of the output are filled.
 struct Fed {
@@ -87,11 +84,15 @@ fn put(out: &mut [u8], at: usize, d: Output) -> usize
     }
 }
 
-fn watch_at(phase: Phase, left: u32, n: usize) -> Watch
-    ensures { λ r. ⌜ r ≡ watchOf (stageAt phase left) n ⌝ }
+fn watch_at(phase: Phase, edition: u32, left: u32, n: usize) -> Watch
+    ensures { λ r. ⌜ r ≡ watchOf (stageAt phase edition left) n ⌝ }
 {
     Watch {
-        stage: Stage { phase, left },
+        stage: Stage {
+            phase,
+            edition,
+            left,
+        },
         n: n,
     }
 }
@@ -124,21 +125,23 @@ fn run_ticks(
 {
     let stage = watch.stage;
     let phase = stage.phase;
+    let edition = stage.edition;
     let n = watch.n;
     let mut left = stage.left;
     let mut used = 0;
     let mut at = 0;
     while 0 < left {
-        let TickLine::Is { start, signals } = cards::tick_at(bytes, used) else {
-            return fed_to(watch_at(phase, left, n), used, at);
+        let found = cards::tick_at(limits::VELOCITIES, edition, bytes, used);
+        let TickFound::Is(start, signals, velocity, next) = found else {
+            return fed_to(watch_at(phase, edition, left, n), used, at);
         };
-        let now = traces::tick_of(start, signals, *parameters);
+        let now = traces::tick_of(start, signals, velocity, *parameters);
         let v = flows::step_passed(table, n, state, values, now);
         at = put_verdict(out, at, v);
-        used += TICK;
+        used = next;
         left -= 1;
     }
-    fed_to(watch_at(phase, left, n), used, at)
+    fed_to(watch_at(phase, edition, left, n), used, at)
 }
 
 // Where the ticks come next and no step has a refusal, runs the tick lines at the front of a piece: one check for all
@@ -164,7 +167,7 @@ fn feed_ticks(
     let Phase::Ticks = phase else {
         return fed_to(w, 0, 0);
     };
-    let now = traces::tick_of(0, 0, *parameters);
+    let now = traces::tick_of(0, 0, 0, *parameters);
     let checked = flows::step_checked(table, w.n, state, values, now);
     let Checked::Passed = checked else {
         return fed_to(w, 0, 0);

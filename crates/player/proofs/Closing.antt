@@ -1,22 +1,24 @@
 -- What is owed where a line fails (`Fails`), and after the last tick line that is fine (`Closes`): each line that fails
 -- says its stage's refusal, whether it is broken, missing or over-long. Assumes nothing.
-use mathlib.Core.Path.{_≡_, refl, _∙_, ap, ap₂, sym, subst}
+use mathlib.Core.Path.{_≡_, refl, _∙_, ap, ap₂, sym}
 use mathlib.Core.Bool.{Bool, true, false, cond, false≢true}
 use mathlib.Core.List.{List, [], _∷_, _++_}
 use Prim.Native.Nat.{ℕ, suc}
 use native.Mathlib.Omega.{arith}
-use lib.Dec.{T, eqb}
+use lib.Dec.{eqb}
 use lib.ListN.{length, drop}
-use borrow.Author.Tests.{eqb-true, ne-eqb}
-use Rattle.lists.proofs.Same.{same→eq, same-refl}
-use Rattle.cards.specs.Heads.{editionLine, ruleHead, afterHead}
+use borrow.Author.Tests.{eqb-true, eqb-false, ne-eqb}
+use Rattle.limits.specs.Limits.{velocityCount}
+use Rattle.cards.specs.Heads.{noEdition, ruleHead, afterHead}
 use Rattle.cards.specs.Numbers.{hasPrefix}
 use Rattle.cards.specs.Lines.{overLong}
 use Rattle.cards.specs.Heads.{headRefusal, tickRefusal}
-use Rattle.cards.specs.Says.{Says, stageAt, editionOf, parametersSay, countSays, brokenBy, saysIn, lineSays, endSays}
+use Rattle.cards.specs.Says.{Says, stageAt, firstStage, editionOf, parametersSay, countSays, brokenBy, saysIn}
+use Rattle.cards.specs.Says.{lineSays, endSays}
 use Rattle.cards.specs.Says.Says.{refused}
 use Rattle.cards.specs.declared.Phase.the-variants as P
 use Rattle.cards.specs.declared.Stage.{Stage}
+use Rattle.cards.proofs.Editions.{edition-is}
 use Rattle.player.specs.Card.{World, worldOf, watchOf, overWorld, played, lined, lastOutput, owed}
 use Rattle.player.specs.Output.{outputBytes}
 use Rattle.player.specs.Shows.{NoEdition, NoParameters, NoRule, NoCount, NoTick, Fails, Closes}
@@ -30,7 +32,7 @@ use Rattle.player.proofs.Printing.{last-owed}
 
 -- A line that says a refusal is the last one.
 refused-owed : (w : World) (r : ℕ) (l : List ℕ) (ls : List (List ℕ)) (tail : List ℕ)
-    → lineSays (w .watch .stage) l ≡ refused r → owed w (l ∷ ls) tail ≡ outputBytes (O.Refused r)
+    → lineSays velocityCount (w .watch .stage) l ≡ refused r → owed w (l ∷ ls) tail ≡ outputBytes (O.Refused r)
 unfolding lined played
 refused-owed w r l ls tail e = last-owed w (overWorld w) l ls tail (O.Refused r) (ap (played w) e) refl
 
@@ -38,14 +40,15 @@ refused-owed w r l ls tail e = last-owed w (overWorld w) l ls tail (O.Refused r)
 pub record Refuses (k : Stage) (r : ℕ) (Broken : List ℕ → Type 0) : Type 0 where
   pub long : brokenBy (k .phase) ≡ refused r
   pub end : (n : ℕ) → endSays k n ≡ refused r
-  pub bad : (l : List ℕ) → Broken l → saysIn (k .phase) (k .left) l ≡ refused r
+  pub bad : (l : List ℕ) → Broken l → saysIn velocityCount (k .phase) (k .edition) (k .left) l ≡ refused r
 
 module _ (w : World) {r : ℕ} {Broken : List ℕ → Type 0} (h : Refuses (w .watch .stage) r Broken) where
-  long-refused : (l : List ℕ) → overLong l ≡ true → lineSays (w .watch .stage) l ≡ refused r
+  long-refused : (l : List ℕ) → overLong l ≡ true → lineSays velocityCount (w .watch .stage) l ≡ refused r
   unfolding lineSays
   long-refused l e = rw e (h .long)
 
-  line-refused : (b : Bool) (l : List ℕ) → overLong l ≡ b → Broken l → lineSays (w .watch .stage) l ≡ refused r
+  line-refused : (b : Bool) (l : List ℕ) → overLong l ≡ b → Broken l
+      → lineSays velocityCount (w .watch .stage) l ≡ refused r
   unfolding lineSays
   line-refused true l e f = long-refused l e
   line-refused false l e f = rw e (h .bad l f)
@@ -58,16 +61,12 @@ module _ (w : World) {r : ℕ} {Broken : List ℕ → Type 0} (h : Refuses (w .w
 
 -- ---- the five sorts of lines
 
--- The first line: it is `edition=1` exactly if the test has it.
-pub edition-is : (l : List ℕ) → editionOf l ≡ true → l ≡ editionLine
-edition-is l e = same→eq l editionLine (subst T (sym e) tt)
-
-pub edition-not : (l : List ℕ) → editionOf l ≡ false → NoEdition l
-edition-not l e q = false≢true (sym e ∙ ap editionOf q ∙ same-refl editionLine)
-
-no-edition : (l : List ℕ) (b : Bool) → editionOf l ≡ b → NoEdition l → b ≡ false
-no-edition l true e h = absurd (h (edition-is l e))
-no-edition l false e h = refl
+-- The first line: no edition's line is none by the test.
+no-edition : (l : List ℕ) (t : Bool) → eqb (editionOf l) noEdition ≡ t → NoEdition l → t ≡ true
+no-edition l true e h = refl
+no-edition l false e h =
+    let found = edition-is l (editionOf l) (eqb-false _ _ e) refl in
+    absurd (h (editionOf l) (found .0) (found .1))
 
 -- The third line: a text that has a prefix is the prefix and what comes after it.
 prefix-append : (w s : List ℕ) → hasPrefix w s ≡ true → s ≡ w ++ drop (length w) s
@@ -96,26 +95,30 @@ no-rule l true e h = absurd (h (afterHead ruleHead l) (rule-is l e))
 no-rule l false e h = refl
 
 -- Each sort of line at its stage.
-pub edition-refuses : Refuses (stageAt P.Edition 0) headRefusal NoEdition
+pub edition-refuses : Refuses firstStage headRefusal NoEdition
 edition-refuses =
-    record { long = refl; end = λ n. refl; bad = λ l h. rw (no-edition l (editionOf l) refl h) }
+    record {
+      long = refl;
+      end = λ n. refl;
+      bad = λ l h. rw (no-edition l (eqb (editionOf l) noEdition) refl h);
+    }
 
-pub parameters-refuse : Refuses (stageAt P.Parameters 0) headRefusal NoParameters
-parameters-refuse = record { long = refl; end = λ n. refl; bad = λ l h. ap parametersSay h }
+pub parameters-refuse : (e : ℕ) → Refuses (stageAt P.Parameters e 0) headRefusal NoParameters
+parameters-refuse e = record { long = refl; end = λ n. refl; bad = λ l h. ap parametersSay h }
 
-pub rule-refuses : Refuses (stageAt P.Rule 0) headRefusal NoRule
-rule-refuses =
+pub rule-refuses : (e : ℕ) → Refuses (stageAt P.Rule e 0) headRefusal NoRule
+rule-refuses e =
     record { long = refl; end = λ n. refl; bad = λ l h. rw (no-rule l (hasPrefix ruleHead l) refl h) }
 
-pub count-refuses : Refuses (stageAt P.Count 0) headRefusal NoCount
-count-refuses = record { long = refl; end = λ n. refl; bad = λ l h. ap countSays h }
+pub count-refuses : (e : ℕ) → Refuses (stageAt P.Count e 0) headRefusal NoCount
+count-refuses e = record { long = refl; end = λ n. refl; bad = λ l h. ap countSays h }
 
 -- Something is left.
 not-done : (left : ℕ) → eqb (suc left) 0 ≡ false
 not-done left = ne-eqb (suc left) 0 (λ z. omega arith)
 
-tick-refuses : (left : ℕ) → Refuses (stageAt P.Ticks (suc left)) tickRefusal NoTick
-tick-refuses left =
+tick-refuses : (e left : ℕ) → Refuses (stageAt P.Ticks e (suc left)) tickRefusal (NoTick velocityCount e)
+tick-refuses e left =
     record {
       long = refl;
       end = λ n. rw (not-done left);
@@ -125,16 +128,18 @@ tick-refuses left =
 -- ---- after the last tick line that is fine
 
 -- Where no tick is left, every line says the refusal.
-line-after-says : (b : Bool) (l : List ℕ) → overLong l ≡ b → lineSays (stageAt P.Ticks 0) l ≡ refused tickRefusal
+line-after-says : (e : ℕ) (b : Bool) (l : List ℕ) → overLong l ≡ b
+    → lineSays velocityCount (stageAt P.Ticks e 0) l ≡ refused tickRefusal
 unfolding lineSays
-line-after-says true l e = rw e
-line-after-says false l e = rw e
+line-after-says e true l q = rw q
+line-after-says e false l q = rw q
 
-pub closes-owed : {left : ℕ} {ls : List (List ℕ)} {tail : List ℕ} {o : Output} → Closes left ls tail o
-    → (n : ℕ) (ps t c v : List ℕ) → owed (worldOf (watchOf (stageAt P.Ticks left) n) ps t c v) ls tail ≡ outputBytes o
+pub closes-owed : {e left : ℕ} {ls : List (List ℕ)} {tail : List ℕ} {o : Output}
+    → Closes velocityCount e left ls tail o → (n : ℕ) (ps t c v : List ℕ)
+    → owed (worldOf (watchOf (stageAt P.Ticks e left) n) ps t c v) ls tail ≡ outputBytes o
 unfolding owed
 closes-owed whole n ps t c v = refl
-closes-owed (line-after {l} {ls} {tail}) n ps t c v =
-    refused-owed _ tickRefusal l ls tail (line-after-says (overLong l) l refl)
+closes-owed {e = e} (line-after {l} {ls} {tail}) n ps t c v =
+    refused-owed _ tickRefusal l ls tail (line-after-says e (overLong l) l refl)
 closes-owed (bytes-after {tail = tail}) n ps t c v = rw (not-done (length tail))
-closes-owed (tick-fails {left} {tail = tail} h) n ps t c v = fails-owed _ (tick-refuses left) h tail
+closes-owed {e = e} (tick-fails {left} {tail = tail} h) n ps t c v = fails-owed _ (tick-refuses e left) h tail

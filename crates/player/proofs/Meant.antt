@@ -13,12 +13,14 @@ use borrow.Author.Tests.{le-leb, lt-ltb, ltb-false}
 use Rattle.traces.specs.declared.Tick.{Tick}
 use Rattle.words.specs.Split.{Out, splitOf}
 use Rattle.words.proofs.Splitting.{refused-made}
+use Rattle.words.proofs.Bounds.{standard-ranged}
 use Rattle.words.specs.Split.Out.{made}
 use Rattle.formulas.specs.Formula.{Formula}
 use Rattle.formulas.specs.Meaning.{verdict}
 use Rattle.formulas.specs.Tree.{Tree, formulaOf}
 use Rattle.tables.specs.Table.{Equation, all}
-use Rattle.limits.specs.Limits.{parameterCount, standardCap, textLimit, equationLimit, tableRoom}
+use Rattle.limits.specs.Limits.{parameterCount, standardCap, velocityCount, textLimit, equationLimit, tableRoom}
+use Rattle.limits.specs.Context.{standardContext}
 use Rattle.flows.specs.Step.{AfterStep, freshened, stepped, stepChecked, steppedIf, afterTick as tickAfter}
 use Rattle.flows.specs.Step.{parameterFits}
 use Rattle.flows.specs.Run.{Call, Taken, steps, answered, callChecked}
@@ -41,6 +43,7 @@ use Rattle.rules.proofs.Theorems.{accepted}
 use Rattle.observers.specs.Compile.{afterCompile, compiled}
 use Rattle.observers.specs.declared.Compiled.the-variants as C
 use Rattle.observers.proofs.Demand.{Known, known, small-raw, observes-rule, room-compiled}
+use Rattle.cards.proofs.Ticks.{ticked}
 use Rattle.cards.specs.Says.{stageAt}
 use Rattle.cards.specs.declared.Phase.the-variants as P
 use Rattle.traces.specs.Trace.{tickOf}
@@ -60,12 +63,18 @@ unfoldable verdictsFrom : (ℕ → ℕ) → ℕ → List Tick → List Stepped
 verdictsFrom vd i [] = []
 verdictsFrom vd i (k ∷ ks) = S.Verdict (vd i) ∷ verdictsFrom vd (suc i) ks
 
-module _ (cap : ℕ) (t : List ℕ) (n : ℕ) where
+-- Each of the ticks has a velocity below their number.
+abbrev AllBelow : ℕ → List Tick → Type 0
+AllBelow velocities [] = Unit {0}
+AllBelow velocities (k ∷ ks) = (k .velocity < velocities) × AllBelow velocities ks
+
+module _ (cap velocities : ℕ) (t : List ℕ) (n : ℕ) where
   -- Each tick is given the values that the one before left.
   unfoldable callsOf : List ℕ → List ℕ → List Tick → List Call
   callsOf c v [] = []
   callsOf c v (k ∷ ks) =
-      record { tick = k; values = v } ∷ callsOf (stepped cap t n c v k .state) (stepped cap t n c v k .values) ks
+      let a = stepped cap velocities t n c v k in
+      record { tick = k; values = v } ∷ callsOf (a .state) (a .values) ks
 
   -- A step leaves room in the values.
   if-room : (c v : List ℕ) (k : Tick) (q : Checked) → n ≤ length v → n ≤ length (steppedIf q cap t n c v k .values)
@@ -73,51 +82,63 @@ module _ (cap : ℕ) (t : List ℕ) (n : ℕ) where
   if-room c v k Passed h = simp length-append (omega (arith, length-flows cap t k c n))
   if-room c v k (Failed r) h = h
 
-  step-room : (c v : List ℕ) (k : Tick) → n ≤ length v → n ≤ length (stepped cap t n c v k .values)
+  step-room : (c v : List ℕ) (k : Tick) → n ≤ length v → n ≤ length (stepped cap velocities t n c v k .values)
   unfolding stepped
-  step-room c v k h = if-room c v k (stepChecked cap t n c v k) h
+  step-room c v k h = if-room c v k (stepChecked cap velocities t n c v k) h
 
   module _ (ps : List ℕ) (low : (j : ℕ) → getD ps j 0 < cap) where
-    -- A call with room and these parameters is admitted.
-    admitted : (v : List ℕ) (k : Tick) → n ≤ length v → k .parameters ≡ ps → callChecked cap n v k ≡ Passed
+    -- A call with room, these parameters and one of the velocities is admitted.
+    admitted : (v : List ℕ) (k : Tick) → n ≤ length v → k .parameters ≡ ps → k .velocity < velocities
+        → callChecked cap velocities n v k ≡ Passed
     unfolding callChecked parameterFits
-    admitted v k h e =
+    admitted v k h e u =
         let fit : all (parameterFits cap k) parameterCount ≡ true =
         all-of (parameterFits cap k) parameterCount (λ i l. lt-ltb (getD (k .parameters) i 0) cap (rw e (low i))) in
-        rw (le-leb _ _ h, fit)
+        rw (le-leb _ _ h, fit, lt-ltb _ _ u)
 
     -- So all of these calls are: their ticks are ks, and a verdict is expected of each.
     calls-ticks : (ks : List Tick) (c v : List ℕ) → n ≤ length v → SameParameters ps ks
-        → admittedTicks cap n (callsOf c v ks) ≡ ks
+        → AllBelow velocities ks → admittedTicks cap velocities n (callsOf c v ks) ≡ ks
     unfolding admittedTicks callsOf
-    calls-ticks [] c v h s = refl
-    calls-ticks (k ∷ ks) c v h (same-more e s) =
-        rw (admitted v k h e, calls-ticks ks (stepped cap t n c v k .state) _ (step-room c v k h) s)
+    calls-ticks [] c v h s u = refl
+    calls-ticks (k ∷ ks) c v h (same-more e s) u =
+        let a = stepped cap velocities t n c v k in
+        rw (admitted v k h e (u .0), calls-ticks ks (a .state) _ (step-room c v k h) s (u .1))
 
     calls-expected : (vd : ℕ → ℕ) (i : ℕ) (ks : List Tick) (c v : List ℕ) → n ≤ length v → SameParameters ps ks
-        → expected cap n vd i (callsOf c v ks) ≡ verdictsFrom vd i ks
+        → AllBelow velocities ks → expected cap velocities n vd i (callsOf c v ks) ≡ verdictsFrom vd i ks
     unfolding expected callsOf verdictsFrom
-    calls-expected vd i [] c v h s = refl
-    calls-expected vd i (k ∷ ks) c v h (same-more e s) =
-        rw (admitted v k h e, calls-expected vd (suc i) ks (stepped cap t n c v k .state) _ (step-room c v k h) s)
+    calls-expected vd i [] c v h s u = refl
+    calls-expected vd i (k ∷ ks) c v h (same-more e s) u =
+        let a = stepped cap velocities t n c v k in
+        rw (admitted v k h e (u .0), calls-expected vd (suc i) ks (a .state) _ (step-room c v k h) s (u .1))
 
     -- The answers to them are the verdicts of a formula that the table observes.
-    module _ {f : Formula} (o : Observes cap t n f) (old : List ℕ) (room : n ≤ length old) where
-      calls-meant : (ks : List Tick) (v : List ℕ) → n ≤ length v → SameParameters ps ks
-          → answered (steps cap t n (freshened t n old .state) (callsOf (freshened t n old .state) v ks))
+    module _ {f : Formula} (o : Observes cap velocities t n f) (old : List ℕ) (room : n ≤ length old) where
+      abbrev fresh : List ℕ
+      fresh = freshened velocities t n old .state
+
+      calls-meant : (ks : List Tick) (v : List ℕ) → n ≤ length v → SameParameters ps ks → AllBelow velocities ks
+          → answered (steps cap velocities t n fresh (callsOf fresh v ks))
           ≡ verdictsFrom (verdict (traceOfTicks ps ks) f) 0 ks
-      calls-meant ks v h s =
-          let c = freshened t n old .state in
-          let same = calls-ticks ks c v h s in
-          answers-are o old room (callsOf c v ks) ps (rw same s)
-          ∙ ap (λ (l : List Tick). expected cap n (verdict (traceOfTicks ps l) f) 0 (callsOf c v ks)) same
-          ∙ calls-expected (verdict (traceOfTicks ps ks) f) 0 ks c v h s
+      calls-meant ks v h s u =
+          let same = calls-ticks ks fresh v h s u in
+          answers-are o old room (callsOf fresh v ks) ps (rw same s)
+          ∙ ap (λ (l : List Tick). expected cap velocities n (verdict (traceOfTicks ps l) f) 0 (callsOf fresh v ks))
+          same
+          ∙ calls-expected (verdict (traceOfTicks ps ks) f) 0 ks fresh v h s u
 
 -- ---- the tick lines
 
-same-parameters : {ps : List ℕ} {ls : List (List ℕ)} {ks : List Tick} → TickLines ps ls ks → SameParameters ps ks
+same-parameters : {velocities e : ℕ} {ps : List ℕ} {ls : List (List ℕ)} {ks : List Tick}
+    → TickLines velocities e ps ls ks → SameParameters ps ks
 same-parameters no-lines = same-none
 same-parameters (more-lines e r) = same-more refl (same-parameters r)
+
+all-below : {velocities e : ℕ} {ps : List ℕ} {ls : List (List ℕ)} {ks : List Tick} → 0 < velocities
+    → TickLines velocities e ps ls ks → AllBelow velocities ks
+all-below h no-lines = tt
+all-below {velocities} {e} h (more-lines {l} said r) = (ticked velocities e l said .low h, all-below h r)
 
 heads : {x y : Stepped} {xs ys : List Stepped} → x ∷ xs ≡ y ∷ ys → x ≡ y
 heads e = cc
@@ -125,57 +146,67 @@ heads e = cc
 tails : {x y : Stepped} {xs ys : List Stepped} → x ∷ xs ≡ y ∷ ys → xs ≡ ys
 tails e = cc
 
-module _ (ps t : List ℕ) (n : ℕ) where
+module _ (e : ℕ) (ps t : List ℕ) (n : ℕ) where
   -- What the first call of a list answers, and the others.
   module _ (c v : List ℕ) (k : Tick) (ks : List Tick) (vd : ℕ → ℕ) (i : ℕ)
-      (e : answered (steps standardCap t n c (callsOf standardCap t n c v (k ∷ ks))) ≡ verdictsFrom vd i (k ∷ ks)) where
+      (q : answered (steps standardCap velocityCount t n c (callsOf standardCap velocityCount t n c v (k ∷ ks)))
+      ≡ verdictsFrom vd i (k ∷ ks)) where
     abbrev one : AfterStep
-    one = stepped standardCap t n c v k
+    one = stepped standardCap velocityCount t n c v k
 
     first-answer : one .answer ≡ S.Verdict (vd i)
     unfolding steps callsOf verdictsFrom
-    first-answer = heads e
+    first-answer = heads q
 
     other-answers : answered
-        (steps standardCap t n (one .state) (callsOf standardCap t n (one .state) (one .values) ks))
+        (steps standardCap velocityCount t n (one .state)
+        (callsOf standardCap velocityCount t n (one .state) (one .values) ks))
         ≡ verdictsFrom vd (suc i) ks
     unfolding steps callsOf verdictsFrom
-    other-answers = tails e
+    other-answers = tails q
 
   -- The tick lines print what the calls answer, where these answers are verdicts, and then the card ends.
   ticks-owed : {ls rest : List (List ℕ)} {ks : List Tick} {left : ℕ} {tail : List ℕ} {o : Output}
-      → TickLines ps ls ks → Closes left rest tail o → (vd : ℕ → ℕ) (i : ℕ) (c v : List ℕ)
-      → answered (steps standardCap t n c (callsOf standardCap t n c v ks)) ≡ verdictsFrom vd i ks
-      → owed (worldOf (watchOf (stageAt P.Ticks (length ks + left)) n) ps t c v) (ls ++ rest) tail
+      → TickLines velocityCount e ps ls ks → Closes velocityCount e left rest tail o
+      → (vd : ℕ → ℕ) (i : ℕ) (c v : List ℕ)
+      → answered (steps standardCap velocityCount t n c (callsOf standardCap velocityCount t n c v ks))
+      ≡ verdictsFrom vd i ks
+      → owed (worldOf (watchOf (stageAt P.Ticks e (length ks + left)) n) ps t c v) (ls ++ rest) tail
       ≡ verdictLines vd i ks ++ outputBytes o
   unfolding owed verdictLines
-  ticks-owed {rest = rest} {left = left} {tail} no-lines h vd i c v e =
+  ticks-owed {rest = rest} {left = left} {tail} no-lines h vd i c v q =
       let none : length {A = Tick} [] + left ≡ left = omega arith in
-      ap (λ (m : ℕ). owed (worldOf (watchOf (stageAt P.Ticks m) n) ps t c v) rest tail) none ∙ closes-owed h n ps t c v
-  ticks-owed {rest = rest} {left = left} {tail} {o} (more-lines {l} {ls} {start = b} {signals} {ks} q r) h vd i c v e =
-      let k = tickOf b signals ps in
-      let a = stepped standardCap t n c v k in
+      ap (λ (m : ℕ). owed (worldOf (watchOf (stageAt P.Ticks e m) n) ps t c v) rest tail) none
+      ∙ closes-owed h n ps t c v
+  ticks-owed {rest = rest} {left = left} {tail} {o}
+      (more-lines {l} {ls} {start = b} {signals} {velocity} {ks} said r) h vd i c v q =
+      let k = tickOf b signals velocity ps in
+      let a = stepped standardCap velocityCount t n c v k in
       let less : suc (length ks) + left - 1 ≡ length ks + left = omega arith in
-      let w = watchOf (stageAt P.Ticks (suc (length ks) + left)) n in
+      let w = watchOf (stageAt P.Ticks e (suc (length ks) + left)) n in
       let here =
-      tick-lined ps t w l b signals (vd i) c v a refl (omega arith) q refl (first-answer c v k ks vd i e)
-      ∙ ap (λ (m : ℕ). saying ps t (watchOf (stageAt P.Ticks m) n) (vd i) (a .state) (a .values)) less in
+      tick-lined ps t w l b signals velocity (vd i) c v a refl (omega arith) said refl
+      (first-answer c v k ks vd i q)
+      ∙ ap (λ (m : ℕ). saying ps t (watchOf (stageAt P.Ticks e m) n) (vd i) (a .state) (a .values)) less in
       ap (λ (y : Effect). outputBytes (y .output) ++ owed (y .world) (ls ++ rest) tail) here
       ∙ ap (λ (z : List ℕ). outputBytes (O.Verdict (vd i)) ++ z)
-      (ticks-owed r h vd (suc i) (a .state) (a .values) (other-answers c v k ks vd i e))
+      (ticks-owed r h vd (suc i) (a .state) (a .values) (other-answers c v k ks vd i q))
       ∙ sym (append-assoc (outputBytes (O.Verdict (vd i))) (verdictLines vd (suc i) ks) (outputBytes o))
 
 -- From the fresh state of a table that observes a formula, these are the formula's verdicts.
-module _ {t ps : List ℕ} {n : ℕ} {f : Formula} (h : Observes standardCap t n f)
+module _ {t ps : List ℕ} {n : ℕ} {f : Formula} (h : Observes standardCap velocityCount t n f)
     (low : (j : ℕ) → getD ps j 0 < standardCap) where
-  pub ticks-meant : {ls rest : List (List ℕ)} {ks : List Tick} {left : ℕ} {tail : List ℕ} {o : Output}
-      → TickLines ps ls ks → Closes left rest tail o → (old v : List ℕ) → n ≤ length old → n ≤ length v
-      → owed (worldOf (watchOf (stageAt P.Ticks (length ks + left)) n) ps t (freshened t n old .state) v)
+  pub ticks-meant : {e : ℕ} {ls rest : List (List ℕ)} {ks : List Tick} {left : ℕ} {tail : List ℕ} {o : Output}
+      → TickLines velocityCount e ps ls ks → Closes velocityCount e left rest tail o → (old v : List ℕ)
+      → n ≤ length old → n ≤ length v
+      → owed
+      (worldOf (watchOf (stageAt P.Ticks e (length ks + left)) n) ps t (freshened velocityCount t n old .state) v)
       (ls ++ rest) tail
       ≡ verdictLines (verdict (traceOfTicks ps ks) f) 0 ks ++ outputBytes o
-  ticks-meant {ks = ks} lines closes old v room-c room-v =
-      ticks-owed ps t n lines closes (verdict (traceOfTicks ps ks) f) 0 (freshened t n old .state) v
-      (calls-meant standardCap t n ps low h old room-c ks v room-v (same-parameters lines))
+  ticks-meant {e = e} {ks = ks} lines closes old v room-c room-v =
+      ticks-owed e ps t n lines closes (verdict (traceOfTicks ps ks) f) 0 (freshened velocityCount t n old .state) v
+      (calls-meant standardCap velocityCount t n ps low h old room-c ks v room-v (same-parameters lines)
+      (all-below (omega arith) lines))
 
 -- ---- the rule
 
@@ -185,36 +216,37 @@ not-long true b x ws e = absurd (refused-made e)
 not-long false true x ws e = absurd (refused-made e)
 not-long false false x ws e = refl
 
-split-short : (text ws : List ℕ) → splitOf text ≡ made ws → length text ≤ textLimit
+split-short : (text ws : List ℕ) → splitOf standardContext text ≡ made ws → length text ≤ textLimit
 unfolding splitOf
 split-short text ws e = ltb-false _ _ (not-long (eqb (length text) 0) (ltb textLimit (length text)) _ ws e)
 
-pub rule-short : (text : List ℕ) (t : Tree) → ruleOf text ≡ rule t → length text ≤ textLimit
-rule-short text t e = let a = accepted text t .0 e in split-short text (a .ws) (a .words)
+pub rule-short : (text : List ℕ) (t : Tree) → ruleOf standardContext text ≡ rule t → length text ≤ textLimit
+rule-short text t e = let a = accepted standardContext text t .0 e in split-short text (a .ws) (a .words)
 
 -- Compiling the text gives a table that observes the formula.
 pub record Compile (text before : List ℕ) (f : Formula) : Type 0 where
   pub n : ℕ
   pub table : List ℕ
-  pub is : compiled text before ≡ afterCompile (C.Equations n) table
+  pub is : compiled standardContext text before ≡ afterCompile (C.Equations n) table
   pub few : n ≤ equationLimit
-  pub observes : Observes standardCap table n f
+  pub observes : Observes standardCap velocityCount table n f
 
-module _ (text before : List ℕ) (t : Tree) (e : ruleOf text ≡ rule t) (room : tableRoom ≤ length before) where
+module _ (text before : List ℕ) (t : Tree) (e : ruleOf standardContext text ≡ rule t)
+    (room : tableRoom ≤ length before) where
   of-observer : (f : Formula) → formulaOf t ≡ some f → (es : List Equation) → observer f ≡ es
       → sets before 0 (numbersOf es) ≡ numbersOf es ++ drop (4 * length es) before → length es ≤ equationLimit
-      → Observes standardCap (numbersOf es ++ drop (4 * length es) before) (length es) f
+      → Observes standardCap velocityCount (numbersOf es ++ drop (4 * length es) before) (length es) f
       → Compile text before f
   of-observer f is es same front few h =
       record {
         n = length es;
         table = sets before 0 (numbersOf es);
-        is = sym (room-compiled text before t e f is room es same);
+        is = sym (room-compiled standardContext text before t e f is room es same);
         few = few;
-        observes = subst (λ (l : List ℕ). Observes standardCap l (length es) f) (sym front) h;
+        observes = subst (λ (l : List ℕ). Observes standardCap velocityCount l (length es) f) (sym front) h;
       }
 
-  of-known : (k : Known t) → Compile text before (k .formula)
+  of-known : (k : Known standardContext t) → Compile text before (k .formula)
   of-known k =
       let f = k .formula in
       of-observer f (k .is) (observer f) refl
@@ -226,5 +258,5 @@ module _ (text before : List ℕ) (t : Tree) (e : ruleOf text ≡ rule t) (room 
 
   pub compile : (f : Formula) → formulaOf t ≡ some f → Compile text before f
   compile f is =
-      let k = known text t e in
+      let k = known standardContext standard-ranged text t e in
       subst (λ (g : Formula). Compile text before g) (same-formula (k .is) is) (of-known k)

@@ -7,10 +7,12 @@ use Prim.Native.Nat.{ℕ, _+_, _≤_}
 use native.Mathlib.Omega.{arith}
 use lib.Dec.{ltb}
 use lib.ListN.{length}
+use Rattle.limits.specs.Limits.{velocityCount}
 use Rattle.observers.specs.declared.Compiled.{Compiled}
 use Rattle.observers.specs.declared.Compiled.the-variants as C
 use Rattle.flows.specs.declared.Stepped.{Stepped}
 use Rattle.flows.specs.declared.Stepped.the-variants as S
+use Rattle.cards.specs.Ticks.{tickLength}
 use Rattle.cards.specs.Says.{Says, isOver, lineSays, stageAfter}
 use Rattle.cards.specs.Says.Says.{edition, parameters, rule, count, tick, refused, nothing}
 use Rattle.cards.specs.declared.Phase.{Phase}
@@ -67,8 +69,8 @@ module _ (p : Phase) (n : ℕ) (e : isOver p ≡ false) where
   rule-pays k (C.Equations m) w = quiet-pays _
   rule-pays k (C.Refused r) w = stop-pays (O.Refused r) w
 
-  -- A verdict has 10 bytes, and the tick line that it is for has 20.
-  step-pays : (k : Stage) (r : Stepped) (w : World) → n ≡ 20 → Pays p n (withStep k r w)
+  -- A verdict has 10 bytes, and the tick line that it is for has more.
+  step-pays : (k : Stage) (r : Stepped) (w : World) → tickLength ≤ n → Pays p n (withStep k r w)
   unfolding outputBytes
   step-pays k (S.Verdict v) w h = record { paid = omega (arith, h, no-debt p e) }
   step-pays k (S.Refused r) w h = stop-pays (O.Refused r) w
@@ -79,13 +81,13 @@ over-pays n w = record { paid = omega arith }
 
 played-pays : (k : Stage) (p : Phase) (left n : ℕ) (s : Says) (w : World) → Follows p left n s
     → Pays p n (playedTo k s w)
-played-pays k p left n edition w h = quiet-pays p n (ap isOver h) _
+played-pays k p left n (edition e) w h = quiet-pays p n (ap isOver h) _
 played-pays k p left n (parameters ps) w h = quiet-pays p n (ap isOver h) _
 played-pays k p left n (rule text) w h =
     let r = ruleMade text (w .table) (w .state) in rule-pays p n (ap isOver (h .0)) k (r .answer) (ruledWorld r w)
 played-pays k p left n (count m) w h = quiet-pays p n (ap isOver (h .0)) _
-played-pays k p left n (tick start signals) w h =
-    let a = stepOf start signals w in step-pays p n (ap isOver (h .0)) k (a .answer) (steppedWorld a w) (h .2)
+played-pays k p left n (tick start signals velocity) w h =
+    let a = stepOf start signals velocity w in step-pays p n (ap isOver (h .0)) k (a .answer) (steppedWorld a w) (h .2)
 played-pays k p left n (refused r) w h = stop-pays p n h (O.Refused r) w
 played-pays k p left n nothing w h = rw h (over-pays n w)
 
@@ -94,8 +96,8 @@ pub lined-pays : (w : World) (l : List ℕ) → Pays (w .watch .stage .phase) (l
 unfolding lined played
 lined-pays w l =
     let k = w .watch .stage in
-    let s = lineSays k l in
-    played-pays (stageAfter (k .left) s) (k .phase) (k .left) (length l) s w (says-follows k l)
+    let s = lineSays velocityCount k l in
+    played-pays (stageAfter k s) (k .phase) (k .left) (length l) s w (says-follows velocityCount k l)
 
 -- So does an over-long line that is not whole.
 pub broken-room : (p : Phase) → length (brokenBytes p) + debt p ≤ longestOutput

@@ -7,7 +7,8 @@ use native.Mathlib.Omega.{arith}
 use lib.ListN.{length, drop}
 use lib.Seq.{drop-drop}
 use borrow.Author.Tests.{ne-eqb, lt-leb}
-use Rattle.limits.specs.Limits.{standardCap, lineLimit}
+use Rattle.limits.specs.Limits.{standardCap, velocityCount, lineLimit}
+use Rattle.limits.specs.Context.{standardContext}
 use Rattle.traces.specs.Trace.{tickOf}
 use Rattle.traces.specs.declared.Tick.{Tick}
 use Rattle.lists.specs.Line.{line, lineFrom}
@@ -19,9 +20,9 @@ use Rattle.cards.specs.declared.Phase.{Phase}
 use Rattle.cards.specs.declared.Phase.the-variants as P
 use Rattle.cards.specs.declared.Stage.{Stage}
 use Rattle.cards.specs.declared.TickLine.the-variants as T
-use Rattle.cards.proofs.Hex.{tick-length}
 use Rattle.cards.proofs.Lines.{drop-line}
 use Rattle.cards.proofs.Stages.{says-follows, long-says, over-says}
+use Rattle.cards.proofs.Ticks.{ticked}
 use Rattle.observers.specs.Compile.{afterCompile, compiled}
 use Rattle.observers.specs.declared.Compiled.{Compiled}
 use Rattle.observers.specs.declared.Compiled.the-variants as C
@@ -37,16 +38,17 @@ use Rattle.player.specs.declared.Output.the-variants as O
 use Rattle.player.specs.declared.Watch.{Watch}
 
 -- A line that says s, with the stage k after it.
-pub plays : (w : World) (l : List ℕ) (s : Says) (k : Stage) → s ≡ lineSays (w .watch .stage) l
-    → k ≡ stageAfter (w .watch .stage .left) s → playedTo k s w ≡ lined w l
+pub plays : (w : World) (l : List ℕ) (s : Says) (k : Stage) → s ≡ lineSays velocityCount (w .watch .stage) l
+    → k ≡ stageAfter (w .watch .stage) s → playedTo k s w ≡ lined w l
 unfolding lined played
 plays w l s k e f = rw (f, e)
 
 -- The rule text is the part of the bytes that the card reader gives.
-rule-long : (k : Stage) (l text : List ℕ) → rule text ≡ lineSays k l → length ruleHead ≤ length l
-rule-long k l text e = (rw (sym e) at (says-follows k l)) .1
+rule-long : (k : Stage) (l text : List ℕ) → rule text ≡ lineSays velocityCount k l → length ruleHead ≤ length l
+rule-long k l text e = (rw (sym e) at (says-follows velocityCount k l)) .1
 
-pub text-at : (k : Stage) (s : List ℕ) (at : ℕ) → rule (afterHead ruleHead (lineFrom s at)) ≡ lineSays k (lineFrom s at)
+pub text-at : (k : Stage) (s : List ℕ) (at : ℕ)
+    → rule (afterHead ruleHead (lineFrom s at)) ≡ lineSays velocityCount k (lineFrom s at)
     → ruleFrom s at ≡ afterHead ruleHead (lineFrom s at)
 text-at k s at e =
     ap line (sym (drop-drop (length ruleHead) at s))
@@ -54,18 +56,19 @@ text-at k s at e =
 
 -- The rule text is compiled to the table t', and its fresh state made.
 pub rule-fresh : (text t c part t' c' : List ℕ) (n : ℕ) (r a : Compiled) (f : Fresh) → part ≡ text
-    → afterCompile r t' ≡ compiled part t → r ≡ C.Equations n → afterFresh f c' ≡ freshened t' n c → freshAs n f ≡ a
+    → afterCompile r t' ≡ compiled standardContext part t → r ≡ C.Equations n
+    → afterFresh f c' ≡ freshened velocityCount t' n c → freshAs n f ≡ a
     → afterRule a t' c' ≡ ruleMade text t c
 unfolding ruleMade
 rule-fresh text t c part t' c' n r a f p e i h j = rw (← p, ← e, i, ← h, ← j)
 
 -- A step at the tick t that gives this answer, and leaves this state and these values.
-pub step-ends : (k : Stage) (start signals : ℕ) (w : World) (t : Tick) (a r : Stepped) (c v : List ℕ)
-    → t ≡ tickOf start signals (w .parameters) → r ≡ a
-    → afterStep r c v ≡ stepped standardCap (w .table) (w .watch .n) (w .state) (w .values) t
-    → stepEffect k (afterStep a c v) w ≡ tickEffect k start signals w
-step-ends k start signals w t a r c v i e h =
-    let at-tick = ap (stepped standardCap (w .table) (w .watch .n) (w .state) (w .values)) i in
+pub step-ends : (k : Stage) (start signals velocity : ℕ) (w : World) (t : Tick) (a r : Stepped) (c v : List ℕ)
+    → t ≡ tickOf start signals velocity (w .parameters) → r ≡ a
+    → afterStep r c v ≡ stepped standardCap velocityCount (w .table) (w .watch .n) (w .state) (w .values) t
+    → stepEffect k (afterStep a c v) w ≡ tickEffect k start signals velocity w
+step-ends k start signals velocity w t a r c v i e h =
+    let at-tick = ap (stepped standardCap velocityCount (w .table) (w .watch .n) (w .state) (w .values)) i in
     ap (λ (x : AfterStep). stepEffect k x w) (ap (λ (x : Stepped). afterStep x c v) (sym e) ∙ h ∙ at-tick)
 
 -- An over-long line is broken,
@@ -82,28 +85,29 @@ pub long-lined : (w : World) (l : List ℕ) → lineLimit ≤ length l
     → lined w l ≡ endedBy (lastOutput (brokenBy (w .watch .stage .phase))) w
 unfolding lined
 long-lined w l h =
-    ap (played w) (long-says (w .watch .stage) l h) ∙ played-broken (w .watch .stage .phase) w
+    ap (played w) (long-says velocityCount (w .watch .stage) l h) ∙ played-broken (w .watch .stage .phase) w
 
 -- and a line does nothing once the card is over.
 pub over-lined : (w : World) (l : List ℕ) → w .watch .stage .phase ≡ P.Over → lined w l ≡ endedBy O.Quiet w
 unfolding lined played
-over-lined w l e = rw (over-says (w .watch .stage) l e)
+over-lined w l e = rw (over-says velocityCount (w .watch .stage) l e)
 
 -- ---- a tick line whose step gives a verdict
 
 -- One tick less is left after it.
 abbrev pub oneLess : Watch → Watch
-oneLess w = watchOf (stageAt (w .stage .phase) (w .stage .left - 1)) (w .n)
+oneLess w = watchOf (stageAt (w .stage .phase) (w .stage .edition) (w .stage .left - 1)) (w .n)
 
 module _ (ps t : List ℕ) where
   -- After a line that says a verdict.
   abbrev pub saying : Watch → ℕ → List ℕ → List ℕ → Effect
   saying w x c v = effectOf (O.Verdict x) (worldOf w ps t c v)
 
-  pub tick-lined : (w : Watch) (l : List ℕ) (i j x : ℕ) (c v : List ℕ) (a : AfterStep) → w .stage .phase ≡ P.Ticks
-      → 0 < w .stage .left → tickLine l ≡ T.Is i j → stepped standardCap t (w .n) c v (tickOf i j ps) ≡ a
-      → a .answer ≡ S.Verdict x → lined (worldOf w ps t c v) l ≡ saying (oneLess w) x (a .state) (a .values)
+  pub tick-lined : (w : Watch) (l : List ℕ) (i j u x : ℕ) (c v : List ℕ) (a : AfterStep) → w .stage .phase ≡ P.Ticks
+      → 0 < w .stage .left → tickLine velocityCount (w .stage .edition) l ≡ T.Is i j u
+      → stepped standardCap velocityCount t (w .n) c v (tickOf i j u ps) ≡ a → a .answer ≡ S.Verdict x
+      → lined (worldOf w ps t c v) l ≡ saying (oneLess w) x (a .state) (a .values)
   unfolding lined played lineSays
-  tick-lined w l i j x c v a p more e q y =
-      let short : length l < lineLimit = omega (arith, tick-length l i j e) in
+  tick-lined w l i j u x c v a p more e q y =
+      let short : length l < lineLimit = ticked velocityCount (w .stage .edition) l e .short in
       rw (lt-leb lineLimit (length l) short, p, ne-eqb (w .stage .left) 0 (λ z. omega arith), e, q, y)

@@ -5,7 +5,7 @@ use mathlib.Core.Bool.{false, false≢true}
 use mathlib.Core.List.{List}
 use Prim.Native.Nat.{ℕ, _+_, _≤_, _<_}
 use lib.ListN.{length}
-use Rattle.limits.specs.Limits.{lineLimit}
+use Rattle.limits.specs.Limits.{velocityCount, lineLimit}
 use Rattle.observers.specs.declared.Compiled.{Compiled}
 use Rattle.observers.specs.declared.Compiled.the-variants as C
 use Rattle.flows.specs.declared.Stepped.{Stepped}
@@ -30,20 +30,20 @@ step-reaches k (S.Verdict v) w o = refl
 step-reaches k (S.Refused r) w o = absurd (false≢true (sym o))
 
 played-reaches : (k : Stage) (s : Says) (w : World) → Reaches k (playedTo k s w)
-played-reaches k edition w o = refl
+played-reaches k (edition e) w o = refl
 played-reaches k (parameters ps) w o = refl
 played-reaches k (rule text) w o =
     let r = ruleMade text (w .table) (w .state) in rule-reaches k (r .answer) (ruledWorld r w) o
 played-reaches k (count m) w o = refl
-played-reaches k (tick start signals) w o =
-    let a = stepOf start signals w in step-reaches k (a .answer) (steppedWorld a w) o
+played-reaches k (tick start signals velocity) w o =
+    let a = stepOf start signals velocity w in step-reaches k (a .answer) (steppedWorld a w) o
 played-reaches k (refused r) w o = absurd (false≢true (sym o))
 played-reaches k nothing w o = absurd (false≢true (sym o))
 
 lined-reaches : (w : World) (l : List ℕ)
-    → Reaches (stageAfter (w .watch .stage .left) (lineSays (w .watch .stage) l)) (lined w l)
+    → Reaches (stageAfter (w .watch .stage) (lineSays velocityCount (w .watch .stage) l)) (lined w l)
 unfolding lined played
-lined-reaches w l o = played-reaches _ (lineSays (w .watch .stage) l) w o
+lined-reaches w l o = played-reaches _ (lineSays velocityCount (w .watch .stage) l) w o
 
 -- So it is not over-long, and fewer lines may come after it.
 pub record Nearer (w : World) (l : List ℕ) : Type 0 where
@@ -53,5 +53,5 @@ pub record Nearer (w : World) (l : List ℕ) : Type 0 where
 pub nearer : (w : World) (l : List ℕ) → isOver (lined w l .world .watch .stage .phase) ≡ false → Nearer w l
 nearer w l o =
     let e = lined-reaches w l o in
-    let h = near (w .watch .stage) l (ap (λ (k : Stage). isOver (k .phase)) (sym e) ∙ o) in
+    let h = near velocityCount (w .watch .stage) l (ap (λ (k : Stage). isOver (k .phase)) (sym e) ∙ o) in
     record { short = h .short; fewer = rw e (h .fewer) }

@@ -26,6 +26,10 @@ refusal-18 : outputBytes (O.Refused 18) ≡ bytes "refused=18" ++ (10 ∷ [])
 unfolding outputBytes refusalDigits
 refusal-18 = refl
 
+refusal-19 : outputBytes (O.Refused 19) ≡ bytes "refused=19" ++ (10 ∷ [])
+unfolding outputBytes refusalDigits
+refusal-19 = refl
+
 verdict-0 : outputBytes (O.Verdict 0) ≡ bytes "verdict=0" ++ (10 ∷ [])
 unfolding outputBytes
 verdict-0 = refl
@@ -43,10 +47,15 @@ empty : printed [] ≡ bytes "refused=17" ++ (10 ∷ [])
 unfolding printed prints owed cut outputBytes refusalDigits
 empty = refl
 
-broken-first : printed (bytes "edition=2" ++ (10 ∷ [])) ≡ bytes "refused=17" ++ (10 ∷ [])
+broken-first : printed (bytes "edition=3" ++ (10 ∷ [])) ≡ bytes "refused=17" ++ (10 ∷ [])
 unfolding printed prints owed cut lined played lineSays outputBytes refusalDigits
 broken-first = refl
 
 unended-first : printed (bytes "edition=1") ≡ bytes "refused=17" ++ (10 ∷ [])
 unfolding printed prints owed cut outputBytes refusalDigits
 unended-first = refl
+
+-- The line of the second edition is fine, and the second line is missing.
+second-missing : printed (bytes "edition=2" ++ (10 ∷ [])) ≡ bytes "refused=17" ++ (10 ∷ [])
+unfolding printed prints owed cut lined played lineSays outputBytes refusalDigits
+second-missing = refl

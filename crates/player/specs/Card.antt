@@ -6,7 +6,8 @@ use Prim.Native.Nat.{ℕ, _+_, _<_}
 use lib.ListN.{length, replicate}
 use denote.Ref.{RefT, now}
 use denote.Triple.Both.{Both}
-use Rattle.limits.specs.Limits.{standardCap, parameterCount, tableRoom, equationLimit}
+use Rattle.limits.specs.Limits.{standardCap, velocityCount, parameterCount, tableRoom, equationLimit}
+use Rattle.limits.specs.Context.{standardContext}
 use Rattle.lists.specs.Line.{lineFrom}
 use Rattle.traces.specs.Trace.{tickOf}
 use Rattle.observers.specs.Compile.{AfterCompile, compiled}
@@ -18,10 +19,9 @@ use Rattle.flows.specs.declared.Fresh.the-variants as F
 use Rattle.flows.specs.declared.Stepped.{Stepped}
 use Rattle.flows.specs.declared.Stepped.the-variants as S
 use Rattle.cards.specs.Lines.{cut}
-use Rattle.cards.specs.Says.{Says, stageAt, firstStage, brokenBy, lineSays, stageAfter, endSays}
+use Rattle.cards.specs.Says.{Says, firstStage, overStage, brokenBy, lineSays, stageAfter, endSays}
 use Rattle.cards.specs.Says.Says.{edition, parameters, rule, count, tick, refused, nothing}
 use Rattle.cards.specs.declared.Phase.{Phase}
-use Rattle.cards.specs.declared.Phase.the-variants as P
 use Rattle.cards.specs.declared.Stage.{Stage}
 use Rattle.player.specs.Output.{outputBytes}
 use Rattle.player.specs.declared.Output.{Output}
@@ -79,7 +79,7 @@ movedOn k o w = effectOf o (withWatch k w)
 
 -- SPEC 10.10: nothing is printed after a refusal. The card is over after this output.
 abbrev pub overWatch : Watch
-overWatch = watchOf (stageAt P.Over 0) 0
+overWatch = watchOf overStage 0
 
 abbrev pub overWorld : World → World
 overWorld w = withWatch overWatch w
@@ -111,7 +111,7 @@ abbrev pub madeFresh : ℕ → List ℕ → AfterFresh → AfterRule
 madeFresh n t f = afterRule (freshAs n (f .answer)) t (f .state)
 
 abbrev pub madeAs : Compiled → List ℕ → List ℕ → AfterRule
-madeAs (C.Equations n) t c = madeFresh n t (freshened t n c)
+madeAs (C.Equations n) t c = madeFresh n t (freshened velocityCount t n c)
 madeAs (C.Refused r) t c = afterRule (C.Refused r) t c
 
 abbrev pub madeBy : AfterCompile → List ℕ → AfterRule
@@ -119,7 +119,7 @@ madeBy k c = madeAs (k .answer) (k .table) c
 
 -- SPEC 10.9: at its line a rule is judged. It is compiled, and its fresh state made.
 unfoldable pub ruleMade : List ℕ → List ℕ → List ℕ → AfterRule
-ruleMade text t c = madeBy (compiled text t) c
+ruleMade text t c = madeBy (compiled standardContext text t) c
 
 -- A rule with a refusal ends the card.
 abbrev pub ruleAnswer : Stage → Compiled → Answered
@@ -146,29 +146,30 @@ steppedWorld a w = worldOf (w .watch) (w .parameters) (w .table) (a .state) (a .
 abbrev pub stepEffect : Stage → AfterStep → World → Effect
 stepEffect k a w = withStep k (a .answer) (steppedWorld a w)
 
-abbrev pub stepOf : ℕ → ℕ → World → AfterStep
-stepOf start signals w =
-    stepped standardCap (w .table) (w .watch .n) (w .state) (w .values) (tickOf start signals (w .parameters))
+abbrev pub stepOf : ℕ → ℕ → ℕ → World → AfterStep
+stepOf start signals velocity w =
+    stepped standardCap velocityCount (w .table) (w .watch .n) (w .state) (w .values)
+    (tickOf start signals velocity (w .parameters))
 
-abbrev pub tickEffect : Stage → ℕ → ℕ → World → Effect
-tickEffect k start signals w = stepEffect k (stepOf start signals w) w
+abbrev pub tickEffect : Stage → ℕ → ℕ → ℕ → World → Effect
+tickEffect k start signals velocity w = stepEffect k (stepOf start signals velocity w) w
 
 -- What a line does that says so, k being the stage after it.
 abbrev pub playedTo : Stage → Says → World → Effect
-playedTo k edition w = movedOn (watchOf k 0) O.Quiet w
+playedTo k (edition e) w = movedOn (watchOf k 0) O.Quiet w
 playedTo k (parameters ps) w = effectOf O.Quiet (worldOf (watchOf k 0) ps (w .table) (w .state) (w .values))
 playedTo k (rule text) w = ruleEffect k (ruleMade text (w .table) (w .state)) w
 playedTo k (count m) w = movedOn (watchOf k (w .watch .n)) O.Quiet w
-playedTo k (tick start signals) w = tickEffect k start signals w
+playedTo k (tick start signals velocity) w = tickEffect k start signals velocity w
 playedTo k (refused r) w = endedBy (O.Refused r) w
 playedTo k nothing w = endedBy O.Quiet w
 
 unfoldable pub played : World → Says → Effect
-played w s = playedTo (stageAfter (w .watch .stage .left) s) s w
+played w s = playedTo (stageAfter (w .watch .stage) s) s w
 
 -- SPEC 10.9, one line after another: what a line does, given without its byte 10.
 unfoldable pub lined : World → List ℕ → Effect
-lined w l = played w (lineSays (w .watch .stage) l)
+lined w l = played w (lineSays velocityCount (w .watch .stage) l)
 
 -- The line of the bytes s at the place `at` ends before the place `to`, and its line end is among the bytes.
 pub record WholeLine (s : List ℕ) (at to : ℕ) : Type 0 where
@@ -179,11 +180,11 @@ pub record WholeLine (s : List ℕ) (at to : ℕ) : Type 0 where
 
 -- What is printed for a line that ends the card: a refusal (SPEC 10.10), or nothing.
 abbrev pub lastOutput : Says → Output
-lastOutput edition = O.Quiet
+lastOutput (edition e) = O.Quiet
 lastOutput (parameters ps) = O.Quiet
 lastOutput (rule text) = O.Quiet
 lastOutput (count k) = O.Quiet
-lastOutput (tick start signals) = O.Quiet
+lastOutput (tick start signals velocity) = O.Quiet
 lastOutput (refused r) = O.Refused r
 lastOutput nothing = O.Quiet
 

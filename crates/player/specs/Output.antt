@@ -9,7 +9,7 @@ use Rattle.lists.specs.Text.{bytes}
 use Rattle.player.specs.declared.Output.{Output}
 use Rattle.player.specs.declared.Output.the-variants as O
 
--- A refusal's number in decimal digits. Refusals are 1 to 18: of a longer number these would be the last two digits.
+-- A refusal's number in decimal digits. Refusals are 1 to 19: of a longer number these would be the last two digits.
 unfoldable pub refusalDigits : ℕ → List ℕ
 refusalDigits r = cond (ltb r 10) (digit (r % 10) ∷ []) (digit (r / 10 % 10) ∷ digit (r % 10) ∷ [])
 

@@ -61,6 +61,7 @@ fn stop(output: Output) -> Answered
         watch: Watch {
             stage: Stage {
                 phase: Phase::Over,
+                edition: cards::NO_EDITION,
                 left: 0,
             },
             n: 0,
@@ -83,11 +84,11 @@ pub fn last_output(content: Content) -> Output
     ensures { λ r. ⌜ ((ps l : List ℕ) → r ≡ lastOutput (saysBy content ps l)) ⌝ }
 {
     match content {
-        Content::Edition => Output::Quiet,
+        Content::Edition(e) => Output::Quiet,
         Content::Parameters => Output::Quiet,
         Content::Rule => Output::Quiet,
         Content::Count(k) => Output::Quiet,
-        Content::Tick { start, signals } => Output::Quiet,
+        Content::Tick(start, signals, velocity) => Output::Quiet,
         Content::Refused(r) => Output::Refused(r),
         Content::Nothing => Output::Quiet,
     }
@@ -118,16 +119,17 @@ fn on_tick(
     w: Watch,
     start: u32,
     signals: u64,
+    velocity: u32,
     parameters: &[u32; limits::PARAMETERS],
     table: &[u32],
     state: &mut [u32],
     values: &mut [u32],
 ) -> Answered
     ensures { λ r. ⌜ effectOf (r .output) (leaving (r .watch) parameters table state values)
-        ≡ tickEffect next start signals (entering w parameters table state values) ⌝ }
+        ≡ tickEffect next start signals velocity (entering w parameters table state values) ⌝ }
 {
     let n = w.n;
-    let now = traces::tick_of(start, signals, *parameters);
+    let now = traces::tick_of(start, signals, velocity, *parameters);
     let stepped = flows::step(table, n, state, values, now);
     match stepped {
         Stepped::Verdict(v) => go_on(next, n, Output::Verdict(v)),
@@ -151,11 +153,11 @@ pub fn on_line(
         ≡ lined (entering w parameters table state values) (lineFrom (now (bytes .entry)) at) ⌝ }
 {
     let stage = w.stage;
-    let read = cards::read_line(stage, &bytes[at..to]);
+    let read = cards::read_line(limits::VELOCITIES, stage, &bytes[at..to]);
     let content = read.content;
-    let next = cards::stage_after(stage.left, content);
+    let next = cards::stage_after(stage, content);
     match content {
-        Content::Edition => go_on(next, 0, Output::Quiet),
+        Content::Edition(e) => go_on(next, 0, Output::Quiet),
         Content::Parameters => {
             let eight = read.parameters;
             *parameters = eight;
@@ -163,8 +165,8 @@ pub fn on_line(
         }
         Content::Rule => rule_answer(next, rule_line(bytes, at, table, state)),
         Content::Count(k) => go_on(next, w.n, Output::Quiet),
-        Content::Tick { start, signals } => {
-            on_tick(next, w, start, signals, parameters, table, state, values)
+        Content::Tick(start, signals, v) => {
+            on_tick(next, w, start, signals, v, parameters, table, state, values)
         }
         Content::Refused(r) => stop(Output::Refused(r)),
         Content::Nothing => stop(Output::Quiet),

@@ -185,8 +185,8 @@ reached-start =
       came = refl;
       gone = refl;
       going = refl;
-      read = omega (arith, rank-first 0);
-      written = omega (arith, rank-first 0);
+      read = omega (arith, rank-first 0 0);
+      written = omega (arith, rank-first 0 0);
     }
 
 -- What goes on after some bytes goes on after a piece more.

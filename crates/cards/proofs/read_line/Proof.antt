@@ -18,37 +18,18 @@ over-long c = (
   λ h. c .plain .ensures .1,
 )
 
--- The edition: fine, or not.
-edition-fine : tie.Need-returns-2
+-- The edition.
+edition : tie.Need-returns-3
 unfolding lineSays
-edition-fine c =
-    let line = c .before .before .before in (
-      rw (
-        c .plain2 .ensures .0,
-        lt-leb _ _ (line .before .before .if1 .left),
-        line .enum-told .given .1,
-        ← c .before .before .edition-line .ensures,
-        c .before .if2 .taken,
-      ),
+edition c =
+    let line = c .before .before in (
+      rw (c .plain2 .ensures .0, lt-leb _ _ (line .before .before .if1 .left), line .enum-told .given .1)
+          (c .before .edition-content .ensures _ _),
       λ h. c .plain2 .ensures .1,
     )
 
-edition-broken : tie.Need-returns-4
-unfolding lineSays
-edition-broken c =
-    let line = c .before .before .before in (
-      rw (
-        c .plain3 .ensures .0,
-        lt-leb _ _ (line .before .before .if1 .left),
-        line .enum-told .given .1,
-        ← c .before .before .edition-line .ensures,
-        c .before .if2 .left,
-      ),
-      λ h. c .plain3 .ensures .1,
-    )
-
 -- The parameters.
-parameters : tie.Need-returns-5
+parameters : tie.Need-returns-4
 unfolding lineSays
 parameters c =
     let line = c .before in (
@@ -57,9 +38,24 @@ parameters c =
     )
 
 -- The rule: `watch=`, or not.
-rule-fine : tie.Need-returns-3
+rule-fine : tie.Need-returns-2
 unfolding lineSays
 rule-fine c =
+    let begun = c .before .before in
+    let line = rule-phase begun in (
+      rw (
+        c .plain3 .ensures .0,
+        lt-leb _ _ (line .before .before .if1 .left),
+        line .enum-told3 .given .1,
+        ← begun .has-prefix .ensures,
+        c .before .if2 .taken,
+      ),
+      λ h. c .plain3 .ensures .1,
+    )
+
+rule-broken : tie.Need-returns-5
+unfolding lineSays
+rule-broken c =
     let begun = c .before .before in
     let line = rule-phase begun in (
       rw (
@@ -67,52 +63,37 @@ rule-fine c =
         lt-leb _ _ (line .before .before .if1 .left),
         line .enum-told3 .given .1,
         ← begun .has-prefix .ensures,
-        c .before .if3 .taken,
+        c .before .if2 .left,
       ),
       λ h. c .plain4 .ensures .1,
     )
 
-rule-broken : tie.Need-returns-6
-unfolding lineSays
-rule-broken c =
-    let begun = c .before .before in
-    let line = rule-phase begun in (
-      rw (
-        c .plain5 .ensures .0,
-        lt-leb _ _ (line .before .before .if1 .left),
-        line .enum-told3 .given .1,
-        ← begun .has-prefix .ensures,
-        c .before .if3 .left,
-      ),
-      λ h. c .plain5 .ensures .1,
-    )
-
 -- The number of ticks, and a tick.
-count : tie.Need-returns-7
+count : tie.Need-returns-6
 unfolding lineSays
 count c =
     let line = c .before .before in (
-      rw (c .plain6 .ensures .0, lt-leb _ _ (line .before .before .if1 .left), line .enum-told4 .given .1)
+      rw (c .plain5 .ensures .0, lt-leb _ _ (line .before .before .if1 .left), line .enum-told4 .given .1)
           (c .before .count-content .ensures _ _),
-      λ h. c .plain6 .ensures .1,
+      λ h. c .plain5 .ensures .1,
     )
 
-tick : tie.Need-returns-8
+tick : tie.Need-returns-7
 unfolding lineSays
 tick c =
     let line = c .before .before in (
-      rw (c .plain7 .ensures .0, lt-leb _ _ (line .before .before .if1 .left), line .enum-told5 .given .1)
+      rw (c .plain6 .ensures .0, lt-leb _ _ (line .before .before .if1 .left), line .enum-told5 .given .1)
           (c .before .tick-content .ensures _ _),
-      λ h. c .plain7 .ensures .1,
+      λ h. c .plain6 .ensures .1,
     )
 
 -- The card is over.
-over : tie.Need-returns-9
+over : tie.Need-returns-8
 unfolding lineSays
 over c =
     let line = c .before in (
-      rw (c .plain8 .ensures .0, lt-leb _ _ (line .before .before .if1 .left), line .enum-told6 .given .1),
-      λ h. c .plain8 .ensures .1,
+      rw (c .plain7 .ensures .0, lt-leb _ _ (line .before .before .if1 .left), line .enum-told6 .given .1),
+      λ h. c .plain7 .ensures .1,
     )
 
 pub read-line-spec : {M : Type 1} → statement M
@@ -124,8 +105,6 @@ read-line-spec =
     over-long
     (λ c. search needs)
     (λ c κs. search needs)
-    (λ c κs. search needs)
-    edition-fine
     (λ c κs. search needs)
     (λ c. search needs)
     (λ c κs. search needs)
@@ -143,7 +122,7 @@ read-line-spec =
     (λ c κs. search needs)
     (λ c. search needs)
     (λ c κs. search needs)
-    edition-broken
+    edition
     parameters
     rule-broken
     count

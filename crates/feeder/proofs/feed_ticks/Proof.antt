@@ -2,6 +2,7 @@
 use mathlib.Core.Path.{refl, sym, _∙_}
 use mathlib.Core.List.{[], _∷_}
 use types.Run.{miss}
+use native.Mathlib.Omega.{arith}
 use borrow.Author.Needs.{needs}
 use Rattle.player.specs.Card.{brought}
 use Rattle.tables.proofs.Checks.{failed-passed}
@@ -65,8 +66,10 @@ step-refused c =
     let checked = c .before .before .before in
     let refused = sym (c .before .enum-told3 .given .1) ∙ checked .step-checked .ensures in
     let is = built checked .tick-of .ensures in
-    rw (c .fed-to2 .ensures)
-    (runs-none _ _ _, (λ admits more. absurd (failed-passed (refused ∙ passes-at _ _ admits is)), λ no. refl))
+    rw (c .fed-to2 .ensures) (
+      runs-none _ _ _,
+      (λ admits more. absurd (failed-passed (refused ∙ passes-at _ _ admits (omega arith) is)), λ no. refl),
+    )
 
 run-ticks-requires : tie.Need-run-ticks-requires
 run-ticks-requires c κs =

@@ -1,29 +1,33 @@
 -- `feeder::run_ticks` meets its contract. The invariant: what stands between two lines of the piece (`Between`), and no
 -- step has a refusal. Assumes nothing.
 use mathlib.Core.Path.{_≡_, refl, sym, _∙_}
-use Prim.Native.Nat.{_+_, _<_}
 use native.Mathlib.Omega.{arith}
 use borrow.Author.Needs.{needs}
+use mathlib.Core.List.{List}
+use Prim.Native.Nat.{ℕ}
 use lib.ListN.{length}
+use Rattle.limits.specs.Limits.{velocityCount}
 use Rattle.cards.specs.Says.{stageAt}
-use Rattle.cards.specs.Ticks.{tickLength}
+use Rattle.cards.specs.Place.{tickAt}
+use Rattle.cards.specs.declared.TickFound.the-variants as F
 use Rattle.player.specs.Card.{worldOf, watchOf}
+use Rattle.cards.proofs.Front.{none-first}
 use Rattle.feeder.specs.Feed.{Admitted}
 use Rattle.feeder.proofs.Feeding.{Between, begun}
-use Rattle.feeder.proofs.TickRuns.{passes-at, admitted-on, line-inside, verdict-room, after-tick, runs-all}
+use Rattle.feeder.proofs.TickRuns.{passes-at, velocity-low, admitted-on, verdict-room, after-tick, runs-all}
 use Rattle.feeder.proofs.run_ticks.Statement.{statement}
 use Rattle.feeder.proofs.run_ticks.Tie as tie
 
 abbrev Inv-loop : tie.InvT-loop
-Inv-loop bytes ps table state₀ values₀ out₀ phase n left₀ used₀ at₀ state values out left used at =
-    let w₀ = worldOf (watchOf (stageAt phase left₀) n) ps table state₀ values₀ in
-    let w = worldOf (watchOf (stageAt phase left) n) ps table state values in
+Inv-loop bytes ps table state₀ values₀ out₀ phase edition n left₀ used₀ at₀ state values out left used at =
+    let w₀ = worldOf (watchOf (stageAt phase edition left₀) n) ps table state₀ values₀ in
+    let w = worldOf (watchOf (stageAt phase edition left) n) ps table state values in
     Between w₀ bytes out₀ w out used at
     × Admitted w
     × (length state ≡ length state₀) × (length values ≡ length values₀)
 
 abbrev μ-loop : tie.MeasureT-loop
-μ-loop bytes ps table state₀ values₀ out₀ phase n left₀ used₀ at₀ state values out left used at = left
+μ-loop bytes ps table state₀ values₀ out₀ phase edition n left₀ used₀ at₀ state values out left used at = left
 
 -- ---- the places
 
@@ -38,10 +42,10 @@ entry c = start (c .before .before)
 abbrev built : tie.After-step-passed Inv-loop μ-loop → tie.After-tick-of Inv-loop μ-loop
 built c = c .before .before .before
 
-abbrev read : tie.After-step-passed Inv-loop μ-loop → tie.After-start Inv-loop μ-loop
+abbrev read : tie.After-step-passed Inv-loop μ-loop → tie.After-found Inv-loop μ-loop
 read c = built c .before .before .before
 
-abbrev turn : tie.After-start Inv-loop μ-loop → tie.At-loop Inv-loop μ-loop
+abbrev turn : tie.After-found Inv-loop μ-loop → tie.At-loop Inv-loop μ-loop
 turn c = c .before .before .before .before
 
 -- The step, from where the output is lent for its verdict, and that place from the end of the turn.
@@ -58,6 +62,10 @@ looked c = c .before .before .before .before
 abbrev stopped : tie.After-fed-to Inv-loop μ-loop → tie.At-loop Inv-loop μ-loop
 stopped c = looked c .before .before
 
+-- The piece that is fed.
+abbrev piece : tie.At-loop Inv-loop μ-loop → List ℕ
+piece c = entry c .args .bytes .now
+
 -- ---- the needs
 
 loop-holds : tie.Need-loop-holds Inv-loop μ-loop
@@ -69,7 +77,9 @@ line-broken c =
     let loop = stopped c in
     rw (c .fed-to .ensures, c .before .watch-at .ensures) (
       runs-all (loop .loop .inv .0) (entry loop .pre .1 .phase) (loop .loop .inv .1 .phase),
-      λ more. sym (looked c .tick-at .ensures) ∙ c .before .before .enum-told .given .1,
+      λ more.
+          none-first velocityCount _ (piece loop) (loop .loop .used)
+          (sym (c .before .before .enum-told .given .1) ∙ looked c .tick-at .ensures),
     )
 
 none-left : tie.Need-returns-2 Inv-loop μ-loop
@@ -80,42 +90,46 @@ none-left c =
       λ more. absurd (omega (arith, more, c .before .before .loop-test .left)),
     )
 
--- A tick line, and its step.
+-- A tick line: what is found at its place,
+found : (c : tie.After-found Inv-loop μ-loop) →
+    let loop = turn c in
+    let line = c .found .given .0 in
+    F.Is (line .0) (line .1 .0) (line .1 .1 .0) (line .1 .1 .1 .0)
+    ≡ tickAt velocityCount (entry loop .args .watch .stage .edition) (piece loop) (loop .loop .used)
+found c = sym (c .found .given .1) ∙ c .before .before .tick-at .ensures
+
+-- and its step.
 step-passed-requires : tie.Need-step-passed-requires Inv-loop μ-loop
 step-passed-requires c κs =
     let tick = c .before .before in
-    passes-at _ _ (turn (tick .before .before .before) .loop .inv .1) (tick .tick-of .ensures)
+    let line = tick .before .before .before in
+    let loop = turn line in
+    let admits = loop .loop .inv .1 in
+    let low = velocity-low _ _ (piece loop) (loop .loop .used) admits (found line) in
+    passes-at _ _ admits low (tick .tick-of .ensures)
 
 put-verdict-requires : tie.Need-put-verdict-requires Inv-loop μ-loop
 put-verdict-requires c κs =
     let step = stepped c in
-    let tick = read step in
-    let line = tick .before .before in
-    let inv = turn tick .loop .inv in
-    verdict-room _ _ (inv .1) _ _ (built step .tick-of .ensures) (step .step-passed .ensures) (inv .0)
-    (sym (tick .start .given .1) ∙ line .tick-at .ensures) (line .before .loop-test .taken)
-
-inside : (c : tie.After-slice-known6 Inv-loop μ-loop) →
-    let loop = turn (read (stepped (lent c))) in
-    loop .loop .used + tickLength < length (entry loop .args .bytes .now)
-inside c =
-    let step = stepped (lent c) in
-    let tick = read step in
-    let line = tick .before .before in
-    let inv = turn tick .loop .inv in
-    line-inside _ _ (inv .1) _ _ (built step .tick-of .ensures) (step .step-passed .ensures) (inv .0)
-    (sym (tick .start .given .1) ∙ line .tick-at .ensures) (line .before .loop-test .taken)
+    let line = read step in
+    let loop = turn line in
+    let inv = loop .loop .inv in
+    let more = line .before .before .before .loop-test .taken in
+    verdict-room _ _ (piece loop) (loop .loop .used) (inv .1) (found line) (built step .tick-of .ensures)
+    (step .step-passed .ensures) (inv .0) more
 
 loop-again : tie.Need-loop-again Inv-loop μ-loop
 loop-again c =
     let put = c .before .before .put-verdict .ensures in
     let step = stepped (lent c) in
-    let tick = read step in
-    let line = tick .before .before in
-    let inv = turn tick .loop .inv in (
-      after-tick _ _ (inv .1) _ _ (built step .tick-of .ensures) (step .step-passed .ensures) (inv .0)
-          (sym (tick .start .given .1) ∙ line .tick-at .ensures) (line .before .loop-test .taken) (put .0) (put .1),
-      admitted-on _ _ (inv .1) _ _ (built step .tick-of .ensures) (step .step-passed .ensures),
+    let line = read step in
+    let loop = turn line in
+    let inv = loop .loop .inv in
+    let more = line .before .before .before .loop-test .taken in (
+      after-tick _ _ (piece loop) (loop .loop .used) (inv .1) (found line) (built step .tick-of .ensures)
+          (step .step-passed .ensures) (inv .0) more (put .0) (put .1),
+      admitted-on _ _ (piece loop) (loop .loop .used) (inv .1) (found line) (built step .tick-of .ensures)
+          (step .step-passed .ensures),
       omega (arith, step .step-passed .kept, inv .2),
       omega (arith, step .step-passed .kept, inv .3),
     )
@@ -139,7 +153,6 @@ run-ticks-spec =
     (λ c κs. search needs)
     step-passed-requires
     put-verdict-requires
-    (λ c. omega (arith, inside c, entry (turn (read (stepped (lent c)))) .good))
     (λ c. search needs)
     (λ c. omega arith)
     loop-again

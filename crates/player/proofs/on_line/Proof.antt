@@ -7,6 +7,7 @@ use native.Mathlib.Omega.{arith}
 use borrow.Author.Needs.{needs}
 use lib.ListN.{length, take, drop}
 use Rattle.observers.specs.declared.Compiled.{Compiled}
+use Rattle.limits.specs.Limits.{velocityCount}
 use Rattle.lists.specs.Line.{lineFrom}
 use Rattle.cards.specs.Says.{saysBy, lineSays}
 use Rattle.cards.specs.declared.Stage.{Stage}
@@ -55,7 +56,7 @@ module _ (c : tie.After-stage-after) where
       ap (λ (n : ℕ). take n (drop at (args .bytes .now))) e ∙ take-line (drop at (args .bytes .now))
 
   -- so it says what the line says.
-  says : saysBy told eight line ≡ lineSays (world .watch .stage) line
+  says : saysBy told eight line ≡ lineSays velocityCount (world .watch .stage) line
   says = rw is-line at (c .before .read-line .ensures .0)
 
   -- What is played of it.
@@ -70,7 +71,7 @@ module _ (c : tie.After-stage-after) where
       → ruleEffect next (afterRule r t s) world ≡ lined world line
   rule-ends e r t s h =
       let args = begun c .args in
-      let is : saysBy Line.Rule eight line ≡ lineSays (world .watch .stage) line =
+      let is : saysBy Line.Rule eight line ≡ lineSays velocityCount (world .watch .stage) line =
       ap (λ (y : Content). saysBy y eight line) (sym e) ∙ says in
       let text = text-at (world .watch .stage) (args .bytes .now) (args .at) is in
       ap (λ (x : AfterRule). ruleEffect next x world)
@@ -81,31 +82,33 @@ module _ (c : tie.After-stage-after) where
 
 -- The edition, the parameters, the number of ticks, a refusal, nothing.
 edition : tie.Need-returns
-edition c = rw (c .go-on .ensures) (ends (c .before .before .before) Line.Edition (c .before .enum-told .given .1))
+edition c =
+    let told = c .before .before in
+    rw (c .go-on .ensures) (ends (told .before .before) (Line.Edition _) (told .content .given .1))
 
 parameters : tie.Need-returns-2
 parameters c =
     let told = c .before .before in
-    rw (c .go-on2 .ensures) (ends (told .before .before) Line.Parameters (told .enum-told2 .given .1))
+    rw (c .go-on2 .ensures) (ends (told .before .before) Line.Parameters (told .enum-told .given .1))
 
 count : tie.Need-returns-4
 count c =
     let told = c .before .before in
-    rw (c .go-on3 .ensures) (ends (told .before .before) (Line.Count _) (told .content .given .1))
+    rw (c .go-on3 .ensures) (ends (told .before .before) (Line.Count _) (told .content2 .given .1))
 
 refused : tie.Need-returns-6
 refused c =
     let told = c .before .before in
-    rw (c .stop .ensures) (ends (told .before .before) (Line.Refused _) (told .content3 .given .1))
+    rw (c .stop .ensures) (ends (told .before .before) (Line.Refused _) (told .content4 .given .1))
 
 nothing : tie.Need-returns-7
-nothing c = rw (c .stop2 .ensures) (ends (c .before .before .before) Line.Nothing (c .before .enum-told4 .given .1))
+nothing c = rw (c .stop2 .ensures) (ends (c .before .before .before) Line.Nothing (c .before .enum-told3 .given .1))
 
 -- The rule: where it is compiled, from its answer; and where it is known to be one, from there.
 abbrev compiled : tie.After-rule-answer → tie.After-rule-line
 compiled c = c .before .before .before .before .before
 
-abbrev rule-told : tie.After-rule-line → tie.After-enum-told3
+abbrev rule-told : tie.After-rule-line → tie.After-enum-told2
 rule-told c = c .before .before .before
 
 rule : tie.Need-returns-3
@@ -113,20 +116,20 @@ rule c =
     let made = compiled c in
     let told = rule-told made in
     rw (c .rule-answer .ensures)
-    (rule-ends (told .before .before) (told .enum-told3 .given .1) _ _ _ (made .rule-line .ensures))
+    (rule-ends (told .before .before) (told .enum-told2 .given .1) _ _ _ (made .rule-line .ensures))
 
 -- A tick: where the parameters are lent to `on_tick`, from its call; and where the line is known to be one.
 abbrev lent : tie.After-on-tick → tie.After-on-tick-arg
 lent c = c .before .before .before .before
 
-abbrev tick-told : tie.After-on-tick → tie.After-content2
+abbrev tick-told : tie.After-on-tick → tie.After-content3
 tick-told c = lent c .before .before
 
 tick : tie.Need-returns-5
 tick c =
     let made = c .before .before .before .before in
     let told = tick-told made in
-    made .on-tick .ensures ∙ ends (told .before .before) (Line.Tick _ _) (told .content2 .given .1)
+    made .on-tick .ensures ∙ ends (told .before .before) (Line.Tick _ _ _) (told .content3 .given .1)
 
 pub on-line-spec : {M : Type 1} → statement M
 on-line-spec =

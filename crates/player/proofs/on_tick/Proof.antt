@@ -37,7 +37,7 @@ verdict c =
     let told = c .before .before in
     let step = made told in
     rw (c .go-on .ensures)
-    (step-ends _ _ _ (world step) _ (S.Verdict _) _ _ _ (built step .tick-of .ensures) (told .stepped .given .1)
+    (step-ends _ _ _ _ (world step) _ (S.Verdict _) _ _ _ (built step .tick-of .ensures) (told .stepped .given .1)
     (step .step .ensures))
 
 refused : tie.Need-returns-2
@@ -45,7 +45,7 @@ refused c =
     let told = c .before .before in
     let step = made-too told in
     rw (c .stop .ensures)
-    (step-ends _ _ _ (world step) _ (S.Refused _) _ _ _ (built step .tick-of .ensures) (told .stepped2 .given .1)
+    (step-ends _ _ _ _ (world step) _ (S.Refused _) _ _ _ (built step .tick-of .ensures) (told .stepped2 .given .1)
     (step .step .ensures))
 
 pub on-tick-spec : {M : Type 1} → statement M

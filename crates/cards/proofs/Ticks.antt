@@ -1,0 +1,100 @@
+-- What is known of a tick line that was read (specs/Ticks.antt), in any edition: its first bytes are a line with no
+-- velocity, its velocity is one of those that there are, and it is short. Assumes nothing.
+use mathlib.Core.Path.{_≡_, refl, _∙_, ap}
+use mathlib.Core.Bool.{Bool, true, false, cond}
+use mathlib.Core.List.{List, [], _∷_}
+use Prim.Native.Nat.{ℕ, _+_, _-_, _*_, _≤_, _<_}
+use native.Mathlib.Omega.{arith}
+use lib.Dec.{eqb, ltb}
+use borrow.Author.Tests.{ltb-true}
+use lib.ListN.{length, getD, take, drop, length-take, length-drop}
+use lib.Seq.{take-all}
+use Rattle.limits.specs.Limits.{lastLiteral, lineLimit}
+use Rattle.lists.specs.Decimal.{digitValue}
+use Rattle.cards.specs.Heads.{plainEdition}
+use Rattle.cards.specs.Numbers.{number, wholly}
+use Rattle.cards.specs.Ticks.{hexOf, hexes, tickLength, plainTick, struckBy, struckTick, tickLine}
+use Rattle.cards.specs.declared.Count.{Count}
+use Rattle.cards.specs.declared.Count.the-variants as K
+use Rattle.cards.specs.declared.TickLine.{TickLine}
+use Rattle.cards.specs.declared.TickLine.the-variants.{Is, Broken}
+use Rattle.cards.proofs.Hex.{passed, not-failed, broken-is, plain-length}
+use Rattle.cards.proofs.Sized.{last-short}
+
+-- A line with no velocity has velocity 0.
+hexes-velocity : (start x : ℕ) (l : List ℕ) {i j v : ℕ} → hexes start x l ≡ Is i j v → v ≡ 0
+unfolding hexes
+hexes-velocity start x [] e = cc
+hexes-velocity start x (b ∷ l) e =
+    hexes-velocity start (x * 16 + hexOf b) l (not-failed (ltb 15 (hexOf b)) e .1)
+
+pub plain-velocity : (l : List ℕ) {i j v : ℕ} → plainTick l ≡ Is i j v → v ≡ 0
+unfolding plainTick
+plain-velocity l e =
+    let t = passed (eqb (getD l 0 0) 116) (passed (eqb (length l) tickLength) e .1) in
+    let comma = passed (eqb (getD l 3 0) 44) (passed (eqb (getD l 1 0) 61) (t .1) .1) in
+    let start = not-failed (ltb 49 (getD l 2 0)) (not-failed (ltb (getD l 2 0) 48) (comma .1) .1) in
+    hexes-velocity (digitValue (getD l 2 0)) 0 (drop 4 l) (start .1)
+
+-- The line l is a tick with this start, these signals and this velocity.
+pub record Ticked (velocities : ℕ) (l : List ℕ) (i j v : ℕ) : Type 0 where
+  pub front : plainTick (take tickLength l) ≡ Is i j 0
+  pub low : 0 < velocities → v < velocities
+  pub short : length l < lineLimit
+
+module _ {velocities : ℕ} {l : List ℕ} {i j v : ℕ} (h : Ticked velocities l i j v) where
+  pub ticked-long : tickLength ≤ length l
+  ticked-long = omega (arith, length-take tickLength l, plain-length (take tickLength l) (h .front))
+
+plain-ticked : (velocities : ℕ) (l : List ℕ) {i j v : ℕ} → plainTick l ≡ Is i j v → Ticked velocities l i j v
+plain-ticked velocities l {i} {j} e =
+    let whole = plain-length l e in
+    let none = plain-velocity l e in
+    record {
+      front = ap plainTick (take-all tickLength l (omega (arith, whole))) ∙ e ∙ ap (Is i j) none;
+      low = λ p. omega (arith, none);
+      short = omega (arith, whole);
+    }
+
+-- A line with a velocity: its front, and the number at its end.
+struck-by : (velocities : ℕ) (t : TickLine) (k : Count) {i j v : ℕ} → struckBy velocities t k ≡ Is i j v
+    → (none : ℕ) × (t ≡ Is i j none) × (k ≡ K.Is v) × (v < velocities)
+struck-by velocities (Is start signals none) (K.Is velocity) e =
+    let both = passed (ltb velocity velocities) e in
+    (none, cc, cc, rw (same-velocity (both .1)) at (ltb-true velocity velocities (both .0)))
+  where
+    same-velocity : {s i g j x v : ℕ} → Is s g x ≡ Is i j v → x ≡ v
+    same-velocity q = cc
+struck-by velocities (Is start signals none) K.Broken e = (0, cc, cc, absurd (broken-is e))
+struck-by velocities Broken k e = (0, cc, cc, absurd (broken-is e))
+
+struck-ticked : (velocities : ℕ) (l : List ℕ) {i j v : ℕ} → struckTick velocities l ≡ Is i j v
+    → Ticked velocities l i j v
+unfolding struckTick
+struck-ticked velocities l {i} {j} {v} e =
+    let rest = drop (tickLength + 1) l in
+    let both = passed (eqb (getD l tickLength 0) 44) e .1 in
+    let parts = struck-by velocities (plainTick (take tickLength l)) (wholly (number lastLiteral rest)) both in
+    let front = parts .1 in
+    record {
+      front = front ∙ ap (Is i j) (plain-velocity (take tickLength l) front);
+      low = λ p. parts .3;
+      short = omega (arith, last-short lastLiteral (omega arith) rest v (parts .2), length-drop (tickLength + 1) l);
+    }
+
+pub ticked : (velocities e : ℕ) (l : List ℕ) {i j v : ℕ} → tickLine velocities e l ≡ Is i j v
+    → Ticked velocities l i j v
+unfolding tickLine
+ticked velocities e l {i} {j} {v} h = by-edition (eqb e plainEdition) h
+  where
+    by-edition : (t : Bool) → cond t (plainTick l) (struckTick velocities l) ≡ Is i j v → Ticked velocities l i j v
+    by-edition true q = plain-ticked velocities l q
+    by-edition false q = struck-ticked velocities l q
+
+-- With too few bytes a line is broken.
+pub few-broken : (velocities e : ℕ) (l : List ℕ) → length l < tickLength → Broken ≡ tickLine velocities e l
+few-broken velocities e l few = by-line (tickLine velocities e l) refl
+  where
+    by-line : (x : TickLine) → tickLine velocities e l ≡ x → Broken ≡ x
+    by-line (Is i j v) q = absurd (omega (arith, ticked-long (ticked velocities e l q)))
+    by-line Broken q = refl
