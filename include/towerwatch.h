@@ -24,13 +24,13 @@ extern "C" {
 
 /* The version of this face. The major number rises where a caller's code may have to change: a function means
  * something else, takes other arguments, or a number below has another value. A function that means something else
- * also takes another number of arguments where it can, so that a caller written for the old one does not compile. It
- * could not in 3.0, where a step answers TOWERWATCH_IDLE before the first start and a table of one equation is refused:
- * ask for the major number that your code was written for. The minor number rises where something is added. The
- * archive has no version: take header and archive from one state of the repository, and compile stored tables again
- * where the major number has risen (docs/FIRMWARE.md, "Versions"). */
-#define TOWERWATCH_VERSION_MAJOR 3
-#define TOWERWATCH_VERSION_MINOR 2
+ * also takes another number of arguments where it can, so that a caller written for the old one does not compile: since
+ * 4.0 a step takes a velocity. In 3.0 it could not, where a step answers TOWERWATCH_IDLE before the first start and a
+ * table of one equation is refused: ask for the major number that your code was written for. The minor number rises
+ * where something is added. The archive has no version: take header and archive from one state of the repository;
+ * docs/FIRMWARE.md, "Versions", says which stored tables have to be compiled again. */
+#define TOWERWATCH_VERSION_MAJOR 4
+#define TOWERWATCH_VERSION_MINOR 0
 
 /* Limits of a rule text: its bytes, its words, how many round brackets are open at a time, and how often `!`, `then`,
  * `chop` and `exists` come up, all four counted. */
@@ -43,9 +43,13 @@ extern "C" {
 #define TOWERWATCH_SIGNALS 64
 #define TOWERWATCH_PARAMETERS 8
 
-/* The highest number that a rule can compare with and that a parameter can have, and the highest value of a count. */
+/* The highest number that a rule can compare a count with and that a parameter can have, and the highest value of a
+ * count. */
 #define TOWERWATCH_LAST_NUMBER 999999
 #define TOWERWATCH_LAST_COUNT 1000000
+
+/* The highest velocity of a tick, which is also the highest number that a rule can compare it with. */
+#define TOWERWATCH_LAST_VELOCITY 127
 
 /* The most equations of a table, the numbers that a table buffer needs for compiling, for reading Lustre text and for a
  * packed table, and the most equations of a compiled rule. */
@@ -80,8 +84,10 @@ extern "C" {
 #define TOWERWATCH_REFUSED_PARAMETER 13     /* a parameter is above TOWERWATCH_LAST_NUMBER */
 #define TOWERWATCH_REFUSED_STATE 14         /* a memory's cell is out of its range */
 #define TOWERWATCH_REFUSED_LUSTRE_ROOM 15   /* the buffer is shorter than the Lustre text */
-/* 16 of a Lustre text. */
+/* 16 of a Lustre text, */
 #define TOWERWATCH_REFUSED_LUSTRE 16        /* the bytes are no table's text */
+/* and 19 of a step. 17 and 18 are of cards, which only the program towerwatch reads. */
+#define TOWERWATCH_REFUSED_VELOCITY 19      /* the velocity is above TOWERWATCH_LAST_VELOCITY */
 
 struct towerwatch_answer {
     uint32_t refusal; /* 0: not refused */
@@ -114,14 +120,16 @@ struct towerwatch_answer towerwatch_fresh_state(const uint32_t *table, size_t ta
  * table: as above, only read. state: as towerwatch_fresh_state or the step before left it. values: n numbers or
  * more; they are set to the flow values of this tick, what stands after them is kept; what they held before does
  * not matter.
- * start: any number but 0 starts the watched interval at this tick. signals: bit j is signal j. parameters:
- * TOWERWATCH_PARAMETERS numbers up to TOWERWATCH_LAST_NUMBER, the same at every tick of a run.
+ * start: any number but 0 starts the watched interval at this tick. signals: bit j is signal j. velocity: that of the
+ * hardest stroke in this tick, up to TOWERWATCH_LAST_VELOCITY, 0 for none; a rule that does not name `v` gives the same
+ * with each. parameters: TOWERWATCH_PARAMETERS numbers up to TOWERWATCH_LAST_NUMBER, the same at every tick of a run.
  * Result: TOWERWATCH_IDLE where the table's last flow but one, the started flow, is 0 at this tick; else the last flow,
  * the verdict's, 0 or 1. A compiled table is idle before its first start and never from it on; one that was made by
- * hand may be idle again later. Refused: 10, 11, 12, 13, 14. A refused step is no tick. */
+ * hand may be idle again later. Refused: 10, 11, 12, 13, 14, 19. A refused step is no tick. */
 struct towerwatch_answer towerwatch_step(const uint32_t *table, size_t table_len, size_t n, uint32_t *state,
                                          size_t state_len, uint32_t *values, size_t values_len, uint32_t start,
-                                         uint64_t signals, const uint32_t parameters[TOWERWATCH_PARAMETERS]);
+                                         uint64_t signals, uint32_t velocity,
+                                         const uint32_t parameters[TOWERWATCH_PARAMETERS]);
 
 /* Writes the table's n equations as Lustre text. text: as many bytes as the text has or more; what stands after the
  * text is kept. Result: the length in bytes, at most TOWERWATCH_LUSTRE_BYTES. Refused: 10, 11, 15. */

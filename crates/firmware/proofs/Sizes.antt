@@ -4,6 +4,7 @@ use mathlib.Core.List.{List, []}
 use mathlib.Core.Path.{_≡_, sym, ap}
 use Prim.Native.Nat.{ℕ, _<_}
 use lib.ListN.{getD}
+use Rattle.limits.specs.declared.Context.{Context}
 use Rattle.tables.proofs.Checks.{checked-fitting}
 use Rattle.lustre.specs.Write.{AfterWrite, afterWrite, writeEffect}
 use Rattle.lustre.specs.Read.{AfterRead}
@@ -20,24 +21,26 @@ use Rattle.packing.specs.Laws.PackAnswer.{not-checked, no-room as no-second, pa
 use Rattle.packing.specs.declared.Packed.{Packed}
 use Rattle.firmware.specs.Sizes.{small, short, few, slim}
 
-pub few-equations : {text before : List ℕ} {r : Compiled} {after : List ℕ} → Compiles text before r after → small r
+pub few-equations : {context : Context} {text before : List ℕ} {r : Compiled} {after : List ℕ}
+    → Compiles context text before r after → small r
 few-equations (not-read e) = tt
 few-equations (no-room e h) = tt
-few-equations (observed {n} {after} e f room few same rest h exact ends) = checked-fitting _ n (h [] .formed) .few
+few-equations (observed {n} {after} e f room few same rest h exact ends) = checked-fitting _ _ n (h [] .formed) .few
 
-pub few-loaded : {text before : List ℕ} {r : Loaded} {after : List ℕ} → AfterRead text before r after → few r
+pub few-loaded : {velocities : ℕ} {text before : List ℕ} {r : Loaded} {after : List ℕ}
+    → AfterRead velocities text before r after → few r
 few-loaded (unread h) = tt
 few-loaded (no-table w h) = tt
-few-loaded (read {t} {n} w h) = checked-fitting t n (w .well-formed) .few
+few-loaded (read {t} {n} w h) = checked-fitting _ t n (w .well-formed) .few
 
-pub few-packed : {t : List ℕ} {n : ℕ} {before : List ℕ} {r : Packed} {after : List ℕ} → PackAnswer t n before r after
-    → slim r
+pub few-packed : {velocities : ℕ} {t : List ℕ} {n : ℕ} {before : List ℕ} {r : Packed} {after : List ℕ}
+    → PackAnswer velocities t n before r after → slim r
 few-packed (not-checked e) = tt
 few-packed (no-second e h) = tt
-few-packed (packed {n′} e room long kept packs) = checked-fitting _ n′ (packs [] .passes) .few
+few-packed (packed {n′} e room long kept packs) = checked-fitting _ _ n′ (packs [] .passes _ e) .few
 
-pub short-text : (t : List ℕ) → ((i : ℕ) → getD t i 0 < 4294967296) → (n : ℕ) (buffer : List ℕ) (r : Written)
-    (after : List ℕ) → afterWrite r after ≡ writeEffect t n buffer → short r
-short-text t bits n buffer (Length l) after e =
-    written-few t bits n l buffer (sym (ap (λ (x : AfterWrite). x .answer) e))
-short-text t bits n buffer (Refused k) after e = tt
+pub short-text : (t : List ℕ) → ((i : ℕ) → getD t i 0 < 4294967296) → (velocities n : ℕ) (buffer : List ℕ)
+    (r : Written) (after : List ℕ) → afterWrite r after ≡ writeEffect velocities t n buffer → short r
+short-text t bits velocities n buffer (Length l) after e =
+    written-few t bits velocities n l buffer (sym (ap (λ (x : AfterWrite). x .answer) e))
+short-text t bits velocities n buffer (Refused k) after e = tt

@@ -8,7 +8,8 @@ use observers::Compiled;
 use packing::Packed;
 use rules::Same;
 ghost use mathlib.Core.Path.{_≡_};
-ghost use Rattle.limits.specs.Limits.{standardCap};
+ghost use Rattle.limits.specs.Limits.{standardCap, velocityCount};
+ghost use Rattle.limits.specs.Context.{standardContext};
 ghost use Rattle.traces.specs.Trace.{tickOf};
 ghost use Rattle.flows.specs.Step.{afterFresh, freshened, freshReply, afterStep, stepped, stepReply};
 ghost use Rattle.rules.specs.Computed.{ruleOf, sameOf};
@@ -66,7 +67,7 @@ fn step_answer(s: Stepped) -> Answer
 #[no_mangle]
 pub extern "C" fn towerwatch_fresh_state(table: &[u32], n: usize, state: &mut [u32]) -> Answer
     ensures { λ r. ⌜ Given freshReply (λ x. afterFresh x (now (state .exit))
-        ≡ freshened (now (table .entry)) n (now (state .entry))) r ⌝ }
+        ≡ freshened velocityCount (now (table .entry)) n (now (state .entry))) r ⌝ }
 {
     fresh_answer(flows::fresh_state(table, n, state))
 }
@@ -80,13 +81,14 @@ pub extern "C" fn towerwatch_step(
     values: &mut [u32],
     start: u32,
     signals: u64,
+    velocity: u32,
     parameters: &[u32; limits::PARAMETERS],
 ) -> Answer
     ensures { λ r. ⌜ Given stepReply (λ x. afterStep x (now (state .exit)) (now (values .exit))
-        ≡ stepped standardCap (now (table .entry)) n (now (state .entry)) (now (values .entry))
-        (tickOf start signals (now (parameters .entry)))) r ⌝ }
+        ≡ stepped standardCap velocityCount (now (table .entry)) n (now (state .entry)) (now (values .entry))
+        (tickOf start signals velocity (now (parameters .entry)))) r ⌝ }
 {
-    let now = traces::tick_of(start, signals, *parameters);
+    let now = traces::tick_of(start, signals, velocity, *parameters);
     step_answer(flows::step(table, n, state, values, now))
 }
 
@@ -146,8 +148,8 @@ fn same_answer(s: Same) -> Answer
 // Reads a rule: how many nodes (SPEC 8.1).
 #[no_mangle]
 pub extern "C" fn towerwatch_read_rule(text: &[u8]) -> Answer
-    ensures { λ r. ⌜ Given readReply (λ x. x ≡ answerOf (ruleOf (now (text .entry)))) r ⌝ }
-    ensures { λ r. ⌜ Given readReply (Told (now (text .entry))) r ⌝ }
+    ensures { λ r. ⌜ Given readReply (λ x. x ≡ answerOf (ruleOf standardContext (now (text .entry)))) r ⌝ }
+    ensures { λ r. ⌜ Given readReply (Told standardContext (now (text .entry))) r ⌝ }
 {
     read_answer(rules::read_rule(text))
 }
@@ -156,8 +158,8 @@ pub extern "C" fn towerwatch_read_rule(text: &[u8]) -> Answer
 #[no_mangle]
 pub extern "C" fn towerwatch_compile(text: &[u8], table: &mut [u32]) -> Answer
     ensures { λ r. ⌜ Given compileReply (λ x. afterCompile x (now (table .exit))
-        ≡ compiled (now (text .entry)) (now (table .entry))) r ⌝ }
-    ensures { λ r. ⌜ Given compileReply (λ x. Compiles (now (text .entry)) (now (table .entry)) x
+        ≡ compiled standardContext (now (text .entry)) (now (table .entry))) r ⌝ }
+    ensures { λ r. ⌜ Given compileReply (λ x. Compiles standardContext (now (text .entry)) (now (table .entry)) x
         (now (table .exit))) r ⌝ }
 {
     compiled_answer(observers::compile_rule(text, table))
@@ -167,8 +169,10 @@ pub extern "C" fn towerwatch_compile(text: &[u8], table: &mut [u32]) -> Answer
 #[no_mangle]
 pub extern "C" fn towerwatch_same_rule(first: &[u8], second: &[u8]) -> Answer
     ensures { λ r. ⌜ Given sameReply
-        (λ x. x ≡ sameOf (ruleOf (now (first .entry))) (ruleOf (now (second .entry)))) r ⌝ }
-    ensures { λ r. ⌜ Given sameReply (SameAnswer (now (first .entry)) (now (second .entry))) r ⌝ }
+        (λ x. x ≡ sameOf (ruleOf standardContext (now (first .entry)))
+        (ruleOf standardContext (now (second .entry)))) r ⌝ }
+    ensures { λ r. ⌜ Given sameReply
+        (SameAnswer standardContext (now (first .entry)) (now (second .entry))) r ⌝ }
 {
     same_answer(rules::same_rule(first, second))
 }
@@ -211,7 +215,7 @@ fn loaded_answer(l: Loaded) -> Answer
 #[no_mangle]
 pub extern "C" fn towerwatch_write_lustre(table: &[u32], n: usize, text: &mut [u8]) -> Answer
     ensures { λ r. ⌜ Given writeReply (λ x. afterWrite x (now (text .exit))
-        ≡ writeEffect (now (table .entry)) n (now (text .entry))) r ⌝ }
+        ≡ writeEffect velocityCount (now (table .entry)) n (now (text .entry))) r ⌝ }
 {
     written_answer(lustre_write::write_lustre(table, n, text))
 }
@@ -219,7 +223,7 @@ pub extern "C" fn towerwatch_write_lustre(table: &[u32], n: usize, text: &mut [u
 // Reads Lustre text into a table: how many equations (SPEC 8.7).
 #[no_mangle]
 pub extern "C" fn towerwatch_read_lustre(text: &[u8], table: &mut [u32]) -> Answer
-    ensures { λ r. ⌜ Given loadReply (λ x. AfterRead (now (text .entry)) (now (table .entry)) x
+    ensures { λ r. ⌜ Given loadReply (λ x. AfterRead velocityCount (now (text .entry)) (now (table .entry)) x
         (now (table .exit))) r ⌝ }
 {
     loaded_answer(lustre_read::read_lustre(text, table))
@@ -246,8 +250,8 @@ fn packed_answer(p: Packed) -> Answer
 #[no_mangle]
 pub extern "C" fn towerwatch_pack(table: &[u32], n: usize, packed: &mut [u32]) -> Answer
     ensures { λ r. ⌜ Given packReply (λ x. afterPack x (now (packed .exit))
-        ≡ packing (now (table .entry)) n (now (packed .entry))) r ⌝ }
-    ensures { λ r. ⌜ Given packReply (λ x. PackAnswer (now (table .entry)) n (now (packed .entry)) x
+        ≡ packing velocityCount (now (table .entry)) n (now (packed .entry))) r ⌝ }
+    ensures { λ r. ⌜ Given packReply (λ x. PackAnswer velocityCount (now (table .entry)) n (now (packed .entry)) x
         (now (packed .exit))) r ⌝ }
 {
     packed_answer(packer::pack(table, n, packed))

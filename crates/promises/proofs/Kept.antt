@@ -8,6 +8,7 @@ use Prim.Native.Nat.{ℕ, _*_, _≤_, _<_}
 use native.Mathlib.Omega.{arith}
 use lib.ListN.{length, take}
 use Rattle.limits.specs.Limits.{standardCap, tableRoom, ruleEquations}
+use Rattle.limits.specs.declared.Context.{Context}
 use Rattle.traces.specs.Trace.{truth, parameterAt}
 use Rattle.traces.specs.Compare.{opOf}
 use Rattle.traces.specs.declared.Op.the-variants.{AtMost, Below, Equal, Above, AtLeast}
@@ -46,16 +47,18 @@ use Rattle.player.specs.Card.{printed}
 use Rattle.player.proofs.Shown.{shown, one-output}
 use Rattle.promises.specs.Promises.{Reading, Meaning, Whether, Comparing, Compiling, RoundTrips, Promises}
 
-reading : Reading
-reading =
+reading : (context : Context) → Reading context
+reading context =
     record {
-      exactly = λ text t. (λ h. accepted text t .0 (computed text h), is-rule);
-      some-outcome = λ text. (ruleOf text, has-outcome text);
-      one-outcome = λ text x y. one-outcome text x y;
-      numbered = numbered;
-      formula = λ text t h. has-formula text t (computed text h);
+      exactly = λ text t. (λ h. accepted context text t .0 (computed context text h), is-rule);
+      some-outcome = λ text. (ruleOf context text, has-outcome context text);
+      one-outcome = λ text x y. one-outcome context text x y;
+      numbered = numbered context;
+      formula = λ text t h. has-formula context text t (computed context text h);
       one-answer = λ text r r′ h k.
-          h .answer ∙ ap answerOf (one-outcome text (h .outcome) (k .outcome) (h .has) (k .has)) ∙ sym (k .answer);
+          h .answer
+          ∙ ap answerOf (one-outcome context text (h .outcome) (k .outcome) (h .has) (k .has))
+          ∙ sym (k .answer);
       one-comparison = λ a b r r′ h k. one-answer h k;
     }
 
@@ -78,46 +81,54 @@ comparing =
       beyond = λ k h. op-last k (omega arith);
       literal = λ cap k flow cell e. whether _ (compared (opOf (e .b)) (flow (e .a)) (e .c));
       parameter = λ cap k flow cell e. whether _ (compared (opOf (e .b)) (flow (e .a)) (parameterAt k (e .c)));
+      velocity = λ cap k flow cell e. whether _ (compared (opOf (e .a)) (k .velocity) (e .b));
     }
 
 -- What compiling gives for a refused text, for a rule and too short a table,
-refused-text : {text before after : List ℕ} {r : Compiled} {k : ℕ} → Compiles text before r after
-    → HasOutcome text (refused k) → (r ≡ Refused k) × (after ≡ before)
-refused-text {text} (not-read e) h = (ap Refused (refusal-of (one-outcome text _ _ e h)), refl)
+refused-text : {context : Context} {text before after : List ℕ} {r : Compiled} {k : ℕ}
+    → Compiles context text before r after
+    → HasOutcome context text (refused k) → (r ≡ Refused k) × (after ≡ before)
+refused-text {context} {text} (not-read e) h = (ap Refused (refusal-of (one-outcome context text _ _ e h)), refl)
   where
     refusal-of : {m k : ℕ} → refused m ≡ refused k → m ≡ k
     refusal-of e = cc
 refused-text (no-room e l) h = absurd (not-refused e h)
 refused-text (observed e is l few same kept o exact ends) h = absurd (not-refused e h)
 
-short-table : {text before after : List ℕ} {r : Compiled} {t : Tree} → Compiles text before r after
-    → HasOutcome text (rule t) → length before < tableRoom → (r ≡ Refused 9) × (after ≡ before)
+short-table : {context : Context} {text before after : List ℕ} {r : Compiled} {t : Tree}
+    → Compiles context text before r after
+    → HasOutcome context text (rule t) → length before < tableRoom → (r ≡ Refused 9) × (after ≡ before)
 short-table (not-read e) h low = absurd (not-refused h e)
 short-table (no-room e l) h low = (refl, refl)
 short-table (observed e is l few same kept o exact ends) h low = absurd (omega arith)
 
 -- and for a rule where there is room.
-compiled-rule : {text before after : List ℕ} {r : Compiled} {t : Tree} → Compiles text before r after
-    → HasOutcome text (rule t) → tableRoom ≤ length before → (n : ℕ) × (r ≡ Equations n)
+compiled-rule : {context : Context} {text before after : List ℕ} {r : Compiled} {t : Tree}
+    → Compiles context text before r after
+    → HasOutcome context text (rule t) → tableRoom ≤ length before → (n : ℕ) × (r ≡ Equations n)
 compiled-rule (not-read e) h room = absurd (not-refused h e)
 compiled-rule (no-room e l) h room = absurd (omega arith)
 compiled-rule (observed {n} e is l few same kept o exact ends) h room = (n, refl)
 
-few-equations : {text before after : List ℕ} {r : Compiled} {n : ℕ} → Compiles text before r after → r ≡ Equations n
+few-equations : {context : Context} {text before after : List ℕ} {r : Compiled} {n : ℕ}
+    → Compiles context text before r after → r ≡ Equations n
     → n ≤ ruleEquations
 few-equations (not-read e) q = absurd (refused-equations q)
 few-equations (no-room e l) q = absurd (refused-equations q)
 few-equations {n = n} (observed {n = m} e is l few same kept o exact ends) q = let number : m ≡ n = cc in omega arith
 
-closing : {text before after : List ℕ} {r : Compiled} {n : ℕ} → Compiles text before r after → r ≡ Equations n
+closing : {context : Context} {text before after : List ℕ} {r : Compiled} {n : ℕ}
+    → Compiles context text before r after → r ≡ Equations n
     → Closing after n
 closing (not-read e) q = absurd (refused-equations q)
 closing (no-room e l) q = absurd (refused-equations q)
 closing {after = after} (observed e is l few same kept o exact ends) q = subst (Closing after) (cc) ends
 
 -- A text has one tree, and the table so many memories as that tree asks for;
-remembering : {text before after : List ℕ} {r : Compiled} {n : ℕ} {t : Tree} → Compiles text before r after
-    → r ≡ Equations n → HasOutcome text (rule t) → (rest : List ℕ) → ExactMemories (take (4 * n) after ++ rest) n t
+remembering : {context : Context} {text before after : List ℕ} {r : Compiled} {n : ℕ} {t : Tree}
+    → Compiles context text before r after
+    → r ≡ Equations n → HasOutcome context text (rule t) → (rest : List ℕ)
+    → ExactMemories (take (4 * n) after ++ rest) n t
 remembering (not-read e) q h rest = absurd (refused-equations q)
 remembering (no-room e l) q h rest = absurd (refused-equations q)
 remembering {after = after} {n = n} {t} (observed {n = m} {t = u} e is l few same kept o exact ends) q h rest =
@@ -125,8 +136,9 @@ remembering {after = after} {n = n} {t} (observed {n = m} {t = u} e is l few sam
     subst₂ (λ (k : ℕ) (v : Tree). ExactMemories (take (4 * k) after ++ rest) k v) number (same-tree e h) (exact rest)
 
 -- so the bound on them holds.
-remembering-few : {text before after : List ℕ} {n : ℕ} {t : Tree} → Compiles text before (Equations n) after
-    → HasOutcome text (rule t) → (rest : List ℕ) → FewMemories (take (4 * n) after ++ rest) n t
+remembering-few : {context : Context} {text before after : List ℕ} {n : ℕ} {t : Tree}
+    → Compiles context text before (Equations n) after
+    → HasOutcome context text (rule t) → (rest : List ℕ) → FewMemories (take (4 * n) after ++ rest) n t
 remembering-few {after = after} {n} {t} c h rest =
     few-memories (take (4 * n) after ++ rest) n t (remembering c refl h rest)
 
@@ -134,20 +146,22 @@ remembering-few {after = after} {n} {t} c h rest =
 one-formula : {x y : Option Formula} {f g : Formula} → x ≡ some f → y ≡ some g → x ≡ y → f ≡ g
 one-formula p q e = cc
 
-observed-rule : {text before after : List ℕ} {r : Compiled} {n : ℕ} {t : Tree} {f : Formula}
-    → Compiles text before r after → r ≡ Equations n → HasOutcome text (rule t) → formulaOf t ≡ some f
-    → (rest : List ℕ) → Observes standardCap (take (4 * n) after ++ rest) n f
+observed-rule : {context : Context} {text before after : List ℕ} {r : Compiled} {n : ℕ} {t : Tree} {f : Formula}
+    → Compiles context text before r after → r ≡ Equations n → HasOutcome context text (rule t) → formulaOf t ≡ some f
+    → (rest : List ℕ) → Observes standardCap (context .velocities) (take (4 * n) after ++ rest) n f
 observed-rule (not-read e) q h is rest = absurd (not-refused h e)
 observed-rule (no-room e l) q h is rest = absurd (refused-equations q)
-observed-rule {after = after} {n = n} {t} {f} (observed {n = m} {f = g} e is-g l few same kept o exact ends) q h
-    is rest =
+observed-rule {context} {after = after} {n = n} {t} {f}
+    (observed {n = m} {f = g} e is-g l few same kept o exact ends) q h is rest =
     let number : m ≡ n = cc in
     let formula : g ≡ f = one-formula is-g is (ap formulaOf (same-tree e h)) in
-    subst₂ (λ (k : ℕ) (x : Formula). Observes standardCap (take (4 * k) after ++ rest) k x) number formula (o rest)
+    subst₂ (λ (k : ℕ) (x : Formula). Observes standardCap (context .velocities) (take (4 * k) after ++ rest) k x)
+    number formula (o rest)
 
 -- What packing gives for a table that fails its check, for one that passes and too short a second table,
-refused-table : {t before after : List ℕ} {n k : ℕ} {r : Packed} → PackAnswer t n before r after
-    → checked t n ≡ Failed k → (r ≡ NotPacked k) × (after ≡ before)
+refused-table : {velocities : ℕ} {t before after : List ℕ} {n k : ℕ} {r : Packed}
+    → PackAnswer velocities t n before r after → checked velocities t n ≡ Failed k
+    → (r ≡ NotPacked k) × (after ≡ before)
 refused-table (not-checked e) h = (ap NotPacked (number-of (sym e ∙ h)), refl)
   where
     number-of : {m k : ℕ} → Failed m ≡ Failed k → m ≡ k
@@ -155,24 +169,27 @@ refused-table (not-checked e) h = (ap NotPacked (number-of (sym e ∙ h)), refl)
 refused-table (no-second e l) h = absurd (failed-passed (sym h ∙ e))
 refused-table (packed e l long same p) h = absurd (failed-passed (sym h ∙ e))
 
-short-second : {t before after : List ℕ} {n : ℕ} {r : Packed} → PackAnswer t n before r after → checked t n ≡ Passed
+short-second : {velocities : ℕ} {t before after : List ℕ} {n : ℕ} {r : Packed}
+    → PackAnswer velocities t n before r after → checked velocities t n ≡ Passed
     → length before < tableRoom → (r ≡ NotPacked 9) × (after ≡ before)
 short-second (not-checked e) h low = absurd (failed-passed (sym e ∙ h))
 short-second (no-second e l) h low = (refl, refl)
 short-second (packed e l long same p) h low = absurd (omega arith)
 
 -- and for one that passes where there is room.
-served-table : {t before after : List ℕ} {n : ℕ} {r : Packed} → PackAnswer t n before r after → checked t n ≡ Passed
+served-table : {velocities : ℕ} {t before after : List ℕ} {n : ℕ} {r : Packed}
+    → PackAnswer velocities t n before r after → checked velocities t n ≡ Passed
     → tableRoom ≤ length before → (n′ : ℕ) × (r ≡ PackedTo n′)
 served-table (not-checked e) h room = absurd (failed-passed (sym e ∙ h))
 served-table (no-second e l) h room = absurd (omega arith)
 served-table (packed {n′} e l long same p) h room = (n′, refl)
 
-packed-front : {t before after : List ℕ} {n n′ : ℕ} {r : Packed} → PackAnswer t n before r after → r ≡ PackedTo n′
+packed-front : {velocities : ℕ} {t before after : List ℕ} {n n′ : ℕ} {r : Packed}
+    → PackAnswer velocities t n before r after → r ≡ PackedTo n′
     → (rest : List ℕ) → Packs t n (take (4 * n′) after ++ rest) n′
 packed-front (not-checked e) q rest = absurd (refused-packed q)
 packed-front (no-second e l) q rest = absurd (refused-packed q)
-packed-front {t} {after = after} {n} {n′} (packed {n′ = m} e l long same p) q rest =
+packed-front {t = t} {after = after} {n} {n′} (packed {n′ = m} e l long same p) q rest =
     let number : m ≡ n′ = cc in
     subst (λ (k : ℕ). Packs t n (take (4 * k) after ++ rest) k) number (p rest)
 
@@ -182,8 +199,8 @@ kept =
       reading = reading;
       meaning = λ trace. record { clauses = means trace; only = λ At On v laws. only-verdict trace At On v laws };
       comparing = comparing;
-      running = λ t n e. runs-as-lustre standardCap t n e;
-      compiling = record {
+      running = λ velocities t n e. runs-as-lustre standardCap velocities t n e;
+      compiling = λ context. record {
         refuses = refused-text;
         no-room = short-table;
         compiles = compiled-rule;
@@ -193,19 +210,21 @@ kept =
         few-memories = λ c h rest. remembering-few c h rest;
         observes = λ c h is rest. observed-rule c refl h is rest;
       };
-      packing = record {
+      packing = λ velocities. record {
         refuses = refused-table;
         no-room = short-second;
         serves = served-table;
         packs = λ h. packed-front h refl;
         one-answer = one-packing;
-        behind = λ e h k. behind _ _ _ _ _ _ _ _ _ e h k;
-        twice = λ h rest room k. again _ _ _ _ _ h rest _ _ _ room k;
+        behind = λ e h k. behind _ _ _ _ _ _ _ _ _ _ e h k;
+        twice = λ h rest room k. again _ _ _ _ _ _ h rest _ _ _ room k;
       };
-      round-trips = record {
-        table = λ t n l buffer before after r. lustre.read-of-written t n l buffer before r after;
-        text = λ text before after buffer n. lustre.written-of-read text before buffer n after;
-        one-answer = λ text before after after′ r r′. lustre.one-answer text before r r′ after after′;
+      round-trips = λ velocities low. record {
+        table = λ t n l buffer before after r.
+            lustre.read-of-written velocities t n l buffer before r after low;
+        text = λ text before after buffer n. lustre.written-of-read velocities text before buffer n after;
+        one-answer = λ text before after after′ r r′.
+            lustre.one-answer velocities text before r r′ after after′ low;
       };
       cards = record {
         some-output = λ card. (printed card, shown card);

@@ -21,7 +21,8 @@ use mathlib.Core.Option.{some}
 use mathlib.Core.Path.{_≡_}
 use Prim.Native.Nat.{ℕ, _*_, _≤_, _<_}
 use lib.ListN.{length, take, drop}
-use Rattle.limits.specs.Limits.{standardCap, tableRoom, ruleEquations}
+use Rattle.limits.specs.Limits.{standardCap, literalCount, tableRoom, ruleEquations}
+use Rattle.limits.specs.declared.Context.{Context}
 use Rattle.traces.specs.Trace.{Trace, parameterAt}
 use Rattle.traces.specs.Compare.{opOf, compares, Compared}
 use Rattle.traces.specs.declared.Op.the-variants.{AtMost, Below, Equal, Above, AtLeast}
@@ -54,20 +55,21 @@ use Rattle.lustre.specs.declared.Loaded.{Loaded}
 use Rattle.lustre.specs.declared.Loaded.the-variants.{Equations as Loads}
 use Rattle.player.specs.Shows.{Shows}
 
--- SPEC 12.2 (demand 2), its part on texts: which of them are rules, and that each of these has one tree.
-pub record Reading : Type 0 where
+-- SPEC 12.2 (demand 2), its part on texts: which of them are rules, and that each of these has one tree. It holds in
+-- every context.
+pub record Reading (context : Context) : Type 0 where
   -- The first by the form of `HasOutcome`; that reading has this outcome and no other is `one-outcome`.
-  pub exactly : (text : List ℕ) (t : Tree) → HasOutcome text (rule t) ↔ Admitted text t
+  pub exactly : (text : List ℕ) (t : Tree) → HasOutcome context text (rule t) ↔ Admitted context text t
   -- SPEC 12.1 (demand 1): every text is a rule or has a refusal, and one of them.
-  pub some-outcome : (text : List ℕ) → (x : Outcome) × HasOutcome text x
-  pub one-outcome : (text : List ℕ) (x y : Outcome) → HasOutcome text x → HasOutcome text y → x ≡ y
+  pub some-outcome : (text : List ℕ) → (x : Outcome) × HasOutcome context text x
+  pub one-outcome : (text : List ℕ) (x y : Outcome) → HasOutcome context text x → HasOutcome context text y → x ≡ y
   -- A refusal is 1 to 8, so that 0 can stand for none.
-  pub numbered : (text : List ℕ) (k : ℕ) → HasOutcome text (refused k) → (1 ≤ k) × (k ≤ 8)
+  pub numbered : (text : List ℕ) (k : ℕ) → HasOutcome context text (refused k) → (1 ≤ k) × (k ≤ 8)
   -- What is read has a formula, and so a meaning.
-  pub formula : (text : List ℕ) (t : Tree) → HasOutcome text (rule t) → (f : Formula) × (formulaOf t ≡ some f)
+  pub formula : (text : List ℕ) (t : Tree) → HasOutcome context text (rule t) → (f : Formula) × (formulaOf t ≡ some f)
   -- The contracts of reading and comparing settle the answers (SPEC 12.4).
-  pub one-answer : (text : List ℕ) (r r′ : Read) → Told text r → Told text r′ → r ≡ r′
-  pub one-comparison : (a b : List ℕ) (r r′ : Same) → SameAnswer a b r → SameAnswer a b r′ → r ≡ r′
+  pub one-answer : (text : List ℕ) (r r′ : Read) → Told context text r → Told context text r′ → r ≡ r′
+  pub one-comparison : (a b : List ℕ) (r r′ : Same) → SameAnswer context a b r → SameAnswer context a b r′ → r ≡ r′
 
 -- The interval meaning has the clauses SPEC 4.1 to SPEC 4.11, each as a law, and what has these laws is the meaning.
 pub record Meaning (trace : Trace) : Type 1 where
@@ -97,71 +99,78 @@ pub record Comparing : Type 0 where
   pub parameter : (cap : ℕ) (k : Tick) (flow : ℕ → ℕ) (cell : ℕ) (e : Equation)
       → Whether (Compared (opOf (e .b)) (flow (e .a)) (parameterAt k (e .c)))
       (valueOf cap k flow cell (kindOf 11) e)
+  -- One of kind 12 says whether the tick's velocity compares so with the literal.
+  pub velocity : (cap : ℕ) (k : Tick) (flow : ℕ → ℕ) (cell : ℕ) (e : Equation)
+      → Whether (Compared (opOf (e .a)) (k .velocity) (e .b)) (valueOf cap k flow cell (kindOf 12) e)
 
 -- SPEC 12.2 (demand 2), its part on runs of a table: SPEC 6.4, with counts up to the cap (SPEC 5.2).
-abbrev pub Running : Type 0
-Running = (t : List ℕ) (n : ℕ) → checked t n ≡ Passed → RunsAsLustre standardCap t n
+abbrev pub Running : ℕ → Type 0
+Running velocities =
+    (t : List ℕ) (n : ℕ) → checked velocities t n ≡ Passed → RunsAsLustre standardCap velocities t n
 
 -- SPEC 12.3 (demand 3). A text with a refusal gets that, a rule with too short a table 9 (SPEC 7.9), and both leave the
 -- table as it was. A rule is compiled where there is room, and then the n equations at the front of the table, whatever
 -- stands after them, observe its formula, and exactly so many of them are memories as SPEC 12.8 says of the tree, so
 -- that the bound of SPEC 12.3 holds. No rule has more equations than SPEC 12.6 says, and the last three are those of
 -- SPEC 12.7.
-pub record Compiling : Type 0 where
-  pub refuses : {text before after : List ℕ} {r : Compiled} {k : ℕ} → Compiles text before r after
-      → HasOutcome text (refused k) → (r ≡ Refused k) × (after ≡ before)
-  pub no-room : {text before after : List ℕ} {r : Compiled} {t : Tree} → Compiles text before r after
-      → HasOutcome text (rule t) → length before < tableRoom → (r ≡ Refused 9) × (after ≡ before)
-  pub compiles : {text before after : List ℕ} {r : Compiled} {t : Tree} → Compiles text before r after
-      → HasOutcome text (rule t) → tableRoom ≤ length before → (n : ℕ) × (r ≡ Equations n)
-  pub few : {text before after : List ℕ} {n : ℕ} → Compiles text before (Equations n) after → n ≤ ruleEquations
-  pub closes : {text before after : List ℕ} {n : ℕ} → Compiles text before (Equations n) after → Closing after n
-  pub exact-memories : {text before after : List ℕ} {n : ℕ} {t : Tree} → Compiles text before (Equations n) after
-      → HasOutcome text (rule t) → (rest : List ℕ) → ExactMemories (take (4 * n) after ++ rest) n t
-  pub few-memories : {text before after : List ℕ} {n : ℕ} {t : Tree} → Compiles text before (Equations n) after
-      → HasOutcome text (rule t) → (rest : List ℕ) → FewMemories (take (4 * n) after ++ rest) n t
+pub record Compiling (context : Context) : Type 0 where
+  pub refuses : {text before after : List ℕ} {r : Compiled} {k : ℕ} → Compiles context text before r after
+      → HasOutcome context text (refused k) → (r ≡ Refused k) × (after ≡ before)
+  pub no-room : {text before after : List ℕ} {r : Compiled} {t : Tree} → Compiles context text before r after
+      → HasOutcome context text (rule t) → length before < tableRoom → (r ≡ Refused 9) × (after ≡ before)
+  pub compiles : {text before after : List ℕ} {r : Compiled} {t : Tree} → Compiles context text before r after
+      → HasOutcome context text (rule t) → tableRoom ≤ length before → (n : ℕ) × (r ≡ Equations n)
+  pub few : {text before after : List ℕ} {n : ℕ} → Compiles context text before (Equations n) after → n ≤ ruleEquations
+  pub closes : {text before after : List ℕ} {n : ℕ} → Compiles context text before (Equations n) after → Closing after n
+  pub exact-memories : {text before after : List ℕ} {n : ℕ} {t : Tree}
+      → Compiles context text before (Equations n) after → HasOutcome context text (rule t)
+      → (rest : List ℕ) → ExactMemories (take (4 * n) after ++ rest) n t
+  pub few-memories : {text before after : List ℕ} {n : ℕ} {t : Tree} → Compiles context text before (Equations n) after
+      → HasOutcome context text (rule t) → (rest : List ℕ) → FewMemories (take (4 * n) after ++ rest) n t
   pub observes : {text before after : List ℕ} {n : ℕ} {t : Tree} {f : Formula}
-      → Compiles text before (Equations n) after → HasOutcome text (rule t) → formulaOf t ≡ some f
-      → (rest : List ℕ) → Observes standardCap (take (4 * n) after ++ rest) n f
+      → Compiles context text before (Equations n) after → HasOutcome context text (rule t) → formulaOf t ≡ some f
+      → (rest : List ℕ) → Observes standardCap (context .velocities) (take (4 * n) after ++ rest) n f
 
 -- SPEC 16.1 (packing). A table with a refusal of 10 or 11 gets that, one that passes with too short a second table 9
 -- (SPEC 7.9), and both leave the second table as it was. Else the n′ equations at the front of the second table,
 -- whatever stands after them, are the given table's, packed.
-pub record Packing : Type 0 where
-  pub refuses : {t before after : List ℕ} {n k : ℕ} {r : Packed} → PackAnswer t n before r after
-      → checked t n ≡ Failed k → (r ≡ NotPacked k) × (after ≡ before)
-  pub no-room : {t before after : List ℕ} {n : ℕ} {r : Packed} → PackAnswer t n before r after
-      → checked t n ≡ Passed → length before < tableRoom → (r ≡ NotPacked 9) × (after ≡ before)
-  pub serves : {t before after : List ℕ} {n : ℕ} {r : Packed} → PackAnswer t n before r after
-      → checked t n ≡ Passed → tableRoom ≤ length before → (n′ : ℕ) × (r ≡ PackedTo n′)
-  pub packs : {t before after : List ℕ} {n n′ : ℕ} → PackAnswer t n before (PackedTo n′) after
+pub record Packing (velocities : ℕ) : Type 0 where
+  pub refuses : {t before after : List ℕ} {n k : ℕ} {r : Packed} → PackAnswer velocities t n before r after
+      → checked velocities t n ≡ Failed k → (r ≡ NotPacked k) × (after ≡ before)
+  pub no-room : {t before after : List ℕ} {n : ℕ} {r : Packed} → PackAnswer velocities t n before r after
+      → checked velocities t n ≡ Passed → length before < tableRoom → (r ≡ NotPacked 9) × (after ≡ before)
+  pub serves : {t before after : List ℕ} {n : ℕ} {r : Packed} → PackAnswer velocities t n before r after
+      → checked velocities t n ≡ Passed → tableRoom ≤ length before → (n′ : ℕ) × (r ≡ PackedTo n′)
+  pub packs : {t before after : List ℕ} {n n′ : ℕ} → PackAnswer velocities t n before (PackedTo n′) after
       → (rest : List ℕ) → Packs t n (take (4 * n′) after ++ rest) n′
   -- The contract settles the answer and the second table (SPEC 12.4), so there is one packed table of a table
   -- (SPEC 16.4),
-  pub one-answer : {t before after after′ : List ℕ} {n : ℕ} {r r′ : Packed} → PackAnswer t n before r after
-      → PackAnswer t n before r′ after′ → (r ≡ r′) × (after ≡ after′)
+  pub one-answer : {t before after after′ : List ℕ} {n : ℕ} {r r′ : Packed}
+      → PackAnswer velocities t n before r after → PackAnswer velocities t n before r′ after′
+      → (r ≡ r′) × (after ≡ after′)
   -- whatever stands behind the given table's numbers (SPEC 5.6) and in the second table, where both are packed,
   pub behind : {t s before after before′ after′ : List ℕ} {n n′ n″ : ℕ} → take (4 * n) t ≡ take (4 * n) s
-      → PackAnswer t n before (PackedTo n′) after → PackAnswer s n before′ (PackedTo n″) after′
+      → PackAnswer velocities t n before (PackedTo n′) after
+      → PackAnswer velocities s n before′ (PackedTo n″) after′
       → (n′ ≡ n″) × (take (4 * n′) after ≡ take (4 * n″) after′)
   -- and packing the packed table gives it again.
   pub twice : {t before after before′ after′ : List ℕ} {n n′ : ℕ} {r : Packed}
-      → PackAnswer t n before (PackedTo n′) after → (rest : List ℕ) → tableRoom ≤ length before′
-      → PackAnswer (take (4 * n′) after ++ rest) n′ before′ r after′
+      → PackAnswer velocities t n before (PackedTo n′) after → (rest : List ℕ) → tableRoom ≤ length before′
+      → PackAnswer velocities (take (4 * n′) after ++ rest) n′ before′ r after′
       → (r ≡ PackedTo n′) × (after′ ≡ take (4 * n′) after ++ drop (4 * n′) before′)
 
 -- SPEC 12.2 (demand 2), its part on Lustre text: writing and reading undo each other.
-pub record RoundTrips : Type 0 where
+pub record RoundTrips (velocities : ℕ) : Type 0 where
   pub table : (t : List ℕ) (n l : ℕ) (buffer before after : List ℕ) (r : Loaded)
-      → writeEffect t n buffer .answer ≡ Length l → tableRoom ≤ length before
-      → AfterRead (take l (writeEffect t n buffer .buffer)) before r after
+      → writeEffect velocities t n buffer .answer ≡ Length l → tableRoom ≤ length before
+      → AfterRead velocities (take l (writeEffect velocities t n buffer .buffer)) before r after
       → (r ≡ Loads n) × (after ≡ take (4 * n) t ++ drop (4 * n) before)
-  pub text : (text before after buffer : List ℕ) (n : ℕ) → AfterRead text before (Loads n) after
+  pub text : (text before after buffer : List ℕ) (n : ℕ) → AfterRead velocities text before (Loads n) after
       → length text ≤ length buffer
-      → writeEffect after n buffer ≡ afterWrite (Length (length text)) (text ++ drop (length text) buffer)
+      → writeEffect velocities after n buffer ≡ afterWrite (Length (length text)) (text ++ drop (length text) buffer)
   -- The contract of reading settles the answer and the table (SPEC 12.4).
-  pub one-answer : (text before after after′ : List ℕ) (r r′ : Loaded) → AfterRead text before r after
-      → AfterRead text before r′ after′ → (r ≡ r′) × (after ≡ after′)
+  pub one-answer : (text before after after′ : List ℕ) (r r′ : Loaded) → AfterRead velocities text before r after
+      → AfterRead velocities text before r′ after′ → (r ≡ r′) × (after ≡ after′)
 
 -- Cards (SPEC 11.1): every card shows something, and one thing.
 pub record Cards : Type 0 where
@@ -170,12 +179,13 @@ pub record Cards : Type 0 where
 
 -- All of it. SPEC 12.1 (demand 1): that each call gets its result or its first refusal, and with a refusal keeps what
 -- it was lent, is in the relations named above; that they settle the answer, in the parts here that say that it is one.
+-- The operations have `velocityCount` velocities, and what is proved holds for other numbers too.
 pub record Promises : Type 1 where
-  pub reading : Reading
+  pub reading : (context : Context) → Reading context
   pub meaning : (trace : Trace) → Meaning trace
   pub comparing : Comparing
-  pub running : Running
-  pub compiling : Compiling
-  pub packing : Packing
-  pub round-trips : RoundTrips
+  pub running : (velocities : ℕ) → Running velocities
+  pub compiling : (context : Context) → Compiling context
+  pub packing : (velocities : ℕ) → Packing velocities
+  pub round-trips : (velocities : ℕ) → velocities ≤ literalCount → RoundTrips velocities
   pub cards : Cards

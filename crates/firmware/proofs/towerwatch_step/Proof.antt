@@ -1,7 +1,7 @@
 -- `firmware::towerwatch_step` meets its contract: it is `flows::step`, its answer as C gets it. Assumes nothing.
 use mathlib.Core.Path.{ap, _∙_}
 use borrow.Author.Needs.{needs}
-use Rattle.limits.specs.Limits.{standardCap}
+use Rattle.limits.specs.Limits.{standardCap, velocityCount}
 use Rattle.flows.specs.Step.{stepped}
 use Rattle.firmware.proofs.towerwatch_step.Statement.{statement}
 use Rattle.firmware.proofs.towerwatch_step.Tie as tie
@@ -20,7 +20,7 @@ returns : tie.Need-returns
 returns c =
     let call = called c .step in
     let args = start (called c) .args in
-    let run = stepped standardCap (args .table .now) (args .n) (args .state .now) (args .values .now) in
+    let run = stepped standardCap velocityCount (args .table .now) (args .n) (args .state .now) (args .values .now) in
     record {
       told = call .result;
       promised = call .ensures ∙ ap run (built (called c) .tick-of .ensures);

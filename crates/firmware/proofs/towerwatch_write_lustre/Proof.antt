@@ -14,7 +14,7 @@ written-answer-requires : tie.Need-written-answer-requires
 written-answer-requires c κs =
     let call = c .before .before in
     let table = known call in
-    short-text (table .before .args .table .now) (λ i. omega (arith, table .shared-slice-known .given i)) _ _ _ _
+    short-text (table .before .args .table .now) (λ i. omega (arith, table .shared-slice-known .given i)) _ _ _ _ _
     (call .write-lustre .ensures)
 
 returns : tie.Need-returns
