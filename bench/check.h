@@ -6,10 +6,22 @@
 #include <stdint.h>
 
 /* What an operand has to be. */
-enum { UNUSED, EARLIER_BOOL, EARLIER_COUNT, ANY_BOOL, ANY_COUNT, SIGNAL, TRUTH, OPERATOR, LITERAL, PARAMETER };
-enum { BOOL = 1, COUNT = 2 };
+enum {
+    UNUSED,
+    EARLIER_BOOL,
+    EARLIER_COUNT,
+    ANY_BOOL,
+    ANY_COUNT,
+    SIGNAL,
+    TRUTH,
+    OPERATOR,
+    LITERAL,
+    PARAMETER,
+    VELOCITY
+};
+enum { BOOL = 1, COUNT = 2, KINDS = 13 };
 
-static const uint8_t shape[12][3] = {
+static const uint8_t shape[KINDS][3] = {
     {SIGNAL, UNUSED, UNUSED},
     {UNUSED, UNUSED, UNUSED},
     {TRUTH, UNUSED, UNUSED},
@@ -22,14 +34,18 @@ static const uint8_t shape[12][3] = {
     {EARLIER_BOOL, EARLIER_COUNT, UNUSED},
     {EARLIER_COUNT, OPERATOR, LITERAL},
     {EARLIER_COUNT, OPERATOR, PARAMETER},
+    {OPERATOR, VELOCITY, UNUSED},
 };
-static const uint8_t gives[12] = {BOOL, BOOL, BOOL, BOOL, BOOL, BOOL, BOOL, COUNT, COUNT, COUNT, BOOL, BOOL};
+static const uint8_t gives[KINDS] = {BOOL,  BOOL,  BOOL,  BOOL, BOOL, BOOL, BOOL,
+                                     COUNT, COUNT, COUNT, BOOL, BOOL, BOOL};
 
 static inline int is_flow(const uint32_t *table, size_t below, int sort, uint32_t x) {
-    return x < below && table[4 * x] < 12 && gives[table[4 * x]] == sort;
+    return x < below && table[4 * x] < KINDS && gives[table[4 * x]] == sort;
 }
 
-static inline int fits(const uint32_t *table, size_t n, size_t i, int operand, uint32_t x) {
+/* Inlined at each of its three uses, as a smaller one would be. */
+static inline __attribute__((always_inline)) int fits(const uint32_t *table, size_t n, size_t i, int operand,
+                                                      uint32_t x) {
     switch (operand) {
     case UNUSED: return x == 0;
     case EARLIER_BOOL: return is_flow(table, i, BOOL, x);
@@ -40,7 +56,8 @@ static inline int fits(const uint32_t *table, size_t n, size_t i, int operand, u
     case TRUTH: return x < 2;
     case OPERATOR: return x < 5;
     case LITERAL: return x < 1000000;
-    default: return x < 8;
+    case PARAMETER: return x < 8;
+    default: return x < 128;
     }
 }
 

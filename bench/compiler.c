@@ -1,11 +1,12 @@
-/* A hand-written reader and compiler of rule texts, one pass over the words: what the bench compares with. It chooses its own
-   equations; the cards of examples/ and the rules of docs/RULES.md have the same verdicts with it. */
+/* A hand-written reader and compiler of rule texts, one pass over the words: what the bench compares with. It chooses
+   its own equations, with the velocity tests in front; the cards of examples/ and the rules of docs/RULES.md have the
+   same verdicts with it. */
 #include <string.h>
 
 #include "interpreter.h"
 
 enum { LITERAL = 1, SIGNAL, PARAMETER, BEGIN, END, POINT, HELD, KEPT, LEN, SUM, AGE, LAG, THEN, CHOP, EXISTS };
-enum { LE = EXISTS + 1, LT, EQ, GT, GE };
+enum { VELOCITY = EXISTS + 1, LE, LT, EQ, GT, GE };
 
 struct word {
     uint32_t kind, number;
@@ -13,6 +14,9 @@ struct word {
 
 static struct word words[241];
 static uint32_t at, count, n, broken, no_lead;
+
+/* The places of the literals of velocity tests, how many there are, and the flow of the next one to be parsed. */
+static uint32_t tests[80], test_count, next_test;
 static uint32_t *t;
 
 /* words: the refusal, or 0 */
@@ -26,14 +30,14 @@ static uint32_t number(const uint8_t *s, size_t length, uint32_t largest, uint32
     return *v > largest ? 3 : 0;
 }
 
-static uint32_t run(const uint8_t *s, size_t length, struct word *w) {
+static uint32_t run(const uint8_t *s, size_t length, uint32_t largest, struct word *w) {
     static const struct {
         const char *name;
         uint32_t length, kind;
     } names[] = {{"begin", 5, BEGIN}, {"end", 3, END}, {"point", 5, POINT}, {"held", 4, HELD}, {"kept", 4, KEPT},
                  {"len", 3, LEN}, {"sum", 3, SUM}, {"age", 3, AGE}, {"lag", 3, LAG}, {"then", 4, THEN},
-                 {"chop", 4, CHOP}, {"exists", 6, EXISTS}};
-    if (s[0] <= '9') return w->kind = LITERAL, number(s, length, 999999, &w->number);
+                 {"chop", 4, CHOP}, {"exists", 6, EXISTS}, {"v", 1, VELOCITY}};
+    if (s[0] <= '9') return w->kind = LITERAL, number(s, length, largest, &w->number);
     for (size_t i = 0; i < sizeof names / sizeof *names; i++)
         if (names[i].length == length && !memcmp(names[i].name, s, length)) return w->kind = names[i].kind, 0;
     if (s[0] == 's') return w->kind = SIGNAL, number(s + 1, length - 1, 63, &w->number);
@@ -42,9 +46,13 @@ static uint32_t run(const uint8_t *s, size_t length, struct word *w) {
 }
 
 static int in_run(uint8_t b) { return (b >= 'a' && b <= 'z') || (b >= '0' && b <= '9'); }
+static int is_op(uint32_t kind) { return kind >= LE && kind <= GE; }
+
+/* Whether the two words before this one are `v` and a comparison, so that a literal is a velocity (SPEC 2.11). */
+static int after_velocity(uint32_t i) { return i >= 2 && words[i - 2].kind == VELOCITY && is_op(words[i - 1].kind); }
 
 static uint32_t split(const uint8_t *s, size_t length) {
-    count = 0;
+    count = test_count = 0;
     for (size_t i = 0; i < length;) {
         uint8_t b = s[i];
         if (b == ' ') {
@@ -57,8 +65,10 @@ static uint32_t split(const uint8_t *s, size_t length) {
         if (in_run(b)) {
             size_t stop = i;
             while (stop < length && in_run(s[stop])) stop++;
-            uint32_t refused = run(s + i, stop - i, w);
+            int velocity = after_velocity(count - 1);
+            uint32_t refused = run(s + i, stop - i, velocity ? 127 : 999999, w);
             if (refused) return refused;
+            if (velocity && w->kind == LITERAL) tests[test_count++] = count - 1;
             i = stop;
             continue;
         }
@@ -116,6 +126,7 @@ static uint32_t state_unit(void) {
     }
     if (word(SIGNAL)) return put(0, w.number, 0, 0);
     if (w.kind == LITERAL && w.number < 2) return at++, put(2, w.number, 0, 0);
+    if (w.kind == VELOCITY && is_op(words[at + 1].kind) && words[at + 2].kind == LITERAL) return at += 3, next_test++;
     return broken = 1, 0;
 }
 
@@ -197,7 +208,7 @@ static struct part atom(uint32_t s, uint32_t not_s) {
     if (k == AGE) c = more = put(9, p, more, 0);
     moves_to(m, more);
     struct word op = words[at];
-    if (broken || op.kind < LE || op.kind > GE) return broken = 1, (struct part){0, 0};
+    if (broken || !is_op(op.kind)) return broken = 1, (struct part){0, 0};
     at++;
     flow = compared(c, op.kind, bound());
     return (struct part){flow, k != AGE && op.kind <= LT};
@@ -254,7 +265,10 @@ struct towerwatch_answer compiler_compile(const uint8_t *text, size_t length, ui
     if (refused) return (struct towerwatch_answer){refused, 0};
     static uint32_t own[16384];
     t = own, at = n = broken = no_lead = 0;
-    uint32_t s = put(1, 0, 0, 0), not_s = put(3, s, 0, 0), f = formula(s, not_s).flow;
+    uint32_t s = put(1, 0, 0, 0), not_s = put(3, s, 0, 0);
+    next_test = n;
+    for (uint32_t i = 0; i < test_count; i++) put(12, words[tests[i] - 1].kind - LE, words[tests[i]].number, 0);
+    uint32_t f = formula(s, not_s).flow;
     uint32_t m = memory(6), started = put(5, s, m, 0);
     moves_to(m, started), put(4, started, f, 0);
     if (broken || at != count) return (struct towerwatch_answer){6, 0};

@@ -8,7 +8,7 @@ static inline uint32_t refusal(const uint32_t *table, size_t table_len, size_t n
     if (n == 0 || n > 4096 || table_len < 4 * n) return 10;
     for (size_t i = 0; i < n; i++) {
         const uint32_t *e = table + 4 * i;
-        if (e[0] >= 12) return 11;
+        if (e[0] >= KINDS) return 11;
         const uint8_t *s = shape[e[0]];
         if (!fits(table, n, i, s[0], e[1]) || !fits(table, n, i, s[1], e[2]) || !fits(table, n, i, s[2], e[3]))
             return 11;
@@ -20,7 +20,7 @@ static inline uint32_t refusal(const uint32_t *table, size_t table_len, size_t n
 /* Which of A, B and C are flows: of an equation before this one, or, in a memory, of any. */
 enum { NO_FLOW, EARLIER, ANY };
 
-static const uint8_t operands[12][3] = {
+static const uint8_t operands[KINDS][3] = {
     {NO_FLOW, NO_FLOW, NO_FLOW},
     {NO_FLOW, NO_FLOW, NO_FLOW},
     {NO_FLOW, NO_FLOW, NO_FLOW},
@@ -33,6 +33,7 @@ static const uint8_t operands[12][3] = {
     {EARLIER, EARLIER, NO_FLOW},
     {EARLIER, NO_FLOW, NO_FLOW},
     {EARLIER, NO_FLOW, NO_FLOW},
+    {NO_FLOW, NO_FLOW, NO_FLOW},
 };
 
 /* An equation with the classes of its operands: those of this round, or, in a memory, of the round before. */

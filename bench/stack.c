@@ -7,7 +7,7 @@
  * which tells the lowest stack pointer: what the function reserved. An interrupt on the same stack begins below that.
  *
  * The same call of an empty function is taken off, and its return address put back: a number is what the caller has to
- * have free below its own frame, without the arguments that the caller itself lays there (a step has four, 32 bytes).
+ * have free below its own frame, without the arguments that the caller itself lays there (a step has five, 40 bytes).
  */
 #define _GNU_SOURCE
 #include <signal.h>
@@ -30,6 +30,7 @@ struct text {
 static struct text first, second;
 static uint32_t table[TOWERWATCH_TABLE_NUMBERS], loaded[TOWERWATCH_TABLE_NUMBERS];
 static uint32_t state[TOWERWATCH_EQUATIONS], values[TOWERWATCH_EQUATIONS], parameters[TOWERWATCH_PARAMETERS];
+static uint32_t velocity;
 static uint8_t lustre[TOWERWATCH_LUSTRE_BYTES];
 static size_t table_length, n, state_room, values_room, lustre_length, lustre_room;
 static size_t table_room = TOWERWATCH_TABLE_NUMBERS;
@@ -48,8 +49,8 @@ EMPTY no_fresh(const uint32_t *e, size_t l, size_t k, uint32_t *s, size_t m) {
     return (void)e, (void)l, (void)k, (void)s, (void)m, answer;
 }
 EMPTY no_step(const uint32_t *e, size_t l, size_t k, uint32_t *s, size_t m, uint32_t *v, size_t o, uint32_t b,
-              uint64_t x, const uint32_t *p) {
-    return (void)e, (void)l, (void)k, (void)s, (void)m, (void)v, (void)o, (void)b, (void)x, (void)p, answer;
+              uint64_t x, uint32_t y, const uint32_t *p) {
+    return (void)e, (void)l, (void)k, (void)s, (void)m, (void)v, (void)o, (void)b, (void)x, (void)y, (void)p, answer;
 }
 EMPTY no_write(const uint32_t *e, size_t l, size_t k, uint8_t *t, size_t m) {
     return (void)e, (void)l, (void)k, (void)t, (void)m, answer;
@@ -70,7 +71,7 @@ static void call_compile(void) { answer = compile(BYTES(first), loaded, table_ro
 static void call_same(void) { answer = same_rule(BYTES(first), BYTES(second)); }
 static void call_fresh(void) { answer = fresh_state(table, table_length, n, state, state_room); }
 static void call_step(void) {
-    answer = step(table, table_length, n, state, state_room, values, values_room, 1, 0x5555, parameters);
+    answer = step(table, table_length, n, state, state_room, values, values_room, 1, 0x5555, velocity, parameters);
 }
 static void call_write(void) { answer = write_lustre(table, table_length, n, lustre, lustre_room); }
 static void call_pack(void) { answer = pack(table, table_length, n, loaded, table_room); }
@@ -179,11 +180,11 @@ static void expect(const char *what, uint32_t refusal) {
  *   |    an operand and `|`         &   an operand and `&`
  *   [    `end[`                     {   `sum[`
  *   p    `lag[`                     q   `lag[1,1,`
- * After [, {, p and q stand round brackets, !, | and & only. A nest's text ends in a leaf and what closes the
- * brackets. */
+ * After [, {, p and q stand round brackets, !, | and & only. A nest's text ends in a leaf, which in square brackets can
+ * be a velocity test, and what closes the brackets. */
 enum { NEST = 120, BRACKETS = TOWERWATCH_OPEN_BRACKETS, OPERATORS = TOWERWATCH_OPERATORS };
 
-enum ending { WHOLE, NO_LEAF, NO_CLOSING, ENDINGS };
+enum ending { WHOLE, TEST, HALF_TEST, NO_LEAF, NO_CLOSING, ENDINGS };
 
 static void add(struct text *t, const char *words) {
     size_t length = strlen(words);
@@ -224,7 +225,7 @@ static void write_nest(struct text *t, const char *nest, enum ending ending) {
     set(t, "");
     for (const char *o = nest; *o; o++) opener(t, *o, inside), inside |= is_square(*o);
     if (ending == NO_LEAF) return;
-    add(t, inside ? "s0" : "len<1");
+    add(t, !inside ? "len<1" : ending == TEST ? "v<1" : ending == HALF_TEST ? "v<" : "s0");
     if (ending == NO_CLOSING) return;
     for (const char *o = nest + strlen(nest); o-- > nest;) add(t, closer(*o));
 }
@@ -244,7 +245,7 @@ static int within(const char *nest) {
 
 /* A nest as runs, as in `32t 16( [`. */
 static void name_nest(char *to, const char *nest, enum ending ending) {
-    static const char *const endings[ENDINGS] = {"", ", no leaf", ", not closed"};
+    static const char *const endings[ENDINGS] = {"", ", a velocity test", ", half a test", ", no leaf", ", not closed"};
     size_t used = 0;
     for (const char *o = nest; *o && used + 20 < NAME;) {
         size_t run = strspn(o, (char[]){*o, 0});
@@ -352,6 +353,11 @@ static void measure_texts(void) {
     measure_text("no byte", "", TOWERWATCH_REFUSED_TEXT_LENGTH);
     measure_text("no word", "end[S0]", TOWERWATCH_REFUSED_WORD);
     measure_text("a signal too high", "end[s64]", TOWERWATCH_REFUSED_NUMBER);
+    measure_text("a velocity test", "end[v<=127]", 0);
+    measure_text("a velocity too high", "end[v<=128]", TOWERWATCH_REFUSED_NUMBER);
+    text[0] = 0;
+    for (int i = 0; i < 34; i++) strcat(text, i ? "|end[v<1]" : "end[v<1]");
+    measure_text("34 velocity tests", text, 0);
     measure_text("17 brackets", "(((((((((((((((((len<1", TOWERWATCH_REFUSED_NESTING);
     measure_text("a bracket left open", "(len<1", TOWERWATCH_REFUSED_GRAMMAR);
     measure_text("a chop", "len<1 chop len<1", TOWERWATCH_REFUSED_CHOP_OR_EXISTS);
@@ -375,6 +381,9 @@ static void measure_table(const char *what) {
     measure(LOAD, what), expect(what, 0);
 }
 
+/* How many kinds of equations there are: the least number that is none. */
+enum { KINDS = 13 };
+
 /* What they refuse of it: for each number what is changed, and changed back. */
 #define REFUSED(function, place, wrong, number)   \
     do {                                          \
@@ -391,7 +400,7 @@ static void measure_refused_tables(void) {
         REFUSED(f, n, 0, 10);
         REFUSED(f, n, 1, 11);
         REFUSED(f, table_length, 4 * n - 1, 10);
-        REFUSED(f, last[0], 12, 11);
+        REFUSED(f, last[0], KINDS, 11);
         REFUSED(f, last[1], (uint32_t)n, 11);
     }
     for (int f = FRESH; f <= STEP; f++) REFUSED(f, state_room, n - 1, 12);
@@ -399,6 +408,7 @@ static void measure_refused_tables(void) {
     REFUSED(STEP, parameters[TOWERWATCH_PARAMETERS - 1], TOWERWATCH_LAST_NUMBER + 1, 13);
     REFUSED(STEP, state[6], 2, 14);
     REFUSED(STEP, state[7], TOWERWATCH_LAST_COUNT + 1, 14);
+    REFUSED(STEP, velocity, TOWERWATCH_LAST_VELOCITY + 1, 19);
     REFUSED(WRITE, lustre_room, lustre_length - 1, 15);
     REFUSED(LOAD, lustre_length, lustre_length - 1, 16);
     REFUSED(LOAD, lustre_length, 0, 16);
@@ -406,17 +416,19 @@ static void measure_refused_tables(void) {
     for (int f = PACK; f <= LOAD; f++) REFUSED(f, table_room, TOWERWATCH_TABLE_NUMBERS - 1, 9);
 }
 
-/* A table in which the kinds take turns, each with operands among the eleven equations before it. */
+/* A table in which the kinds take turns, each with operands among the equations of its own turn. */
 static void all_kinds(void) {
     for (uint32_t i = 0; i < n; i++) {
-        static const uint8_t operands[12][2] = {{0},    {0},    {0},    {1, 0}, {2, 3}, {4, 3},
-                                                {5, 0}, {8, 0}, {7, 6}, {6, 8}, {9, 0}, {9, 0}};
-        uint32_t kind = i % 12, from = i - kind, *e = table + 4 * i;
+        static const uint8_t operands[KINDS][2] = {{0},    {0},    {0},    {1, 0}, {2, 3}, {4, 3}, {5, 0},
+                                                   {8, 0}, {7, 6}, {6, 8}, {9, 0}, {9, 0}, {0}};
+        uint32_t kind = i % KINDS, from = i - kind, op = i / KINDS % 5, *e = table + 4 * i;
         e[0] = kind, e[1] = e[2] = e[3] = 0;
         if (kind == 0) e[1] = i % TOWERWATCH_SIGNALS;
-        if (kind >= 3) e[1] = from + operands[kind][0];
+        if (3 <= kind && kind < 12) e[1] = from + operands[kind][0];
         if (kind == 4 || kind == 5 || kind == 8 || kind == 9) e[2] = from + operands[kind][1];
-        if (kind >= 10) e[2] = from / 12 % 5, e[3] = kind == 10 ? TOWERWATCH_LAST_NUMBER : from % TOWERWATCH_PARAMETERS;
+        if (kind == 10) e[2] = op, e[3] = TOWERWATCH_LAST_NUMBER;
+        if (kind == 11) e[2] = op, e[3] = from % TOWERWATCH_PARAMETERS;
+        if (kind == 12) e[1] = op, e[2] = TOWERWATCH_LAST_VELOCITY;
     }
 }
 

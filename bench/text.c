@@ -42,6 +42,13 @@ int main(void) {
     TIME("read and compile a rule of 9 words", 5000, towerwatch_compile(brief, 21, table, 16384));
     TIME("read and compile a rule of 9 words, C", 5000, compiler_compile(brief, 21, table, 16384));
 
+    /* a rule of 237 words, most of them of velocity tests */
+    rule[0] = 0;
+    for (int i = 0; i < 34; i++) sprintf(rule + strlen(rule), "%send[v>=%d]", i ? "|" : "", 3 * i);
+    length = strlen(rule);
+    TIME("read and compile a rule of 237 words on velocity", 200, towerwatch_compile(bytes, length, table, 16384));
+    TIME("read and compile a rule of 237 words on velocity, C", 200, compiler_compile(bytes, length, table, 16384));
+
     /* a table of 4,096 equations with long lines: a signal, a count, then gates and comparisons, and two comparisons to
        close it */
     memset(table, 0, sizeof table);

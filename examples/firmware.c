@@ -6,8 +6,7 @@
 
 #include "towerwatch.h"
 
-_Static_assert(TOWERWATCH_VERSION_MAJOR == 3, "written for steps that answer 0, 1 or TOWERWATCH_IDLE");
-_Static_assert(TOWERWATCH_VERSION_MINOR >= 2, "written for a header that has towerwatch_pack");
+_Static_assert(TOWERWATCH_VERSION_MAJOR == 4, "written for steps that get a velocity");
 _Static_assert(TOWERWATCH_TABLE_NUMBERS == 4 * TOWERWATCH_EQUATIONS, "an equation has four numbers");
 _Static_assert(TOWERWATCH_RULE_EQUATIONS <= TOWERWATCH_EQUATIONS, "a rule's table is a table");
 
@@ -48,9 +47,9 @@ static uint32_t prepare(struct watch *w) {
 
 /* One tick of a watch. A refused step is no tick: the state, the latch and the count stay as they are. An idle watch
  * has no verdict: it is neither in order nor at fault, so that a latch that is set stays set. */
-static struct towerwatch_answer tick(struct watch *w, uint32_t start, uint64_t signals, int last) {
+static struct towerwatch_answer tick(struct watch *w, uint32_t start, uint64_t signals, uint32_t velocity, int last) {
     struct towerwatch_answer a =
-        towerwatch_step(w->table, 4 * w->n, w->n, w->state, w->n, values, w->n, start, signals, parameters);
+        towerwatch_step(w->table, 4 * w->n, w->n, w->state, w->n, values, w->n, start, signals, velocity, parameters);
     if (a.refusal != 0 || a.result == TOWERWATCH_IDLE) return a;
     w->low = a.result == 0 ? w->low + 1 : 0;
     if (w->policy == AT_ONCE) w->fault |= a.result == 0;
@@ -70,17 +69,21 @@ static struct watch watches[] = {
     {.rule = "kept[s0] then end[s2]", .policy = AT_END},
     /* 0 once the contact was away at a tick before which the drive had been on for k0 ticks; it can only fall, too */
     {.rule = "lag[s0, k0, s2]", .policy = AT_ONCE},
+    /* 0 at a tick with a stroke that is too hard, and 1 at the next: the latch keeps the fault */
+    {.rule = "end[v <= 110]", .policy = AT_ONCE},
 };
 enum { WATCHES = sizeof watches / sizeof *watches };
 
-/* A tick before the first start, then two pieces of five ticks each; the watches are told of a piece's last tick. */
+/* A tick before the first start, then two pieces of five ticks each; the watches are told of a piece's last tick. A
+ * velocity is that of the hardest stroke in its tick; the one of 127 is not judged, since nothing was started yet. */
 static void run_pieces(void) {
     static const uint32_t starts[11] = {0, 1, 0, 0, 0, 0, 1, 0, 0, 0, 0};
     static const uint64_t signals[11] = {0, 1, 1, 5, 4, 4, 1, 3, 0, 0, 0};
+    static const uint32_t velocities[11] = {127, 0, 0, 90, 0, 110, 111, 40, 0, 0, 0};
     for (int i = 0; i < 11; i++) {
         printf("tick %2d:", i);
         for (int w = 0; w < WATCHES; w++) {
-            struct towerwatch_answer a = tick(&watches[w], starts[i], signals[i], i == 5 || i == 10);
+            struct towerwatch_answer a = tick(&watches[w], starts[i], signals[i], velocities[i], i == 5 || i == 10);
             if (a.refusal != 0) printf("  refused=%u", (unsigned)a.refusal);
             else printf("  verdict=%u fault=%d", (unsigned)a.result, watches[w].fault);
         }
@@ -93,18 +96,21 @@ static void show_refused_step(struct watch *w) {
     uint32_t before[TOWERWATCH_RULE_EQUATIONS];
     memcpy(before, w->state, sizeof before);
     parameters[0] = TOWERWATCH_LAST_NUMBER + 1;
-    struct towerwatch_answer a = tick(w, 1, 0, 0);
+    struct towerwatch_answer a = tick(w, 1, 0, 0, 0);
     printf("a step with a parameter too high: refused=%u, the state is %s\n", (unsigned)a.refusal,
            memcmp(before, w->state, sizeof before) == 0 ? "kept" : "changed");
     parameters[0] = 2;
-    a = tick(w, 0, 0, 0);
+    a = tick(w, 1, 0, TOWERWATCH_LAST_VELOCITY + 1, 0);
+    printf("a step with a velocity too high: refused=%u, the state is %s\n", (unsigned)a.refusal,
+           memcmp(before, w->state, sizeof before) == 0 ? "kept" : "changed");
+    a = tick(w, 0, 0, 0, 0);
     printf("the next step: refused=%u verdict=%u\n", (unsigned)a.refusal, (unsigned)a.result);
 }
 
 /* A state that is made fresh, as after a restart of the controller, is idle until the next start. */
 static void show_fresh_state(struct watch *w) {
     towerwatch_fresh_state(w->table, 4 * w->n, w->n, w->state, w->n);
-    struct towerwatch_answer before = tick(w, 0, 0, 1), at = tick(w, 1, 0, 0);
+    struct towerwatch_answer before = tick(w, 0, 0, 0, 1), at = tick(w, 1, 0, 0, 0);
     printf("after a fresh state: verdict=%u, with a start: verdict=%u, the latch is %s\n", (unsigned)before.result,
            (unsigned)at.result, w->fault ? "kept" : "cleared");
 }

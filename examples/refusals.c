@@ -1,14 +1,14 @@
 /* The header's numbers beside the archive's answers: each refusal provoked, tables that do not close with a started
- * flow and a verdict, empty buffers that are null, each limit reached and passed, idle steps, and packed tables. A line
- * has the header's number and what the archive answered, and ends in WRONG where they do not agree or a refused call
- * changed a buffer; the exit status is then 1. */
+ * flow and a verdict, empty buffers that are null, each limit reached and passed, idle steps, velocity tests, packed
+ * tables. A line has the header's number and what the archive answered, and ends in WRONG where they do not agree or a
+ * refused call changed a buffer; the exit status is then 1. */
 #include <stdio.h>
 #include <string.h>
 
 #include "towerwatch.h"
 
 static uint32_t table[TOWERWATCH_TABLE_NUMBERS + 4], second[TOWERWATCH_TABLE_NUMBERS];
-static uint32_t state[TOWERWATCH_EQUATIONS + 1], values[3];
+static uint32_t state[TOWERWATCH_EQUATIONS + 1], values[5];
 static uint32_t parameters[TOWERWATCH_PARAMETERS];
 static uint8_t lustre[TOWERWATCH_LUSTRE_BYTES];
 static int wrong;
@@ -53,10 +53,16 @@ static struct towerwatch_answer read_text(const char *text) {
     return towerwatch_read_rule((const uint8_t *)text, strlen(text));
 }
 
-/* A step of n equations of a table of eight numbers, with the first parameter. */
-static struct towerwatch_answer step(const uint32_t *equations, size_t n, size_t state_len, uint32_t parameter) {
+/* A step of n equations of a table of eight numbers, with this velocity and this first parameter. */
+static struct towerwatch_answer struck(const uint32_t *equations, size_t n, size_t state_len, uint32_t velocity,
+                                       uint32_t parameter) {
     parameters[0] = parameter;
-    return towerwatch_step(equations, 8, n, state, state_len, values, SHORTEST, 1, 0, parameters);
+    return towerwatch_step(equations, 8, n, state, state_len, values, SHORTEST, 1, 0, velocity, parameters);
+}
+
+/* The same with no stroke. */
+static struct towerwatch_answer step(const uint32_t *equations, size_t n, size_t state_len, uint32_t parameter) {
+    return struck(equations, n, state_len, 0, parameter);
 }
 
 /* Packing n equations of a table of eight numbers into a second table of this length. */
@@ -64,10 +70,12 @@ static struct towerwatch_answer pack(const uint32_t *equations, size_t n, size_t
     return towerwatch_pack(equations, 8, n, second, second_len);
 }
 
-static const uint32_t ill[8] = {12, 0, 0, 0, 1, 0, 0, 0};
+/* Of a kind that there is not; and a memory, whose cell is out of range where the state is filled. */
+static const uint32_t ill[8] = {13, 0, 0, 0, 1, 0, 0, 0}, memory[8] = {6, 0, 0, 0, 1, 0, 0, 0};
+
+enum { TOO_HARD = TOWERWATCH_LAST_VELOCITY + 1 };
 
 static void refusals(void) {
-    static const uint32_t memory[8] = {6, 0, 0, 0, 1, 0, 0, 0};
     static char words[TOWERWATCH_TEXT_BYTES];
     memset(words, '!', TOWERWATCH_WORDS + 1);
     REFUSED(TEXT_LENGTH, read_text(""));
@@ -87,26 +95,27 @@ static void refusals(void) {
     REFUSED(STATE, step(memory, 2, 2, 0));
     REFUSED(LUSTRE_ROOM, towerwatch_write_lustre(start_flows, 8, 2, lustre, sizeof start_text - 2));
     REFUSED(LUSTRE, towerwatch_read_lustre(TEXT("let\ntel\n"), table, TOWERWATCH_TABLE_NUMBERS));
+    REFUSED(VELOCITY, struck(start_flows, 2, 2, TOO_HARD, 0));
 }
 
-/* SPEC 5.5: a table closes with two booleans, the started flow and the verdict. Each function that checks a table
- * refuses n equations that do not; 0 equations are no table at all. */
-static void not_closed(const uint32_t *equations, size_t n) {
+/* Each function that checks a table refuses these n equations. */
+static void no_table(const uint32_t *equations, size_t n) {
     REFUSED(TABLE, towerwatch_fresh_state(equations, 8, n, state, 2));
     REFUSED(TABLE, step(equations, n, 2, 0));
     REFUSED(TABLE, towerwatch_write_lustre(equations, 8, n, lustre, sizeof lustre));
     REFUSED(TABLE, pack(equations, n, TOWERWATCH_TABLE_NUMBERS));
 }
 
+/* SPEC 5.5: a table closes with two booleans, the started flow and the verdict. 0 equations are no table at all. */
 static void closing(void) {
     static const uint32_t count_first[8] = {7, 0, 0, 0, 1, 0, 0, 0}, count_last[8] = {1, 0, 0, 0, 7, 1, 0, 0};
     REFUSED(TABLE_LENGTH, towerwatch_fresh_state(start_flows, 8, 0, state, 2));
     REFUSED(TABLE_LENGTH, step(start_flows, 0, 2, 0));
     REFUSED(TABLE_LENGTH, towerwatch_write_lustre(start_flows, 8, 0, lustre, sizeof lustre));
     REFUSED(TABLE_LENGTH, pack(start_flows, 0, TOWERWATCH_TABLE_NUMBERS));
-    not_closed(start_flows, 1);
-    not_closed(count_first, 2);
-    not_closed(count_last, 2);
+    no_table(start_flows, 1);
+    no_table(count_first, 2);
+    no_table(count_last, 2);
     static const char *const texts[] = {
         "let\nf0=b;\na=f0;\ntel\n",                                /* one equation, */
         "let\nf0=b;\nw=f0;\na=f0;\ntel\n",                         /* also with a line `w=`; */
@@ -130,9 +139,9 @@ static void nulls(void) {
     REFUSED(TEXT_LENGTH, towerwatch_same_rule(TEXT("end[s0]"), NULL, 0));
     REFUSED(TABLE_LENGTH, towerwatch_fresh_state(NULL, 0, 1, NULL, 0));
     REFUSED(STATE_LENGTH, towerwatch_fresh_state(start_flows, 8, 2, NULL, 0));
-    REFUSED(TABLE_LENGTH, towerwatch_step(NULL, 0, 1, NULL, 0, NULL, 0, 1, 0, parameters));
-    REFUSED(STATE_LENGTH, towerwatch_step(start_flows, 8, 2, NULL, 0, values, 2, 1, 0, parameters));
-    REFUSED(STATE_LENGTH, towerwatch_step(start_flows, 8, 2, state, 2, NULL, 0, 1, 0, parameters));
+    REFUSED(TABLE_LENGTH, towerwatch_step(NULL, 0, 1, NULL, 0, NULL, 0, 1, 0, 0, parameters));
+    REFUSED(STATE_LENGTH, towerwatch_step(start_flows, 8, 2, NULL, 0, values, 2, 1, 0, 0, parameters));
+    REFUSED(STATE_LENGTH, towerwatch_step(start_flows, 8, 2, state, 2, NULL, 0, 1, 0, 0, parameters));
     REFUSED(TABLE_LENGTH, towerwatch_write_lustre(NULL, 0, 1, NULL, 0));
     REFUSED(LUSTRE_ROOM, towerwatch_write_lustre(start_flows, 8, 2, NULL, 0));
     REFUSED(LUSTRE, towerwatch_read_lustre(NULL, 0, NULL, 0));
@@ -198,12 +207,24 @@ static struct towerwatch_answer literal(uint32_t number) {
 
 static struct towerwatch_answer parameter(uint32_t number) { return step(start_flows, 2, 2, number); }
 
+/* A velocity as the literal of a rule, of a step, and as B of an equation. */
+static struct towerwatch_answer velocity_literal(uint32_t number) {
+    return sprintf(text, "end[v<=%u]", (unsigned)number), read_text(text);
+}
+
+static struct towerwatch_answer velocity(uint32_t number) { return struck(start_flows, 2, 2, number, 0); }
+
+static struct towerwatch_answer velocity_equation(uint32_t number) {
+    const uint32_t equations[8] = {12, 4, number, 0, 1, 0, 0, 0};
+    return step(equations, 2, 2, 0);
+}
+
 /* A count's memory that holds a number, and two comparisons of it, which close the table. */
 static struct towerwatch_answer count_cell(uint32_t number) {
     static const uint32_t equations[12] = {7, 0, 0, 0, 10, 0, 0, 1, 10, 0, 0, 1};
     uint32_t cells[3] = {number, 0, 0};
     parameters[0] = 0;
-    return towerwatch_step(equations, 12, 3, cells, 3, values, 3, 1, 0, parameters);
+    return towerwatch_step(equations, 12, 3, cells, 3, values, 3, 1, 0, 0, parameters);
 }
 
 static struct towerwatch_answer equations(size_t n) {
@@ -226,6 +247,9 @@ static void limits(void) {
     LIMIT(LAST_NUMBER, literal, NUMBER);
     LIMIT(LAST_NUMBER, parameter, PARAMETER);
     LIMIT(LAST_COUNT, count_cell, STATE);
+    LIMIT(LAST_VELOCITY, velocity_literal, NUMBER);
+    LIMIT(LAST_VELOCITY, velocity, VELOCITY);
+    LIMIT(LAST_VELOCITY, velocity_equation, TABLE);
     LIMIT(EQUATIONS, equations, TABLE_LENGTH);
     LIMIT(EQUATIONS, packed_equations, TABLE_LENGTH);
 }
@@ -254,12 +278,57 @@ static void idle(void) {
     parameters[0] = 0;
     for (int i = 0; i < 6; i++) {
         struct towerwatch_answer a =
-            towerwatch_step(by_hand, 8, 2, state, 2, values, 2, (uint32_t)i % 2, signals[i], parameters);
+            towerwatch_step(by_hand, 8, 2, state, 2, values, 2, (uint32_t)i % 2, signals[i], 0, parameters);
         int fine = a.refusal == 0 && a.result == wanted[i];
         printf("%-24s %7u result=%u%s\n", wanted[i] == TOWERWATCH_IDLE ? "IDLE" : "a verdict", (unsigned)wanted[i],
                (unsigned)a.result, fine ? "" : " WRONG");
         wrong |= !fine;
     }
+}
+
+/* SPEC 7.19: 19 comes after all other refusals of a step. */
+static void velocity_refusals(void) {
+    REFUSED(TABLE_LENGTH, struck(start_flows, 3, 2, TOO_HARD, 0));
+    REFUSED(TABLE, struck(ill, 2, 2, TOO_HARD, 0));
+    REFUSED(STATE_LENGTH, struck(start_flows, 2, 1, TOO_HARD, 0));
+    REFUSED(PARAMETER, struck(start_flows, 2, 2, TOO_HARD, TOWERWATCH_LAST_NUMBER + 1));
+    REFUSED(STATE, struck(memory, 2, 2, TOO_HARD, 0));
+    REFUSED(VELOCITY, struck(start_flows, 2, 2, UINT32_MAX, 0));
+}
+
+/* SPEC 5.3: an equation of kind 12 with a literal above 127, with a comparison that there is not, and with a C; and a
+ * text of the first. */
+static void wrong_tests(void) {
+    static const uint32_t wrong_ones[3][8] = {
+        {12, 0, TOO_HARD, 0, 1, 0, 0, 0}, {12, 5, 0, 0, 1, 0, 0, 0}, {12, 0, 0, 1, 1, 0, 0, 0}};
+    for (int i = 0; i < 3; i++) no_table(wrong_ones[i], 2);
+    REFUSED(LUSTRE, towerwatch_read_lustre(TEXT("let\nf0=v>=128;\nf1=b;\nw=f0;\na=f1;\ntel\n"), table,
+                                           TOWERWATCH_TABLE_NUMBERS));
+}
+
+/* Five velocity tests, one with each comparison, and a table that is written as text and read again. */
+static void velocity_tests(void) {
+    static const uint32_t tests[20] = {12, 0, 90, 0, 12, 1, 90, 0, 12, 2, 90, 0, 12, 3, 90, 0, 12, 4, 90, 0};
+    static const char tests_text[] = "let\nf0=v<=90;\nf1=v<90;\nf2=v=90;\nf3=v>90;\nf4=v>=90;\nw=f3;\na=f4;\ntel\n";
+    static const uint32_t velocities[5] = {0, 89, 90, 91, TOWERWATCH_LAST_VELOCITY};
+    static const uint32_t flows[5][5] = {
+        {1, 1, 0, 0, 0}, {1, 1, 0, 0, 0}, {1, 0, 1, 0, 1}, {0, 0, 0, 1, 1}, {0, 0, 0, 1, 1}};
+    static const uint32_t wanted[5] = {TOWERWATCH_IDLE, TOWERWATCH_IDLE, TOWERWATCH_IDLE, 1, 1};
+    parameters[0] = 0;
+    for (int i = 0; i < 5; i++) {
+        struct towerwatch_answer a =
+            towerwatch_step(tests, 20, 5, state, 5, values, 5, 0, 0, velocities[i], parameters);
+        int fine = a.refusal == 0 && a.result == wanted[i] && memcmp(values, flows[i], sizeof flows[i]) == 0;
+        printf("%-24s %7u result=%u%s\n", "five velocity tests", (unsigned)velocities[i], (unsigned)a.result,
+               fine ? "" : " WRONG");
+        wrong |= !fine;
+    }
+    uint32_t length = towerwatch_write_lustre(tests, 20, 5, lustre, sizeof lustre).result;
+    uint32_t n = towerwatch_read_lustre(TEXT(tests_text), table, TOWERWATCH_TABLE_NUMBERS).result;
+    int fine = length == sizeof tests_text - 1 && memcmp(lustre, tests_text, length) == 0 && n == 5 &&
+               memcmp(table, tests, sizeof tests) == 0;
+    printf("%-24s %7u result=%u%s\n", "their text", (unsigned)length, (unsigned)n, fine ? "" : " WRONG");
+    wrong |= !fine;
 }
 
 /* SPEC 8.8: packing refuses by 10, 11, then 9, where the second table is one number too short. */
@@ -294,10 +363,14 @@ static size_t memories(const uint32_t *equations, size_t n) {
 static void packed_tables(void) {
     static const uint32_t by_hand[20] = {0, 5, 0, 0, 0, 5, 0, 0, 3, 1, 0, 0, 3, 0, 0, 0, 6, 2, 0, 1};
     static const uint32_t by_hand_packed[16] = {0, 5, 0, 0, 3, 0, 0, 0, 3, 0, 0, 0, 6, 1, 0, 1};
+    static const uint32_t tests[20] = {12, 4, 90, 0, 12, 4, 90, 0, 12, 4, 91, 0, 5, 1, 2, 0, 4, 0, 3, 0};
+    static const uint32_t tests_packed[16] = {12, 4, 90, 0, 12, 4, 91, 0, 5, 0, 1, 0, 4, 0, 2, 0};
     memcpy(table, start_flows, sizeof start_flows);
     packs("two start flows", 2, 2, start_flows);
     memcpy(table, by_hand, sizeof by_hand);
     packs("a table made by hand", 5, 4, by_hand_packed);
+    memcpy(table, tests, sizeof tests);
+    packs("a velocity test twice", 5, 4, tests_packed);
     size_t n = towerwatch_compile(TEXT("sum[s0]<=3 & sum[s0]<=5"), table, TOWERWATCH_TABLE_NUMBERS).result;
     size_t k = towerwatch_pack(table, 4 * n, n, second, TOWERWATCH_TABLE_NUMBERS).result;
     int fine = k < n && memories(table, n) == 3 && memories(second, k) == 2;
@@ -317,6 +390,10 @@ int main(void) {
     widest();
     printf("idle\n");
     idle();
+    printf("velocity\n");
+    velocity_refusals();
+    wrong_tests();
+    velocity_tests();
     printf("packing\n");
     packing_refusals();
     packed_tables();

@@ -1,17 +1,21 @@
-# Prints a card that the program took as a waveform: the signals that the rule names or that are on at some tick.
+# Prints a card that the program took as a waveform: the signals that the rule names or that are on at some tick, and in
+# edition 2 likewise the velocity.
 
+FNR == 1 { edition = substr($0, 9) }
 FNR == 2 { settings = split(substr($0, 3), setting, ",") }
 FNR == 3 {
     rule = substr($0, 7)
     rest = rule
     while (match(rest, /[a-z0-9]+/)) {
         name = substr(rest, RSTART, RLENGTH)
-        if (name ~ /^[sk][0-9]+$/) shown[name] = 1
+        if (name ~ /^([sk][0-9]+|v)$/) shown[name] = 1
         rest = substr(rest, RSTART + RLENGTH)
     }
 }
 FNR > 4 {
     start[FNR - 4] = substr($0, 3, 1)
+    velocity[FNR - 4] = substr($0, 22)
+    if (edition == 2 && velocity[FNR - 4] != "0") shown["v"] = 1
     for (d = 0; d < 16; d++) {
         value = index("0123456789abcdef", substr($0, 20 - d, 1)) - 1
         for (j = 4 * d; value > 0; j++) {
@@ -33,4 +37,8 @@ END {
         for (i = 1; i <= FNR - 4; i++) printf " %d", (j, i) in on
         print ""
     }
+    if (edition != 2 || !("v" in shown)) exit
+    printf "v"
+    for (i = 1; i <= FNR - 4; i++) printf " %s", velocity[i]
+    print ""
 }

@@ -58,6 +58,17 @@ function signal(row, y,   i, on, was, path) {
     line(path, "line")
 }
 
+# the velocity as a bar in each tick that has one, with its number
+function velocities(y,   i, tall) {
+    label(margin, y + 20, "name", "v")
+    for (i = low; i <= high; i++) {
+        tall = int((18 * wave_velocity[i] + 126) / 127)
+        if (tall > 0) rect(left_of(i) + 2, y + 24 - tall, column - 4, tall, "struck")
+        label(left_of(i) + column / 2, y + 21, "number", wave_velocity[i])
+    }
+    line("M" left_of(low) " " (y + 24) "H" left_of(high + 1), "line")
+}
+
 # a triangle at the tick's left edge for each start
 function starts(y,   i) {
     label(margin, y + 20, "name", "start")
@@ -93,7 +104,10 @@ function block(y,   i, top) {
     grid(top, top + height * rows)
     y = top
     starts(y)
-    for (i = 1; i <= wave_names; i++) if (wave_name[i] ~ /^s[0-9]/) signal(wave_name[i], y += height)
+    for (i = 1; i <= wave_names; i++) {
+        if (wave_name[i] ~ /^s[0-9]/) signal(wave_name[i], y += height)
+        if (wave_name[i] == "v") velocities(y += height)
+    }
     boxes("verdict", verdicts, y += height)
     if (differing) boxes("drawn", wave["verdict"], y += height)
     return y + height + 14
@@ -119,17 +133,18 @@ function style() {
     print ".tick { font-size: 11px; fill: #666; text-anchor: middle } .bit { text-anchor: middle }"
     print ".grid { stroke: #ddd } .begin { stroke: #555; stroke-dasharray: 4 3 } .start { fill: #222 }"
     print ".on { fill: #dfe6f2 } .line { stroke: #123a7a; stroke-width: 2; fill: none }"
+    print ".struck { fill: #b8c8e8 } .number { font-size: 11px; text-anchor: middle }"
     print ".yes { fill: #d4f0d4; stroke: #2c7a2c } .no { fill: url(#hatch); stroke: #a03028 } .plate { fill: #fff }"
     print ".idle { stroke: #555; stroke-width: 2; stroke-dasharray: 2 3 }"
     print ".frame { fill: none; stroke: #000; stroke-width: 3 }"
     print "</style>"
 }
 
-# the sizes: rows are the start, the signals, the verdicts and, where they differ, the drawn ones
+# the sizes: rows are the start, the signals, the velocity, the verdicts and, where they differ, the drawn ones
 function measure(   i) {
     margin = 20; labels = 80; column = 28; height = 32; per = 40
     rows = 2 + differing
-    for (i = 1; i <= wave_names; i++) rows += wave_name[i] ~ /^s[0-9]/
+    for (i = 1; i <= wave_names; i++) rows += wave_name[i] ~ /^(s[0-9]|v$)/
     page_width = 2 * margin + labels + column * (wave_ticks < per ? wave_ticks : per)
     if (page_width < 480) page_width = 480
 }

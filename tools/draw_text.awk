@@ -1,11 +1,11 @@
 # Prints a waveform with the verdicts under its columns; goes with waveform.awk and read.awk. `printed` is the file with
 # what the program printed. Exit status 1 where a row `verdict` was given and differs.
 
-# a row's columns from tick `low` to tick `high`, counted from 1
+# a row's columns from tick `low` to tick `high`, counted from 1: its digits, or numbers in the rows `tick` and `v`
 function columns(title, digits, low, high,   line, i, column) {
     line = sprintf("%-" wide "s", title)
     for (i = low; i <= high; i++) {
-        column = digits == "" ? i - 1 "" : substr(digits, i, 1)
+        column = title == "tick" ? i - 1 "" : title == "v" ? wave_velocity[i] : substr(digits, i, 1)
         while (length(column) < width) column = " " column
         line = line column
     }
@@ -27,15 +27,23 @@ function block(low, high,   i, row) {
     columns("", marks, low, high)
 }
 
-# the signals and settings that the rule names and that have no row
+# how wide a column is: as the longest number in it, and a blank
+function column_width(   i, longest) {
+    longest = length(wave_ticks - 1 "")
+    for (i = 1; ("v" in wave) && i <= wave_ticks; i++)
+        if (length(wave_velocity[i]) > longest) longest = length(wave_velocity[i])
+    return longest + 1
+}
+
+# the signals and settings that the rule names and that have no row, and `v`
 function unnamed(   rest, row, seen) {
     rest = wave_rule
     while (match(rest, /[a-z0-9]+/)) {
         row = substr(rest, RSTART, RLENGTH)
         rest = substr(rest, RSTART + RLENGTH)
-        if (row !~ /^[sk][0-9]+$/ || (row in wave) || (row in seen)) continue
+        if (row !~ /^([sk][0-9]+|v)$/ || (row in wave) || (row in seen)) continue
         seen[row] = 1
-        print "note: the rule names " row ", which has no row here; it is 0" (row ~ /^s/ ? " at each tick" : "")
+        print "note: the rule names " row ", which has no row here; it is 0" (row ~ /^k/ ? "" : " at each tick")
     }
 }
 
@@ -61,7 +69,7 @@ END {
     while ((getline line < printed) > 0) verdicts = verdicts substr(line, 9)
     compare()
     wide = 8
-    width = length(wave_ticks - 1 "") + 1
+    width = column_width()
     # ticks in a block: tens, so that the lines stay under 120 characters
     per = int(110 / width / 10) * 10
     print "rule     " wave_rule

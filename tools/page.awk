@@ -16,7 +16,7 @@ function fault(line, what) {
 # the first line of a block: what kind of block it is
 function begin_block(line) {
     if (line ~ /^    edition=/ || line ~ /^    \$ /) return "other"
-    if (line !~ /^    (s[0-9]+|k[0-9]+|start|tick|verdict) /)
+    if (line !~ /^    (s[0-9]+|k[0-9]+|v|start|tick|verdict) /)
         fault(FNR, "a block that is neither a waveform nor a card nor a command")
     if (!ruled || ruled != FNR - 2) fault(FNR, "a waveform without a rule two lines above it")
     ruled = 0

@@ -17,6 +17,11 @@ card_line_drawn() {
         inside && ++n == line { sub(/^ +/, ""); print }' "$page"
 }
 
+# what the page draws for the line of a tick in edition 2: the first such line that it has in backquotes
+tick_drawn_with_velocity() {
+    awk 'match($0, /`t=[01],[0-9a-f]+,[0-9]+`/) { print substr($0, RSTART + 1, RLENGTH - 2); exit }' "$page"
+}
+
 # what the program answers to a rule text on standard input: a refusal's number, or 0 where it is read
 answer() {
     { printf 'edition=1\nk=0,0,0,0,0,0,0,0\nwatch=' && cat && printf '\nticks=0\n'; } >"$work/tried"
@@ -175,7 +180,8 @@ place_without_lead() {
 
 # what is wrong with a card's line: its number, and the refusal's number
 place_in_card() {
-    local line=$1 kind=$(($1 < 5 ? $1 : 5)) ticks
+    local line=$1 kind=$(($1 < 5 ? $1 : 5)) edition ticks
+    edition=$(sed -n '1s/^edition=\([12]\)$/\1/p' "$work/card")
     ticks=$(sed -n '4s/^ticks=//p' "$work/card" | tr -d '\r')
     echo "line $line of the card: $(sed -n "${line}p" "$work/card" | head -c 60 | tr -d '\n' | printable)"
     if [ "$2" = 18 ] && [ "$line" = $((ticks + 5)) ]; then
@@ -183,9 +189,10 @@ place_in_card() {
         return
     fi
     head -n "$line" "$work/card" | tail -n +"$line" | awk -v drawn="$(card_line_drawn "$kind")" -v kind="$kind" \
-        -v ended="$(head -n "$line" "$work/card" | tail -c 1 | od -An -tu1)" \
+        -v edition="$edition" -v ended="$(head -n "$line" "$work/card" | tail -c 1 | od -An -tu1)" \
         -f "$here/waveform.awk" -f "$here/card_line.awk" | tr '\000-\011\013-\037\177-\377' '?'
     echo "docs/RULES.md has: $(card_line_drawn "$kind")"
+    [ "$kind$edition" != 52 ] || echo "docs/RULES.md has for edition 2: $(tick_drawn_with_velocity)"
 }
 
 # the line at which a card is refused by 17: the first that has no end, or that the program refuses when good lines

@@ -2,17 +2,21 @@
 #
 # A waveform has one rule and these rows, each a name, blanks, and what belongs to it with blanks between:
 #   s0 to s63   one bit a tick; a signal without a row is 0 at each tick
+#   v           a number up to 127 a tick, the velocity of its hardest stroke; without this row it is 0 at each tick
 #   start       one bit a tick; without this row the first tick is the only start
 #   k0 to k7    a number up to 999999; a setting without a row is 0
 #   tick        the numbers of the ticks, 0 1 2 and so on, for the eye
 #   verdict     what is expected, for each tick 0, 1, or 2 for idle: before the first start
 #   rule        the rule's text
-# Each function that can fail returns what is wrong, or nothing.
+# Where there is a row `v`, the card is one of edition 2, else of edition 1. Each function that can fail returns what is
+# wrong, or nothing.
 
-# begins a waveform: `wave` has the rows by name (digits without blanks), `wave_name` the names in their order
+# begins a waveform: `wave` has the rows by name (digits without blanks), `wave_name` the names in their order, and
+# `wave_velocity` the numbers of the row `v` by tick, counted from 1
 function wave_forget() {
     split("", wave)
     split("", wave_name)
+    split("", wave_velocity)
     wave_names = 0
     wave_ticks = 0
     wave_rule = ""
@@ -33,7 +37,7 @@ function wave_row(line,   name, rest) {
     if (name ~ /^k[0-9]+$/) return wave_take_setting(name, rest)
     if (name ~ /^s[0-9]+$/ && (name ~ /^s0./ || length(name) > 3 || substr(name, 2) + 0 > 63))
         return "`" name "` is no signal: they are s0 to s63"
-    if (name !~ /^s[0-9]+$/ && name != "start" && name != "verdict" && name != "tick")
+    if (name !~ /^s[0-9]+$/ && name != "v" && name != "start" && name != "verdict" && name != "tick")
         return "no row has the name `" substr(name, 1, 40) "`"
     return wave_take_columns(name, rest)
 }
@@ -52,6 +56,11 @@ function wave_number(text) {
 
 function wave_no_number(text) { return "`" text "` is no number up to 999999 without a needless 0" }
 
+# the same of a velocity
+function wave_is_velocity(text) { return wave_number(text) && text + 0 <= 127 }
+
+function wave_no_velocity(text) { return "`" text "` is no velocity: a number up to 127 without a needless 0" }
+
 function wave_take_setting(name, number) {
     if (name !~ /^k[0-7]$/) return "`" name "` is no setting: they are k0 to k7"
     if (!wave_number(number)) return wave_no_number(number)
@@ -67,9 +76,10 @@ function wave_take_columns(name, rest,   column, count, i, digits) {
     for (i = 1; i <= count; i++) {
         if (name == "tick" && column[i] != i - 1 "") return "`" column[i] "` is not the tick " (i - 1)
         if (name == "verdict" && column[i] !~ /^[012]$/) return "`" column[i] "` in column " i " is none of 0, 1 and 2"
-        if (name != "tick" && name != "verdict" && column[i] !~ /^[01]$/)
-            return "`" column[i] "` in column " i " is neither 0 nor 1"
-        digits = digits (name == "tick" ? "" : column[i])
+        if (name == "v" && !wave_is_velocity(column[i])) return "in column " i " " wave_no_velocity(column[i])
+        if (name ~ /^s/ && column[i] !~ /^[01]$/) return "`" column[i] "` in column " i " is neither 0 nor 1"
+        if (name == "v") wave_velocity[i] = column[i]
+        else digits = digits (name == "tick" ? "" : column[i])
     }
     if (count == 0) return "the row `" name "` has no column"
     if (wave_ticks > 0 && count != wave_ticks)
@@ -113,10 +123,12 @@ function wave_digits(i,   d, j, value, digits) {
 }
 
 # writes the card into a file
-function wave_card(file,   i, settings) {
+function wave_card(file,   i, settings, edition) {
+    edition = ("v" in wave) ? 2 : 1
     settings = "k="
     for (i = 0; i < 8; i++) settings = settings (i ? "," : "") ((("k" i) in wave) ? wave["k" i] : "0")
-    print "edition=1\n" settings "\nwatch=" wave_rule "\nticks=" wave_ticks > file
-    for (i = 1; i <= wave_ticks; i++) print "t=" wave_start(i) "," wave_digits(i) > file
+    print "edition=" edition "\n" settings "\nwatch=" wave_rule "\nticks=" wave_ticks > file
+    for (i = 1; i <= wave_ticks; i++)
+        print "t=" wave_start(i) "," wave_digits(i) (edition == 2 ? "," wave_velocity[i] : "") > file
     close(file)
 }

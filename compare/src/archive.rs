@@ -36,6 +36,7 @@ extern "C" {
         values_len: usize,
         start: u32,
         signals: u64,
+        velocity: u32,
         parameters: *const u32,
     ) -> Answer;
     fn towerwatch_write_lustre(table: *const u32, table_len: usize, n: usize, text: *mut u8, text_len: usize) -> Answer;
@@ -60,6 +61,7 @@ pub fn fresh_state(table: &[u32], n: usize, state: &mut [u32]) -> Answer {
 pub struct Tick {
     pub start: u32,
     pub signals: u64,
+    pub velocity: u32,
     pub parameters: [u32; 8],
 }
 
@@ -75,6 +77,7 @@ pub fn step(table: &[u32], n: usize, state: &mut [u32], values: &mut [u32], tick
             values.len(),
             tick.start,
             tick.signals,
+            tick.velocity,
             tick.parameters.as_ptr(),
         )
     }

@@ -42,7 +42,7 @@ pub const SORTS: [Sort; 8] = [
     Sort { name: "pairs of texts", gate: 200_000, run: |run, n| (0..n).for_each(|i| texts::same_case(run, i)) },
     Sort { name: "tables", gate: 200_000, run: |run, n| (0..n).for_each(|i| tables::table_case(run, i)) },
     Sort { name: "Lustre texts", gate: 50_000, run: |run, n| (0..n).for_each(|i| lustre::lustre_case(run, i)) },
-    Sort { name: "whole cards", gate: 5000, run: |run, n| (0..n).for_each(|i| cards::card_case(run, i)) },
+    Sort { name: "whole cards", gate: 10_000, run: |run, n| (0..n).for_each(|i| cards::card_case(run, i)) },
     Sort { name: "packed tables", gate: 100_000, run: |run, n| (0..n).for_each(|i| packing::packing_case(run, i)) },
     Sort { name: "runs past the cap of counts", gate: 24, run: long_runs::run },
 ];

@@ -7,13 +7,14 @@ pub mod scramble;
 mod text;
 mod words;
 
-pub use parse::{limits, read, read_or_all, Limit};
+pub use parse::{limits, read, read_or_all, refusal_without_velocities, Limit};
 pub use text::text_of;
 
 #[derive(Clone, PartialEq, Debug)]
 pub enum Prop {
     Constant(bool),
     Signal(u32),
+    Velocity(Op, u32),
     Not(Box<Prop>),
     And(Box<Prop>, Box<Prop>),
     Or(Box<Prop>, Box<Prop>),
@@ -165,6 +166,29 @@ pub fn lags(r: &Rule, around: Around) -> Vec<(Around, Delay)> {
         Rule::And(f, g) | Rule::Or(f, g) => [lags(f, around), lags(g, around)].concat(),
         Rule::Then(f, g) => [lags(f, Around::Lead), lags(g, Around::Second)].concat(),
         Rule::Chop(..) | Rule::Exists(..) => panic!("not of the fragment"),
+    }
+}
+
+/// The velocity tests of a proposition, in the order of its text.
+fn tests_of(p: &Prop) -> Vec<(Op, u32)> {
+    match p {
+        Prop::Constant(_) | Prop::Signal(_) => Vec::new(),
+        Prop::Velocity(op, n) => vec![(*op, *n)],
+        Prop::Not(p) => tests_of(p),
+        Prop::And(p, q) | Prop::Or(p, q) => [tests_of(p), tests_of(q)].concat(),
+    }
+}
+
+/// The velocity tests of a rule, in the order of its text.
+pub fn velocity_tests(r: &Rule) -> Vec<(Op, u32)> {
+    match r {
+        Rule::Len(..) => Vec::new(),
+        Rule::Test(_, p) | Rule::Sum(p, ..) | Rule::Age(p, ..) => tests_of(p),
+        Rule::Lag(p, _, q) => [tests_of(p), tests_of(q)].concat(),
+        Rule::Not(f) | Rule::Exists(_, f) => velocity_tests(f),
+        Rule::And(f, g) | Rule::Or(f, g) | Rule::Then(f, g) | Rule::Chop(f, g) => {
+            [velocity_tests(f), velocity_tests(g)].concat()
+        }
     }
 }
 

@@ -7,6 +7,9 @@ pub mod packing;
 use crate::archive::{Answer, Tick};
 use crate::rule::{compare, OPS};
 
+/// SPEC 5.3: how many kinds there are.
+pub const KINDS: u32 = 13;
+
 /// SPEC 5.2: whether the flow of an equation of this kind is a count.
 pub fn is_count(kind: u32) -> bool {
     matches!(kind, 7 | 8 | 9)
@@ -20,7 +23,7 @@ pub fn equation(table: &[u32], i: usize) -> [u32; 4] {
 /// Whether equation i of n has the operands that SPEC 5.3 and SPEC 5.4 ask for, and is 0 elsewhere (SPEC 5.1).
 fn is_fine(table: &[u32], n: usize, i: usize) -> bool {
     let kind = |x: u32| table[4 * x as usize];
-    let boolean = |x: u32, limit: usize| (x as usize) < limit && kind(x) < 12 && !is_count(kind(x));
+    let boolean = |x: u32, limit: usize| (x as usize) < limit && kind(x) < KINDS && !is_count(kind(x));
     let count = |x: u32, limit: usize| (x as usize) < limit && is_count(kind(x));
     let [k, a, b, c] = equation(table, i);
     match k {
@@ -35,6 +38,7 @@ fn is_fine(table: &[u32], n: usize, i: usize) -> bool {
         9 => boolean(a, i) && count(b, i) && c == 0,
         10 => count(a, i) && b < 5 && c <= 999_999,
         11 => count(a, i) && b < 5 && c < 8,
+        12 => a < 5 && b <= 127 && c == 0,
         _ => false,
     }
 }
@@ -44,7 +48,7 @@ fn is_fine(table: &[u32], n: usize, i: usize) -> bool {
 pub enum Flaw {
     /// 10 (SPEC 7.10): no table of so many equations.
     Size,
-    /// 11 (SPEC 7.11): the first equation that is not fine has this kind (12 for any kind that there is not).
+    /// 11 (SPEC 7.11): the first equation that is not fine has this kind (`KINDS` for any kind that there is not).
     Equation(u32),
     /// 11: there is one equation, and a table closes with two (SPEC 5.5).
     One,
@@ -68,7 +72,7 @@ pub fn flaw(table: &[u32], n: usize) -> Option<Flaw> {
         return Some(Flaw::Size);
     }
     if let Some(i) = (0..n).find(|i| !is_fine(table, n, *i)) {
-        return Some(Flaw::Equation(table[4 * i].min(12)));
+        return Some(Flaw::Equation(table[4 * i].min(KINDS)));
     }
     match table[..4 * n] {
         [_, _, _, _] => Some(Flaw::One),
@@ -117,7 +121,8 @@ pub fn fresh_state(table: &[u32], n: usize, state: &mut [u32]) -> Answer {
     Answer::given(0)
 }
 
-/// All refusals of a step that apply, in the order of SPEC 8.5: of the table, then SPEC 7.12, SPEC 7.13, SPEC 7.14.
+/// All refusals of a step that apply, in the order of SPEC 8.5: of the table, then SPEC 7.12, SPEC 7.13, SPEC 7.14 and
+/// SPEC 7.19.
 pub fn step_refusals(table: &[u32], n: usize, state: &[u32], values: &[u32], tick: &Tick) -> Vec<u32> {
     let flaw = flaw(table, n);
     let outside = |i: usize| table[4 * i] == 6 && state[i] > 1 || table[4 * i] == 7 && state[i] > 1_000_000;
@@ -127,6 +132,7 @@ pub fn step_refusals(table: &[u32], n: usize, state: &[u32], values: &[u32], tic
         (12, state.len() < n || values.len() < n),
         (13, tick.parameters.iter().any(|p| *p > 999_999)),
         (14, (0..cells).any(outside)),
+        (19, tick.velocity > 127),
     ];
     refusals.extend(applies.iter().filter(|a| a.1).map(|a| a.0));
     refusals
@@ -136,7 +142,7 @@ pub fn step_refusals(table: &[u32], n: usize, state: &[u32], values: &[u32], tic
 fn flow(table: &[u32], i: usize, flows: &[u32], cell: u32, tick: &Tick) -> u32 {
     let [k, a, b, c] = equation(table, i);
     let of = |x: u32| flows[x as usize];
-    let compared = |n: u32| u32::from(compare(OPS[b as usize].0, u64::from(of(a)), u64::from(n)));
+    let compared = |x: u32, op: u32, n: u32| u32::from(compare(OPS[op as usize].0, u64::from(x), u64::from(n)));
     match k {
         0 => (tick.signals >> a & 1) as u32,
         1 => u32::from(tick.start != 0),
@@ -148,8 +154,9 @@ fn flow(table: &[u32], i: usize, flows: &[u32], cell: u32, tick: &Tick) -> u32 {
         8 => (of(a) + of(b)).min(1_000_000),
         9 if of(a) == 1 => of(b),
         9 => 0,
-        10 => compared(c),
-        _ => compared(tick.parameters[c as usize]),
+        10 => compared(of(a), b, c),
+        11 => compared(of(a), b, tick.parameters[c as usize]),
+        _ => compared(tick.velocity, a, b),
     }
 }
 

@@ -1,12 +1,12 @@
 //! How often each outcome came up, and how often it has to.
 
-use crate::card::{End, Place, Why};
+use crate::card::{Edition, End, Place, Why, Wrong, EDITIONS, WRONG_VELOCITIES};
 use crate::cases::packing::Origin;
 use crate::rule::meaning::IDLE;
-use crate::rule::{Around, Delay, Limit, Root, AROUND, DELAYS, OPS, TESTS};
+use crate::rule::{Around, Delay, Limit, Op, Root, AROUND, DELAYS, OPS, TESTS};
 use crate::table::lustre::WRONG_ENDS;
 use crate::table::packing::{Effect, EFFECTS};
-use crate::table::{Flaw, CLOSING};
+use crate::table::{Flaw, CLOSING, KINDS};
 use std::cmp::Ordering;
 use std::collections::BTreeMap;
 
@@ -20,6 +20,10 @@ pub enum Outcome {
     Order(Operation, u32, u32),
     /// What a text with `lag` or `,` in it is answered by reading.
     ReadLag(u32),
+    /// What a text with `v` in it is answered by reading.
+    ReadVelocity(u32),
+    /// A text that is refused by 3 for the literal of a velocity test, with its answer if there were no such limit.
+    VelocityTooHigh(u32),
     /// A text that is read and stands exactly at a limit.
     AtLimit(Limit),
     /// The refusal is the first text's, or the second's after a first that is read.
@@ -41,14 +45,19 @@ pub enum Outcome {
     OtherParameters(u32),
     /// A `lag` of a rule that is run.
     Lag(Around, Delay),
+    /// A velocity test of a rule that is run, at a tick: its operator, and whether the tick's velocity is less than,
+    /// equal to or greater than its literal.
+    Tested(Op, Ordering),
+    /// A rule that is run and has some velocity test twice.
+    RepeatedTest,
     /// The answer of a random table.
     TableAnswer(u32),
     /// Two answers of a random table, one after the other. It may go back to 2, which a rule's table does not.
     TableTurn(u32, u32),
     /// The value of an equation of this kind in a step: 0, 1, or 2 for any count above 1.
     Flow(u32, u32),
-    /// An equation of kind 10 or 11 in a step, with its operator, and whether its count is less than, equal to or
-    /// greater than the other number.
+    /// An equation of kind 10, 11 or 12 in a step, with its operator, and whether its count, or the velocity, is less
+    /// than, equal to or greater than the other number.
     Compared(u32, u32, Ordering),
     /// A fresh state of 4,096 equations, and a Lustre text of 4,096 that is read.
     LargestTable,
@@ -81,11 +90,12 @@ pub enum Outcome {
     Apart(u32, usize),
     /// The answer of a table and of its packed table.
     PackedAnswer(u32),
-    /// How a card ends, with None for one that is fine.
-    Card(Option<End>),
-    CardVerdict(u32),
+    /// A card's edition, if it has one, and how the card ends, with None for one that is fine.
+    Card(Option<Edition>, Option<End>),
+    /// A verdict of a card of this edition, and whether the rule names `v`.
+    CardVerdict(Edition, bool, u32),
     /// A card longer than the program's buffer that prints at least 500 verdicts, and whether it is refused then.
-    LongCard(bool),
+    LongCard(Edition, bool),
 }
 
 /// Those of the operations that a call can break in two ways.
@@ -188,26 +198,31 @@ fn wanted() -> Vec<(Outcome, u64)> {
     let mut want = |least: u64, outcomes: &mut dyn Iterator<Item = Outcome>| all.extend(outcomes.map(|o| (o, least)));
     want(500, &mut (0..=8).map(Outcome::Read));
     want(500, &mut (0..=8).map(Outcome::ReadLag));
+    want(500, &mut (0..=8).map(Outcome::ReadVelocity));
+    want(100, &mut [0, 2, 6].into_iter().map(Outcome::VelocityTooHigh));
     want(500, &mut (0..=9).map(Outcome::Compile));
     want(100, &mut [Limit::Bytes, Limit::Words, Limit::Brackets, Limit::Operators].into_iter().map(Outcome::AtLimit));
+    want(500, &mut std::iter::once(Outcome::AtLimit(Limit::Velocity)));
     want(100, &mut (1..=8).flat_map(|r| [Outcome::SameFirst(r), Outcome::SameSecond(r)]));
     want(5000, &mut [true, false].into_iter().map(Outcome::Same));
     want(2000, &mut [0, 10, 11, 12].into_iter().map(Outcome::FreshState));
-    want(2000, &mut [0, 10, 11, 12, 13, 14].into_iter().map(Outcome::Step));
-    want(20_000, &mut [0, 12, 13].into_iter().map(Outcome::RuleStep));
+    want(2000, &mut [0, 10, 11, 12, 13, 14, 19].into_iter().map(Outcome::Step));
+    want(20_000, &mut [0, 12, 13, 19].into_iter().map(Outcome::RuleStep));
     want(10_000, &mut std::iter::once(Outcome::RefusedStart));
     want(300, &mut roots().into_iter().flat_map(|r| [Outcome::Verdict(r, 0), Outcome::Verdict(r, 1)]));
     want(10, &mut roots().into_iter().map(|r| Outcome::Verdict(r, IDLE)));
     want(1000, &mut std::iter::once(Outcome::NeverStarted));
     want(1000, &mut (0..3).map(Outcome::OtherParameters));
     want(200, &mut AROUND.into_iter().flat_map(|a| DELAYS.map(|d| Outcome::Lag(a, d))));
+    want(20_000, &mut OPS.iter().flat_map(|(op, _)| WAYS.map(|way| Outcome::Tested(*op, way))));
+    want(5000, &mut std::iter::once(Outcome::RepeatedTest));
     want(50_000, &mut (0..3).map(Outcome::TableAnswer));
     want(2000, &mut (0..3).flat_map(|from| (0..3).map(move |to| Outcome::TableTurn(from, to))));
     want(2000, &mut flows());
     want(2000, &mut comparisons());
     want(500, &mut std::iter::once(Outcome::AtCap));
     want(5, &mut [Outcome::LargestTable, Outcome::LargestText].into_iter());
-    want(500, &mut (0..=12).map(|k| Outcome::Flawed(Flaw::Equation(k))));
+    want(500, &mut (0..=KINDS).map(|k| Outcome::Flawed(Flaw::Equation(k))));
     want(500, &mut [Flaw::Size].into_iter().chain(CLOSING).map(Outcome::Flawed));
     want(100, &mut CLOSING.into_iter().map(Outcome::WriteFlawed));
     want(100, &mut (0..WRONG_ENDS).map(Outcome::WrongEnd));
@@ -215,22 +230,22 @@ fn wanted() -> Vec<(Outcome, u64)> {
     want(500, &mut [0, 10, 11, 15].into_iter().map(Outcome::WriteLustre));
     want(500, &mut [0, 9, 16].into_iter().map(Outcome::ReadLustre));
     want(200, &mut (0..10).map(|k| Outcome::Line(k, 0)));
-    want(200, &mut (0..5).flat_map(|op| [Outcome::Line(10, op), Outcome::Line(11, op)]));
+    want(200, &mut (0..5).flat_map(|op| [10, 11, 12].map(|k| Outcome::Line(k, op))));
     want(500, &mut [0, 9, 10, 11].into_iter().map(Outcome::Pack));
     want(100, &mut [Flaw::Size].into_iter().chain(CLOSING).map(Outcome::PackFlawed));
-    want(50, &mut (0..=12).map(|k| Outcome::PackFlawed(Flaw::Equation(k))));
+    want(50, &mut (0..=KINDS).map(|k| Outcome::PackFlawed(Flaw::Equation(k))));
     want(500, &mut EFFECTS.into_iter().map(|e| Outcome::Packed(Origin::ByHand, e)));
     want(500, &mut EFFECTS[..5].iter().map(|e| Outcome::Packed(Origin::Compiled, *e)));
     want(2, &mut [true, false].into_iter().map(Outcome::LargestPacked));
     want(500, &mut (2..5).map(Outcome::SmallestPacked));
-    want(500, &mut (0..12).map(Outcome::Merged));
+    want(500, &mut (0..KINDS).map(Outcome::Merged));
     want(50, &mut constants());
     want(50_000, &mut (0..3).map(Outcome::PackedAnswer));
     want(50, &mut orders());
     want(5, &mut card_ends());
-    want(5000, &mut [0, 1].into_iter().map(Outcome::CardVerdict));
-    want(1000, &mut std::iter::once(Outcome::CardVerdict(IDLE)));
-    want(5, &mut [true, false].into_iter().map(Outcome::LongCard));
+    want(2000, &mut card_verdicts([0, 1].into_iter()));
+    want(200, &mut card_verdicts(std::iter::once(IDLE)));
+    want(5, &mut EDITIONS.into_iter().flat_map(|e| [true, false].map(|refused| Outcome::LongCard(e, refused))));
     all
 }
 
@@ -249,19 +264,23 @@ fn roots() -> Vec<Root> {
 
 /// Both values of each boolean kind; 0, 1 and more of each kind of count.
 fn flows() -> impl Iterator<Item = Outcome> {
-    (0..12).flat_map(|k| (0..if crate::table::is_count(k) { 3 } else { 2 }).map(move |v| Outcome::Flow(k, v)))
+    (0..KINDS).flat_map(|k| (0..if crate::table::is_count(k) { 3 } else { 2 }).map(move |v| Outcome::Flow(k, v)))
 }
 
-/// Each of the five operators on a count that is less, equal and greater, in both kinds that compare.
+/// How a number stands to another.
+const WAYS: [Ordering; 3] = [Ordering::Less, Ordering::Equal, Ordering::Greater];
+
+/// Each of the five operators on a number that is less, equal and greater, in each kind that compares.
 fn comparisons() -> impl Iterator<Item = Outcome> {
-    let ways = [Ordering::Less, Ordering::Equal, Ordering::Greater];
-    let of_kind = move |k| (0..5).flat_map(move |op| ways.map(|way| Outcome::Compared(k, op, way)));
-    [10, 11].into_iter().flat_map(of_kind)
+    let of_kind = |k| (0..5).flat_map(move |op| WAYS.map(|way| Outcome::Compared(k, op, way)));
+    [10, 11, 12].into_iter().flat_map(of_kind)
 }
 
 /// Each number of an equation that is neither a flow nor always 0.
 fn constants() -> impl Iterator<Item = Outcome> {
-    [(0, 1), (2, 1), (6, 3), (10, 2), (10, 3), (11, 2), (11, 3)].into_iter().map(|(k, j)| Outcome::Apart(k, j))
+    const PLACES: [(u32, usize); 9] =
+        [(0, 1), (2, 1), (6, 3), (10, 2), (10, 3), (11, 2), (11, 3), (12, 1), (12, 2)];
+    PLACES.into_iter().map(|(k, j)| Outcome::Apart(k, j))
 }
 
 fn orders() -> impl Iterator<Item = Outcome> {
@@ -274,18 +293,32 @@ fn orders() -> impl Iterator<Item = Outcome> {
         of(Operation::Same, &[(2, 6), (6, 2), (2, 3), (3, 2), (7, 2)]),
         of(Operation::FreshState, &[(10, 12), (11, 12)]),
         of(Operation::Step, &[(10, 12), (10, 13), (11, 12), (11, 13), (11, 14), (12, 13), (12, 14), (13, 14)]),
+        (10..=14).map(|refusal| Outcome::Order(Operation::Step, refusal, 19)).collect(),
         of(Operation::ReadLustre, &[(16, 9)]),
         of(Operation::Pack, &[(10, 9), (11, 9)]),
     ];
     all.into_iter().flatten()
 }
 
+/// Each way in which a line can fail at each place, in both editions; of a tick also each wrong velocity.
 fn card_ends() -> impl Iterator<Item = Outcome> {
-    let lines = [Place::Edition, Place::Parameters, Place::Rule, Place::Count, Place::Tick];
+    let lines = [Place::Parameters, Place::Rule, Place::Count, Place::Tick];
     let ways = [Why::Missing, Why::Unfinished, Why::OverLong, Why::Broken];
-    let ends = lines.into_iter().flat_map(move |place| ways.into_iter().map(move |why| End(place, why)));
-    let refused = (1..=8).map(|number| End(Place::Rule, Why::Refused(number)));
-    let more = std::iter::once(End(Place::After, Why::More));
-    let ends = ends.chain(refused).chain(more).map(Some);
-    ends.chain(std::iter::once(None)).map(Outcome::Card)
+    let first = ways.map(|why| Outcome::Card(None, Some(End(Place::Edition, why))));
+    let later = EDITIONS.into_iter().flat_map(move |edition| {
+        let ends = lines.into_iter().flat_map(move |place| ways.map(|why| End(place, why)));
+        let refused = (1..=8).map(|number| End(Place::Rule, Why::Refused(number)));
+        let velocities: &[Wrong] = if edition == Edition::One { &[Wrong::Extra] } else { &WRONG_VELOCITIES };
+        let velocities = velocities.iter().map(|wrong| End(Place::Tick, Why::Velocity(*wrong)));
+        let more = std::iter::once(End(Place::After, Why::More));
+        let ends = ends.chain(refused).chain(velocities).chain(more).map(Some);
+        ends.chain(std::iter::once(None)).map(move |end| Outcome::Card(Some(edition), end))
+    });
+    first.into_iter().chain(later)
+}
+
+/// These verdicts, on cards of each edition, whose rules name `v` or do not.
+fn card_verdicts(verdicts: impl Iterator<Item = u32> + Clone) -> impl Iterator<Item = Outcome> {
+    let sorts = EDITIONS.into_iter().flat_map(|edition| [true, false].map(|names| (edition, names)));
+    sorts.flat_map(move |(edition, names)| verdicts.clone().map(move |v| Outcome::CardVerdict(edition, names, v)))
 }

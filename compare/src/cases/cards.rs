@@ -34,11 +34,12 @@ pub fn card_case(run: &mut Run, number: u64) {
     let case = || format!("card {number} in pieces of {piece}: {}", show(&card));
     same(show(&output), show(&wanted.bytes()), case);
     same(ended_well, true, || format!("the exit status of {}", case()));
-    run.tally.add(Outcome::Card(wanted.end));
+    run.tally.add(Outcome::Card(wanted.edition, wanted.end));
+    let Some(edition) = wanted.edition else { return };
     for verdict in &wanted.verdicts {
-        run.tally.add(Outcome::CardVerdict(*verdict));
+        run.tally.add(Outcome::CardVerdict(edition, wanted.names_velocity, *verdict));
     }
     if card.len() > 32_768 && wanted.verdicts.len() >= 500 {
-        run.tally.add(Outcome::LongCard(wanted.end.is_some()));
+        run.tally.add(Outcome::LongCard(edition, wanted.end.is_some()));
     }
 }

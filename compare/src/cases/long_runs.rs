@@ -24,7 +24,10 @@ struct Watch {
     number: u64,
 }
 
-/// One rule with signal 0 always on, signal 1 on before its tick, one start, and n as parameter 3.
+/// The velocity at each tick.
+const VELOCITY: u32 = 100;
+
+/// One rule with signal 0 always on, signal 1 on before its tick, one velocity, one start, and n as parameter 3.
 fn long_run(watch: Watch, start: u64, n: u32) {
     let Watch { rule, op, more, number } = watch;
     let text = text_of(&mut Random::new(7), &rule);
@@ -36,7 +39,7 @@ fn long_run(watch: Watch, start: u64, n: u32) {
     let parameters = [0, 0, 0, n, 0, 0, 0, 0];
     for e in 0..TICKS {
         let signals = 1 | u64::from(e < OFF) << 1;
-        let tick = Tick { start: u32::from(e == start), signals, parameters };
+        let tick = Tick { start: u32::from(e == start), signals, velocity: VELOCITY, parameters };
         let answer = archive::step(&table, equations, &mut state, &mut values, &tick);
         let verdict = if e < start { IDLE } else { u32::from(compare(op, e - start + more, number)) };
         same(answer, Answer::given(verdict), || format!("{} at tick {e} of a long run", show(&text)));
@@ -50,6 +53,7 @@ pub fn run(_: &mut Run, runs: u64) {
     for (i, n) in (0..runs as usize).zip([999_999, 999_998, 1].repeat(8)) {
         let start = if n == 1 { LATE } else { 0 };
         let signal = Prop::Signal(0);
+        let struck = Prop::Velocity(Op::Ge, VELOCITY);
         let literal = Num::Literal(n);
         let parameter = Num::Parameter(3);
         let least = u64::from(n);
@@ -57,9 +61,9 @@ pub fn run(_: &mut Run, runs: u64) {
             0 => (Rule::Len(Op::Ge, literal), Op::Ge, 0, least),
             1 => (Rule::Len(Op::Eq, literal), Op::Eq, 0, least),
             2 => (Rule::Sum(signal, Op::Gt, literal), Op::Gt, 0, least),
-            3 => (Rule::Sum(signal, Op::Le, parameter), Op::Le, 0, least),
+            3 => (Rule::Sum(struck, Op::Le, parameter), Op::Le, 0, least),
             4 => (Rule::Age(signal, Op::Lt, literal), Op::Lt, 1, least),
-            5 => (Rule::Age(signal, Op::Eq, parameter), Op::Eq, 1, least),
+            5 => (Rule::Age(struck, Op::Eq, parameter), Op::Eq, 1, least),
             6 => (Rule::Lag(signal, literal, Prop::Constant(false)), Op::Lt, 0, least),
             _ => (Rule::Lag(signal, parameter, Prop::Signal(1)), Op::Lt, 0, OFF - start),
         };

@@ -1,11 +1,11 @@
 //! Compiled tables and tables made by hand, damaged or not, packed into a second one of any length (SPEC 8.8). What is
 //! promised of the packed table (SPEC 16.1) is checked of it too, and both tables are run over the same ticks, whose
-//! parameters change from one to the next.
+//! velocities and parameters change from one to the next (SPEC 16.5).
 
 use super::{same, show, Run};
 use crate::archive::{self, Tick};
 use crate::random::Random;
-use crate::rule::make::{random_parameters, random_rule, random_ticks};
+use crate::rule::make::{random_parameters, random_rule, random_ticks, random_velocity};
 use crate::rule::meaning::Moment;
 use crate::rule::{text_of, Rule};
 use crate::table::make::{self, Chain};
@@ -125,7 +125,8 @@ fn check_run(run: &mut Run, table: &[u32], packed: &[u32], case: impl Fn() -> St
     let mut ticks = random_ticks(&mut run.random, count);
     if run.random.once_in(2) {
         let random = &mut run.random;
-        ticks = (0..count).map(|_| Moment { start: random.once_in(3), signals: random.next() }).collect();
+        let any = |_| Moment { start: random.once_in(3), signals: random.next(), velocity: random_velocity(random) };
+        ticks = (0..count).map(any).collect();
     }
     let mut buffers = [table, packed].map(|equations| {
         let n = equations.len() / 4;
@@ -135,7 +136,8 @@ fn check_run(run: &mut Run, table: &[u32], packed: &[u32], case: impl Fn() -> St
     });
     for (e, moment) in ticks.iter().enumerate() {
         let parameters = random_parameters(&mut run.random);
-        let tick = Tick { start: u32::from(moment.start), signals: moment.signals, parameters };
+        let Moment { start, signals, velocity } = *moment;
+        let tick = Tick { start: u32::from(start), signals, velocity, parameters };
         let [given, packed] =
             buffers.each_mut().map(|(equations, n, state, values)| archive::step(equations, *n, state, values, &tick));
         same(given.refusal, 0, || format!("the step at tick {e} of {}", case()));

@@ -4,7 +4,7 @@
 use super::{same, show, Run};
 use crate::archive::{self, Answer, Tick};
 use crate::random::Random;
-use crate::rule::make::{random_parameters, random_rule, random_ticks};
+use crate::rule::make::{high_velocity, random_parameters, random_rule, random_ticks, random_velocity};
 use crate::rule::meaning::{verdict, Moment, IDLE};
 use crate::rule::{self, Around, Rule};
 use crate::table;
@@ -88,14 +88,18 @@ impl Bench {
         let values = run.random.numbers(n + 3);
         Bench { name, table, n, state, values }
     }
-    /// A call that is refused: for a parameter (SPEC 7.13), or for a short state or values (SPEC 7.12). All that was
-    /// lent stays (SPEC 1.4).
+    /// A call that is refused: for a short state or values (SPEC 7.12), for a parameter (SPEC 7.13) or for the velocity
+    /// (SPEC 7.19), now and then for a later one of these too. All that was lent stays (SPEC 1.4).
     fn refused_call(&mut self, run: &mut Run, parameters: &[u32; 8]) {
         let random = &mut run.random;
-        let mut tick = Tick { start: random.pick(&[0, 1]), signals: random.next(), parameters: *parameters };
+        let (start, signals, velocity) = (random.pick(&[0, 1]), random.next(), random_velocity(random));
+        let mut tick = Tick { start, signals, velocity, parameters: *parameters };
         let (mut cells, mut room) = (self.state.len(), self.values.len());
-        let refusal = random.pick(&[12, 13]);
-        if refusal == 13 || random.once_in(4) {
+        let refusal = random.pick(&[12, 13, 19]);
+        if refusal == 19 || random.once_in(4) {
+            tick.velocity = high_velocity(random);
+        }
+        if refusal == 13 || refusal == 12 && random.once_in(4) {
             tick.parameters[random.below(8)] = random.pick(&[1_000_000, u32::MAX]);
         }
         if refusal == 12 {
@@ -117,7 +121,8 @@ impl Bench {
     /// are the table's (SPEC 6.4).
     fn tick(&mut self, run: &mut Run, plan: &Plan, e: usize) {
         let start = if plan.trace[e].start { run.random.pick(&[1, 1, 7, u32::MAX]) } else { 0 };
-        let tick = Tick { start, signals: plan.trace[e].signals, parameters: plan.parameters };
+        let Moment { signals, velocity, .. } = plan.trace[e];
+        let tick = Tick { start, signals, velocity, parameters: plan.parameters };
         let room = self.n + run.random.below(4);
         let (mut cells, mut flows) = (self.state.clone(), self.values.clone());
         let answer = archive::step(&self.table, self.n, &mut self.state, &mut self.values[..room], &tick);
@@ -135,7 +140,8 @@ impl Bench {
         archive::fresh_state(&self.table, self.n, &mut self.state);
         for (moment, planned) in plan.trace.iter().zip(&plan.verdicts) {
             let parameters = random_parameters(&mut run.random);
-            let tick = Tick { start: u32::from(moment.start), signals: moment.signals, parameters };
+            let Moment { start, signals, velocity } = *moment;
+            let tick = Tick { start: u32::from(start), signals, velocity, parameters };
             let (mut cells, mut flows) = (self.state.clone(), self.values.clone());
             let wanted = table::step(&self.table, self.n, &mut cells, &mut flows, &tick);
             let answer = archive::step(&self.table, self.n, &mut self.state, &mut self.values, &tick);
@@ -165,11 +171,16 @@ fn rule_case(run: &mut Run, ticks: &mut Ticks, number: u64) {
     for (around, delay) in rule::lags(&plan.rule, Around::Nothing) {
         run.tally.add(Outcome::Lag(around, delay));
     }
+    let tests = rule::velocity_tests(&plan.rule);
+    if tests.iter().enumerate().any(|(i, test)| tests[..i].contains(test)) {
+        run.tally.add(Outcome::RepeatedTest);
+    }
     for e in 0..plan.trace.len() {
         if run.random.once_in(12) {
             bench.refused_call(run, &plan.parameters);
         }
         bench.tick(run, &plan, e);
+        run.tally.extend(tests.iter().map(|(op, n)| Outcome::Tested(*op, plan.trace[e].velocity.cmp(n))));
         ticks.of[plan.verdicts[e] as usize] += 1;
         run.tally.add(Outcome::Verdict(root, plan.verdicts[e]));
     }

@@ -3,7 +3,7 @@
 use super::{same, Run};
 use crate::archive::{self, Tick};
 use crate::random::Random;
-use crate::rule::make::random_parameters;
+use crate::rule::make::{high_velocity, random_parameters, random_velocity};
 use crate::table;
 use crate::tally::{Operation, Outcome, Tally};
 
@@ -40,14 +40,15 @@ impl Case {
         let length = if random.once_in(15) { random.below(self.n) } else { self.n + random.below(4) };
         random.numbers(length)
     }
-    /// A tick, now and then with a parameter above its range.
+    /// A tick, now and then with a parameter or the velocity above its range.
     fn tick(&self, random: &mut Random, parameters: &[u32; 8]) -> Tick {
         let mut parameters = *parameters;
         if random.once_in(15) {
             parameters[random.below(8)] = random.pick(&[1_000_000, u32::MAX]);
         }
         let start = if random.once_in(4) { random.pick(&[1, 1, 7, u32::MAX]) } else { 0 };
-        Tick { start, signals: random.next(), parameters }
+        let velocity = if random.once_in(15) { high_velocity(random) } else { random_velocity(random) };
+        Tick { start, signals: random.next(), velocity, parameters }
     }
     fn name(&self, number: u64) -> String {
         format!("table {number}: {:?}, n {}", self.table, self.said)
@@ -59,9 +60,11 @@ fn count_flows(tally: &mut Tally, case: &Case, values: &[u32], tick: &Tick) {
     for i in 0..case.said {
         let [kind, a, b, c] = table::equation(&case.table, i);
         tally.add(Outcome::Flow(kind, values[i].min(2)));
-        if let 10 | 11 = kind {
-            let other = if kind == 10 { c } else { tick.parameters[c as usize] };
-            tally.add(Outcome::Compared(kind, b, values[a as usize].cmp(&other)));
+        match kind {
+            10 => tally.add(Outcome::Compared(kind, b, values[a as usize].cmp(&c))),
+            11 => tally.add(Outcome::Compared(kind, b, values[a as usize].cmp(&tick.parameters[c as usize]))),
+            12 => tally.add(Outcome::Compared(kind, a, tick.velocity.cmp(&b))),
+            _ => {}
         }
         if kind == 8 && values[i] == 1_000_000 && values[a as usize] == 1_000_000 {
             tally.add(Outcome::AtCap);

@@ -20,6 +20,13 @@ pub fn text_case(run: &mut Run, number: u64) {
     if text.contains(&b',') || text.windows(3).any(|run| run == b"lag") {
         run.tally.add(Outcome::ReadLag(wanted.refusal));
     }
+    if text.contains(&b'v') {
+        run.tally.add(Outcome::ReadVelocity(wanted.refusal));
+        let unlimited = rule::refusal_without_velocities(&text);
+        if unlimited != wanted.refusal {
+            run.tally.add(Outcome::VelocityTooHigh(unlimited));
+        }
+    }
     match &all {
         Ok(_) => rule::limits(&text).into_iter().for_each(|l| run.tally.add(Outcome::AtLimit(l))),
         Err(refusals) => run.tally.order(Operation::Read, refusals),
@@ -57,7 +64,7 @@ fn two_texts(random: &mut Random) -> (Vec<u8>, Vec<u8>) {
             let mut text = first.clone();
             if !text.is_empty() {
                 let at = random.below(text.len());
-                text[at] = random.pick(b" ()!&|,<=>sk0123456789");
+                text[at] = random.pick(b" ()!&|,<=>skv0123456789");
             }
             text
         }

@@ -1,4 +1,4 @@
-//! Random rules and ticks. Signals 0 to 2 and small numbers come up most, so that verdicts change.
+//! Random rules and ticks. Signals 0 to 2, small numbers and a few velocities come up most, so that verdicts change.
 
 use super::meaning::Moment;
 use super::{Num, Op, Prop, Rule, Test, OPS};
@@ -9,12 +9,32 @@ fn random_signal(random: &mut Random) -> Prop {
     Prop::Signal(random.below(most) as u32)
 }
 
+/// The velocities that come up most: those at the limits, and some between.
+const VELOCITIES: [u32; 8] = [0, 1, 63, 64, 64, 90, 126, 127];
+
+/// A velocity, mostly one of a few, so that ticks and tests have the same.
+pub fn random_velocity(random: &mut Random) -> u32 {
+    if random.once_in(6) { random.below(128) as u32 } else { random.pick(&VELOCITIES) }
+}
+
+/// A velocity above its range.
+pub fn high_velocity(random: &mut Random) -> u32 {
+    random.pick(&[128, 128, 129, 255, 256, 16_383, 1_000_000, u32::MAX])
+}
+
+fn random_leaf(random: &mut Random) -> Prop {
+    if random.once_in(3) {
+        return Prop::Velocity(OPS[random.below(5)].0, random_velocity(random));
+    }
+    random_signal(random)
+}
+
 fn random_prop(random: &mut Random, size: usize) -> Prop {
     if random.once_in(24) {
         return Prop::Constant(random.once_in(2));
     }
     if size <= 1 || random.once_in(2) {
-        return random_signal(random);
+        return random_leaf(random);
     }
     let half = size / 2;
     match random.below(3) {
@@ -83,9 +103,10 @@ enum First {
     Never,
 }
 
-/// So many ticks. Tick 0 mostly starts; a signal mostly stays for some ticks.
+/// So many ticks. Tick 0 mostly starts; a signal mostly stays for some ticks, and so does the velocity.
 pub fn random_ticks(random: &mut Random, count: usize) -> Vec<Moment> {
     let mut signals = random.next();
+    let mut velocity = random_velocity(random);
     let first = match random.below(40) {
         0 => First::Never,
         1..=4 => First::Late,
@@ -102,7 +123,10 @@ pub fn random_ticks(random: &mut Random, count: usize) -> Vec<Moment> {
             2..=6 => signals ^ random.next() & 7,
             _ => signals,
         };
-        ticks.push(Moment { start, signals });
+        if random.once_in(3) {
+            velocity = random_velocity(random);
+        }
+        ticks.push(Moment { start, signals, velocity });
     }
     ticks
 }

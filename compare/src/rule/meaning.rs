@@ -5,16 +5,18 @@ use super::{compare, Num, Prop, Rule, Test};
 pub struct Moment {
     pub start: bool,
     pub signals: u64,
+    pub velocity: u32,
 }
 
-/// SPEC 4.1: a proposition at a tick with these signals.
-pub fn holds(p: &Prop, signals: u64) -> bool {
+/// SPEC 4.1: a proposition at a tick.
+fn holds(p: &Prop, tick: &Moment) -> bool {
     match p {
         Prop::Constant(c) => *c,
-        Prop::Signal(j) => signals >> j & 1 == 1,
-        Prop::Not(p) => !holds(p, signals),
-        Prop::And(p, q) => holds(p, signals) && holds(q, signals),
-        Prop::Or(p, q) => holds(p, signals) || holds(q, signals),
+        Prop::Signal(j) => tick.signals >> j & 1 == 1,
+        Prop::Velocity(op, n) => compare(*op, u64::from(tick.velocity), u64::from(*n)),
+        Prop::Not(p) => !holds(p, tick),
+        Prop::And(p, q) => holds(p, tick) && holds(q, tick),
+        Prop::Or(p, q) => holds(p, tick) || holds(q, tick),
     }
 }
 
@@ -29,7 +31,7 @@ fn value(n: Num, parameters: &[u32; 8]) -> u64 {
 /// The rule on ticks b to e: tests at the ends (SPEC 4.2) and throughout (SPEC 4.3), counts (SPEC 4.4, SPEC 4.5),
 /// `lag` (SPEC 4.11), formulas joined (SPEC 4.7) and `then` (SPEC 4.6).
 pub fn meaning(r: &Rule, trace: &[Moment], parameters: &[u32; 8], b: usize, e: usize) -> bool {
-    let at = |p: &Prop, i: usize| holds(p, trace[i].signals);
+    let at = |p: &Prop, i: usize| holds(p, &trace[i]);
     match r {
         Rule::Test(Test::Begin, p) => at(p, b),
         Rule::Test(Test::End, p) => at(p, e),

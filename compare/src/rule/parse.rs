@@ -1,6 +1,6 @@
 //! Reading a rule text (SPEC 8.1): refusals 5 to 8 (SPEC 7.5, SPEC 7.6, SPEC 7.7, SPEC 7.8), after those of its words.
 
-use super::words::{words, Word};
+use super::words::{words, Word, LAST_LITERAL, LAST_VELOCITY};
 use super::{has_leads, Num, Op, Prop, Rule};
 
 struct Parser<'a> {
@@ -136,6 +136,10 @@ impl Parser<'_> {
             }
             Word::Literal(n) if n < 2 => Some(Prop::Constant(n == 1)),
             Word::Signal(j) => Some(Prop::Signal(j)),
+            Word::Velocity => match (self.next()?, self.next()?) {
+                (Word::Op(op), Word::Literal(n)) => Some(Prop::Velocity(op, n)),
+                _ => None,
+            },
             _ => None,
         }
     }
@@ -165,7 +169,17 @@ fn parse(words: &[Word]) -> Option<Rule> {
 
 /// The rule of a text, or all refusals that apply, in their order; of 1 to 4 only the first.
 pub fn read_or_all(text: &[u8]) -> Result<Rule, Vec<u32>> {
-    let words = words(text).map_err(|refusal| vec![refusal])?;
+    read_within(text, LAST_VELOCITY)
+}
+
+/// The refusal of a text, 0 for none, if velocity literals went as far as others.
+pub fn refusal_without_velocities(text: &[u8]) -> u32 {
+    read_within(text, LAST_LITERAL).map_or_else(|refusals| refusals[0], |_| 0)
+}
+
+/// The same as `read_or_all`, with velocity literals up to a number.
+fn read_within(text: &[u8], last_velocity: u64) -> Result<Rule, Vec<u32>> {
+    let words = words(text, last_velocity).map_err(|refusal| vec![refusal])?;
     let (open, counted) = extent(&words);
     let rule = parse(&words);
     let applies = [
@@ -190,17 +204,20 @@ pub enum Limit {
     Words,
     Brackets,
     Operators,
+    Velocity,
 }
 
-/// The limits that a text with a rule reaches exactly: of SPEC 2.1, of SPEC 2.9, and the two of SPEC 2.10.
+/// The limits that a text with a rule reaches exactly: of SPEC 2.1, SPEC 2.9, SPEC 2.10 (two of them), SPEC 2.11.
 pub fn limits(text: &[u8]) -> Vec<Limit> {
-    let words = words(text).expect("a text with a rule");
+    let words = words(text, LAST_VELOCITY).expect("a text with a rule");
     let (open, counted) = extent(&words);
+    let highest = |w: &[Word]| matches!(w, [Word::Velocity, Word::Op(_), Word::Literal(127)]);
     let reached = [
         (Limit::Bytes, text.len() == 2048),
         (Limit::Words, words.len() == 240),
         (Limit::Brackets, open == 16),
         (Limit::Operators, counted == 32),
+        (Limit::Velocity, words.windows(3).any(highest)),
     ];
     reached.iter().filter(|l| l.1).map(|l| l.0).collect()
 }

@@ -5,10 +5,10 @@ use super::make::random_rule;
 use super::{text_of, Rule};
 use crate::random::Random;
 
-const WORDS: [&str; 36] = [
+const WORDS: [&str; 40] = [
     "(", ")", "[", "]", "!", "&", "|", ",", "<=", "<", "=", ">", ">=", "begin", "end", "point", "held", "kept", "len",
-    "sum", "age", "lag", "then", "chop", "exists", "0", "1", "7", "s0", "s63", "s64", "k7", "k8", "01", "999999",
-    "1000000",
+    "sum", "age", "lag", "then", "chop", "exists", "v", "v", "0", "1", "7", "s0", "s63", "s64", "k7", "k8", "01", "127",
+    "128", "999999", "1000000",
 ];
 
 /// Texts like those of `lag`, and `,` in other places: a few are rules.
@@ -19,6 +19,20 @@ const NEAR_LAG: [&str; 40] = [
     "lag s0,1,s1", "lag(s0,1,s1)", "lag[s0 1 s1]", "lag[s0;1;s1]", "lag[s0,1,s1", "lag[s0,1,s1]]", "lag[s0,1,s1]<=2",
     "lag[s0,1,s1,s2]", "lag[(s0,1,s1)]", "lag[end[s0],1,s1]", "lags[s0,1,s1]", "lag1[s0,1,s1]", ",", "end[s0,]",
     "end[s0,s1]", "sum[s0,2]<=1", "len<=1,len<=2", "lag[s0,1,s1],end[s0]",
+];
+
+/// Texts like those of a velocity test, and `v` in other places: some are rules. Which literals go to 127 is settled by
+/// the two words before them (SPEC 2.11), whether or not the words are a rule.
+const NEAR_VELOCITY: [&str; 58] = [
+    "end[v>=0]", "end[v>=127]", "end[v>=128]", "end[v=129]", "end[v<=200]", "end[v>999999]", "end[v>1000000]",
+    "end[v>=00]", "end[v>=0128]", "end[v>=0127]", "end[v>=01]", "end[v>=k0]", "end[v>=k8]", "end[v>=s0]", "end[v>=v]",
+    "end[v>=end]", "end[v>=12a]", "end[v>=]", "end[v]", "end[v 200]", "end[v 1000000]", "end[v < = 200]",
+    "end[v < = 128]", "end[v<<200]", "end[v<= <=200]", "end[v<=<=1000000]", "end[v>=!1]", "end[v>=(1)]",
+    "end[(v)>=128]", "end[!v>=1]", "end[!(v>=127)]", "end[v!=1]", "end[v5]", "end[vv>=1]", "end[v1>=1]", "end[V>=1]",
+    "end[200>=v]", "end[1<=v]", "end[v>=1>=2]", "end[v>=1&v>=1]", "end[v>=1|v>=128]", "v", "v<200", "v<=127", "v>=128",
+    "v len<=200", "v len<=1000000", "len<=v", "len<=200|v<200", "len<=200&end[v<=127]", "end[v>=128", "end[v>=127",
+    "sum[v>=90]<=200", "age[v=0]<200", "lag[v>=90,200,v<127]", "lag[v>=90,200,v<128]", "exists v end[1]",
+    "v then end[1]",
 ];
 
 fn random_words(random: &mut Random) -> Vec<u8> {
@@ -49,9 +63,9 @@ fn rule_text(random: &mut Random) -> Vec<u8> {
     text_of(random, &rule)
 }
 
-/// One of the texts near a `lag`, now and then with `!`, a `then` or another rule.
-fn near_lag(random: &mut Random) -> Vec<u8> {
-    let near = random.pick(&NEAR_LAG);
+/// One of the texts near a `lag` or a velocity test, now and then with `!`, a `then` or another rule.
+fn near(random: &mut Random, texts: &[&str]) -> Vec<u8> {
+    let near = random.pick(texts);
     match random.below(6) {
         0 => format!("!{near}").into_bytes(),
         1 => format!("{near} then end[s0]").into_bytes(),
@@ -68,11 +82,11 @@ fn damage(random: &mut Random, text: &mut Vec<u8>) {
         }
         let at = random.below(text.len());
         match random.below(4) {
-            0 => text[at] = random.pick(b" ()[]!&|,<=>sk0123456789abcdefghijklmnopqrstuvwxyz#\tA"),
+            0 => text[at] = random.pick(b" ()[]!&|,<=>skv0123456789abcdefghijklmnopqrstuvwxyz#\tA"),
             1 => {
                 text.remove(at);
             }
-            2 => text.insert(at, random.pick(b" ()[]!&|,<=>sk019aeh\n\xff")),
+            2 => text.insert(at, random.pick(b" ()[]!&|,<=>skv019aeh\n\xff")),
             _ => text.truncate(at),
         }
     }
@@ -114,7 +128,8 @@ fn stretch(random: &mut Random, text: Vec<u8>) -> Vec<u8> {
 pub fn random_text(random: &mut Random) -> Vec<u8> {
     let mut text = match random.below(12) {
         0..=2 => random_words(random),
-        3 => near_lag(random),
+        3 => near(random, &NEAR_LAG),
+        4 => near(random, &NEAR_VELOCITY),
         _ => rule_text(random),
     };
     if random.once_in(2) {

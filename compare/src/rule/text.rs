@@ -37,6 +37,10 @@ impl Writer<'_> {
         self.word(name);
         self.num(n);
     }
+    fn velocity(&mut self, op: Op, n: u32) {
+        self.word("v");
+        self.comparison(op, Num::Literal(n));
+    }
     fn num(&mut self, n: Num) {
         match n {
             Num::Literal(n) => self.word(&n.to_string()),
@@ -53,6 +57,7 @@ impl Writer<'_> {
         self.bracketed(own < level, |w| match p {
             Prop::Constant(c) => w.word(if *c { "1" } else { "0" }),
             Prop::Signal(j) => w.word(&format!("s{j}")),
+            Prop::Velocity(op, n) => w.velocity(*op, *n),
             Prop::Not(p) => {
                 w.word("!");
                 w.prop(p, 2);

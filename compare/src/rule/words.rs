@@ -21,6 +21,7 @@ pub enum Word {
     Then,
     Chop,
     Exists,
+    Velocity,
     Literal(u32),
     Signal(u32),
     Parameter(u32),
@@ -41,8 +42,8 @@ fn number(digits: &[u8], max: u64) -> Result<u32, u32> {
     Ok(value as u32)
 }
 
-/// The word of a run: a name (SPEC 2.5), a signal or a parameter (SPEC 2.6), a literal (SPEC 2.7).
-fn run_word(run: &[u8]) -> Result<Word, u32> {
+/// The word of a run: a name (SPEC 2.5), a signal or a parameter (SPEC 2.6), a literal (SPEC 2.7) up to `largest`.
+fn run_word(run: &[u8], largest: u64) -> Result<Word, u32> {
     for (test, name) in TESTS {
         if run == name.as_bytes() {
             return Ok(Word::Test(test));
@@ -56,16 +57,18 @@ fn run_word(run: &[u8]) -> Result<Word, u32> {
         b"then" => Ok(Word::Then),
         b"chop" => Ok(Word::Chop),
         b"exists" => Ok(Word::Exists),
+        b"v" => Ok(Word::Velocity),
         _ => match run[0] {
             b's' => number(&run[1..], 63).map(Word::Signal),
             b'k' => number(&run[1..], 7).map(Word::Parameter),
-            _ => number(run, 999_999).map(Word::Literal),
+            _ => number(run, largest).map(Word::Literal),
         },
     }
 }
 
-/// The word at the front of a text that has no space there, and its length: an operator (SPEC 2.3) or a run (SPEC 2.4).
-fn first_word(text: &[u8]) -> Result<(Word, usize), u32> {
+/// The word at the front of a text that has no space there, and its length: an operator (SPEC 2.3) or a run (SPEC 2.4),
+/// where a literal goes up to `largest`.
+fn first_word(text: &[u8], largest: u64) -> Result<(Word, usize), u32> {
     let is_run = |b: u8| b.is_ascii_lowercase() || b.is_ascii_digit();
     let followed = text.get(1) == Some(&b'=');
     Ok(match text[0] {
@@ -84,15 +87,20 @@ fn first_word(text: &[u8]) -> Result<(Word, usize), u32> {
         b'=' => (Word::Op(Op::Eq), 1),
         b if is_run(b) => {
             let length = text.iter().take_while(|b| is_run(**b)).count();
-            (run_word(&text[..length])?, length)
+            (run_word(&text[..length], largest)?, length)
         }
         _ => return Err(2),
     })
 }
 
+/// The highest literal, and the highest velocity.
+pub const LAST_LITERAL: u64 = 999_999;
+pub const LAST_VELOCITY: u64 = 127;
+
 /// The words of a text, with spaces between (SPEC 2.2), or the first of the refusals 1 to 4, in the order of SPEC 8.1:
-/// the length of the text (SPEC 2.1), then word by word the number of words (SPEC 2.9) and each word.
-pub fn words(text: &[u8]) -> Result<Vec<Word>, u32> {
+/// the length of the text (SPEC 2.1), then word by word the number of words (SPEC 2.9) and each word. Right after `v`
+/// and a comparison a literal goes up to `last_velocity` (SPEC 2.11).
+pub fn words(text: &[u8], last_velocity: u64) -> Result<Vec<Word>, u32> {
     if text.is_empty() || text.len() > 2048 {
         return Err(1);
     }
@@ -106,7 +114,11 @@ pub fn words(text: &[u8]) -> Result<Vec<Word>, u32> {
         if found.len() == 240 {
             return Err(4);
         }
-        let (word, length) = first_word(&text[i..])?;
+        let largest = match found[..] {
+            [.., Word::Velocity, Word::Op(_)] => last_velocity,
+            _ => LAST_LITERAL,
+        };
+        let (word, length) = first_word(&text[i..], largest)?;
         found.push(word);
         i += length;
     }

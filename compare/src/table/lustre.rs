@@ -52,7 +52,8 @@ fn right_side([k, a, b, c]: [u32; 4]) -> String {
         8 => format!("cap(f{a},f{b})"),
         9 => format!("if f{a} then f{b} else 0"),
         10 => format!("f{a}{}{c}", OPS[b as usize].1),
-        _ => format!("f{a}{}k{c}", OPS[b as usize].1),
+        11 => format!("f{a}{}k{c}", OPS[b as usize].1),
+        _ => format!("v{}{b}", OPS[a as usize].1),
     }
 }
 
@@ -103,13 +104,14 @@ fn joined(right: &str) -> Option<[u32; 4]> {
     None
 }
 
-/// Kinds 10 and 11.
+/// Kinds 10, 11 and 12.
 fn compared(right: &str) -> Option<[u32; 4]> {
     for op in [0, 4, 1, 2, 3] {
         if let Some((a, n)) = right.split_once(OPS[op].1) {
-            return match n.strip_prefix('k') {
-                Some(j) => Some([11, flow_number(a)?, op as u32, j.parse().ok()?]),
-                None => Some([10, flow_number(a)?, op as u32, n.parse().ok()?]),
+            return match (a, n.strip_prefix('k')) {
+                ("v", _) => Some([12, op as u32, n.parse().ok()?, 0]),
+                (_, Some(j)) => Some([11, flow_number(a)?, op as u32, j.parse().ok()?]),
+                (_, None) => Some([10, flow_number(a)?, op as u32, n.parse().ok()?]),
             };
         }
     }

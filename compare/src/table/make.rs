@@ -3,6 +3,7 @@
 use super::packing::flow_places;
 use super::{equation, is_count};
 use crate::random::Random;
+use crate::rule::make::random_velocity;
 
 /// The equations before the one that is made, by their sort.
 #[derive(Default)]
@@ -23,7 +24,7 @@ impl Flows {
     }
     /// The kinds that the next equation can have, counts only where it is none of the two that close the table.
     fn kinds(&self, closing: bool) -> Vec<u32> {
-        let mut kinds = vec![0, 1, 2, 6];
+        let mut kinds = vec![0, 1, 2, 6, 12];
         if !self.booleans.is_empty() {
             kinds.extend([3, 3, 4, 4, 5, 5]);
         }
@@ -51,6 +52,7 @@ impl Flows {
             9 => [self.boolean(random), self.count(random), 0],
             10 => [self.count(random), random.below(5) as u32, random.below(literals) as u32],
             11 => [self.count(random), random.below(5) as u32, random.below(8) as u32],
+            12 => [random.below(5) as u32, random_velocity(random), 0],
             _ => [0, 0, 0],
         }
     }
@@ -163,6 +165,8 @@ fn change_constant(random: &mut Random, numbers: &mut [u32; 4]) {
         6 => numbers[3] ^= 1,
         10 | 11 if random.once_in(2) => numbers[2] = random.below(5) as u32,
         10 | 11 => numbers[3] = random.below(8) as u32,
+        12 if random.once_in(2) => numbers[1] = random.below(5) as u32,
+        12 => numbers[2] = random_velocity(random),
         _ => {}
     }
 }
@@ -230,7 +234,7 @@ pub fn damage(random: &mut Random, numbers: &mut [u32]) {
         numbers[at] = match random.below(4) {
             0 => random.below(16) as u32,
             1 => numbers[at].wrapping_add(1),
-            2 => random.pick(&[63, 64, 999_999, 1_000_000, 1_000_001, 4095, 4096, u32::MAX]),
+            2 => random.pick(&[63, 64, 127, 128, 999_999, 1_000_000, 1_000_001, 4095, 4096, u32::MAX]),
             _ => random.below(5000) as u32,
         };
     }
