@@ -15,7 +15,7 @@ use Rattle.cards.specs.declared.Phase.{Phase}
 use Rattle.cards.specs.declared.Phase.the-variants as P
 use Rattle.lists.proofs.Lines.{line-short}
 use Rattle.cards.proofs.Lines.{one-line}
-use Rattle.player.specs.Card.{World, worldOf, overWatch, overWorld, Effect, lined}
+use Rattle.player.specs.Card.{World, worldIn, overWatch, overWorld, Effect, lined}
 use Rattle.player.specs.Card.{brokenBytes, longestOutput}
 use Rattle.player.specs.Output.{outputBytes}
 use Rattle.feeder.specs.Feed.{Goes, Short, Room, fedTo, Runs, Feeds, fedWorld, leftOver, placed}
@@ -234,7 +234,7 @@ module _ {w₀ w : World} {b out₀ out : List ℕ} {u at : ℕ} (k : Between w�
 
     feeds-if : (t : Bool) → leb lineLimit (to - u) ≡ t → {r : Fed} {out' : List ℕ}
         → r ≡ tailFed (w .watch) u to at → out' ≡ placed out at (tailBytes phase (to - u))
-        → Feeds w₀ b r (worldOf (r .watch) (w .parameters) (w .table) (w .state) (w .values)) out₀ out'
+        → Feeds w₀ b r (worldIn (w .context) (r .watch) (w .parameters) (w .table) (w .state) (w .values)) out₀ out'
     feeds-if true e q p =
         let h = leb-true lineLimit (to - u) e in
         rw (q, tail-long (w .watch) u to at h) (over-long h (p ∙ ap (placed out at) (bytes-long phase (to - u) h)))
@@ -245,5 +245,5 @@ module _ {w₀ w : World} {b out₀ out : List ℕ} {u at : ℕ} (k : Between w�
 
     pub tail-feeds : {r : Fed} {out' : List ℕ} → r ≡ tailFed (w .watch) u to at
         → out' ≡ placed out at (tailBytes phase (to - u))
-        → Feeds w₀ b r (worldOf (r .watch) (w .parameters) (w .table) (w .state) (w .values)) out₀ out'
+        → Feeds w₀ b r (worldIn (w .context) (r .watch) (w .parameters) (w .table) (w .state) (w .values)) out₀ out'
     tail-feeds q p = feeds-if (leb lineLimit (to - u)) refl q p

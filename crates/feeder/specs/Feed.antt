@@ -5,7 +5,7 @@ use mathlib.Core.Path.{_≡_}
 use Prim.Native.Nat.{ℕ, _+_, _-_, _≤_, _<_}
 use lib.Dec.{leb}
 use lib.ListN.{length, take, drop}
-use Rattle.limits.specs.Limits.{standardCap, velocityCount, lineLimit}
+use Rattle.limits.specs.Limits.{standardCap, lineLimit}
 use Rattle.flows.specs.Step.{stepChecked}
 use Rattle.tables.specs.declared.Checked.the-variants.{Passed}
 use Rattle.lists.specs.Line.{line}
@@ -14,7 +14,8 @@ use Rattle.cards.specs.Place.{tickFirst}
 use Rattle.cards.specs.declared.Phase.{Phase}
 use Rattle.cards.specs.declared.Phase.the-variants as P
 use Rattle.cards.specs.declared.TickLine.the-variants as T
-use Rattle.player.specs.Card.{World, worldOf, overWatch, overWorld, lined, brokenBytes, longestOutput, prints}
+use Rattle.player.specs.Card.{World, worldOf, velocitiesIn, overWatch, overWorld, lined, brokenBytes, prints}
+use Rattle.player.specs.Card.{longestOutput}
 use Rattle.traces.specs.Trace.{tickOf}
 use Rattle.feeder.specs.declared.Fed.{Fed}
 use Rattle.feeder.specs.declared.Turn.{Turn}
@@ -55,14 +56,14 @@ unfoldable pub tailBytes : Phase → ℕ → List ℕ
 tailBytes p n = cond (leb lineLimit n) (brokenBytes p) []
 
 -- No tick line that could be run is left at the front of these bytes.
-abbrev pub Stops : Watch → List ℕ → Type 0
-Stops w s = 0 < w .stage .left → tickFirst velocityCount (w .stage .edition) s ≡ T.Broken
+abbrev pub Stops : World → List ℕ → Type 0
+Stops w s = 0 < w .watch .stage .left → tickFirst (velocitiesIn w) (w .watch .stage .edition) s ≡ T.Broken
 
 -- The ticks come next, and a step with these parameters has no refusal, whatever its start, signals and velocity.
 pub record Admitted (w : World) : Type 0 where
   pub phase : w .watch .stage .phase ≡ P.Ticks
-  pub passes : (start signals velocity : ℕ) → velocity < velocityCount
-      → stepChecked standardCap velocityCount (w .table) (w .watch .n) (w .state) (w .values)
+  pub passes : (start signals velocity : ℕ) → velocity < velocitiesIn w
+      → stepChecked standardCap (velocitiesIn w) (w .table) (w .watch .n) (w .state) (w .values)
       (tickOf start signals velocity (w .parameters)) ≡ Passed
 
 abbrev pub fedTo : Watch → ℕ → ℕ → Fed

@@ -121,7 +121,8 @@ fn run_ticks(
     requires { ⌜ Room (now bytes) (now out) × Admitted (brought watch parameters table state values) ⌝ }
     ensures { λ r. ⌜ Runs (entering watch parameters table state values) (now (bytes .entry)) r
         (leaving (r .watch) parameters table state values) (now (out .entry)) (now (out .exit)) ⌝ }
-    ensures { λ r. ⌜ (Stops (r .watch) (drop (r .used) (now (bytes .entry)))) ⌝ }
+    ensures { λ r. ⌜ (Stops (leaving (r .watch) parameters table state values)
+        (drop (r .used) (now (bytes .entry)))) ⌝ }
 {
     let stage = watch.stage;
     let phase = stage.phase;
@@ -159,7 +160,7 @@ fn feed_ticks(
     ensures { λ r. ⌜ Runs (entering w parameters table state values) (now (bytes .entry)) r
         (leaving (r .watch) parameters table state values) (now (out .entry)) (now (out .exit)) ⌝ }
     ensures { λ r. ⌜ (Admitted (entering w parameters table state values)
-        → Stops (r .watch) (drop (r .used) (now (bytes .entry)))) ⌝ }
+        → Stops (leaving (r .watch) parameters table state values) (drop (r .used) (now (bytes .entry)))) ⌝ }
     ensures { λ r. ⌜ ((Admitted (entering w parameters table state values) → ⊥) → r ≡ fedTo w 0 0) ⌝ }
 {
     let stage = w.stage;

@@ -8,7 +8,7 @@ use native.Mathlib.Omega.{arith}
 use lib.Dec.{eqb}
 use lib.ListN.{length, drop}
 use borrow.Author.Tests.{eqb-true, eqb-false, ne-eqb}
-use Rattle.limits.specs.Limits.{velocityCount}
+use Rattle.limits.specs.declared.Context.{Context}
 use Rattle.cards.specs.Heads.{noEdition, ruleHead, afterHead}
 use Rattle.cards.specs.Numbers.{hasPrefix}
 use Rattle.cards.specs.Lines.{overLong}
@@ -19,7 +19,7 @@ use Rattle.cards.specs.Says.Says.{refused}
 use Rattle.cards.specs.declared.Phase.the-variants as P
 use Rattle.cards.specs.declared.Stage.{Stage}
 use Rattle.cards.proofs.Editions.{edition-is}
-use Rattle.player.specs.Card.{World, worldOf, watchOf, overWorld, played, lined, lastOutput, owed}
+use Rattle.player.specs.Card.{World, worldIn, velocitiesIn, watchOf, overWorld, played, lined, lastOutput, owed}
 use Rattle.player.specs.Output.{outputBytes}
 use Rattle.player.specs.Shows.{NoEdition, NoParameters, NoRule, NoCount, NoTick, Fails, Closes}
 use Rattle.player.specs.Shows.Fails.{broken, missing, over-long}
@@ -32,23 +32,23 @@ use Rattle.player.proofs.Printing.{last-owed}
 
 -- A line that says a refusal is the last one.
 refused-owed : (w : World) (r : ℕ) (l : List ℕ) (ls : List (List ℕ)) (tail : List ℕ)
-    → lineSays velocityCount (w .watch .stage) l ≡ refused r → owed w (l ∷ ls) tail ≡ outputBytes (O.Refused r)
+    → lineSays (velocitiesIn w) (w .watch .stage) l ≡ refused r → owed w (l ∷ ls) tail ≡ outputBytes (O.Refused r)
 unfolding lined played
 refused-owed w r l ls tail e = last-owed w (overWorld w) l ls tail (O.Refused r) (ap (played w) e) refl
 
 -- At this stage broken lines say the refusal r, and so does the end of the input.
-pub record Refuses (k : Stage) (r : ℕ) (Broken : List ℕ → Type 0) : Type 0 where
+pub record Refuses (velocities : ℕ) (k : Stage) (r : ℕ) (Broken : List ℕ → Type 0) : Type 0 where
   pub long : brokenBy (k .phase) ≡ refused r
   pub end : (n : ℕ) → endSays k n ≡ refused r
-  pub bad : (l : List ℕ) → Broken l → saysIn velocityCount (k .phase) (k .edition) (k .left) l ≡ refused r
+  pub bad : (l : List ℕ) → Broken l → saysIn velocities (k .phase) (k .edition) (k .left) l ≡ refused r
 
-module _ (w : World) {r : ℕ} {Broken : List ℕ → Type 0} (h : Refuses (w .watch .stage) r Broken) where
-  long-refused : (l : List ℕ) → overLong l ≡ true → lineSays velocityCount (w .watch .stage) l ≡ refused r
+module _ (w : World) {r : ℕ} {Broken : List ℕ → Type 0} (h : Refuses (velocitiesIn w) (w .watch .stage) r Broken) where
+  long-refused : (l : List ℕ) → overLong l ≡ true → lineSays (velocitiesIn w) (w .watch .stage) l ≡ refused r
   unfolding lineSays
   long-refused l e = rw e (h .long)
 
   line-refused : (b : Bool) (l : List ℕ) → overLong l ≡ b → Broken l
-      → lineSays velocityCount (w .watch .stage) l ≡ refused r
+      → lineSays (velocitiesIn w) (w .watch .stage) l ≡ refused r
   unfolding lineSays
   line-refused true l e f = long-refused l e
   line-refused false l e f = rw e (h .bad l f)
@@ -95,30 +95,31 @@ no-rule l true e h = absurd (h (afterHead ruleHead l) (rule-is l e))
 no-rule l false e h = refl
 
 -- Each sort of line at its stage.
-pub edition-refuses : Refuses firstStage headRefusal NoEdition
-edition-refuses =
+pub edition-refuses : (velocities : ℕ) → Refuses velocities firstStage headRefusal NoEdition
+edition-refuses velocities =
     record {
       long = refl;
       end = λ n. refl;
       bad = λ l h. rw (no-edition l (eqb (editionOf l) noEdition) refl h);
     }
 
-pub parameters-refuse : (e : ℕ) → Refuses (stageAt P.Parameters e 0) headRefusal NoParameters
-parameters-refuse e = record { long = refl; end = λ n. refl; bad = λ l h. ap parametersSay h }
+pub parameters-refuse : (velocities e : ℕ) → Refuses velocities (stageAt P.Parameters e 0) headRefusal NoParameters
+parameters-refuse velocities e = record { long = refl; end = λ n. refl; bad = λ l h. ap parametersSay h }
 
-pub rule-refuses : (e : ℕ) → Refuses (stageAt P.Rule e 0) headRefusal NoRule
-rule-refuses e =
+pub rule-refuses : (velocities e : ℕ) → Refuses velocities (stageAt P.Rule e 0) headRefusal NoRule
+rule-refuses velocities e =
     record { long = refl; end = λ n. refl; bad = λ l h. rw (no-rule l (hasPrefix ruleHead l) refl h) }
 
-pub count-refuses : (e : ℕ) → Refuses (stageAt P.Count e 0) headRefusal NoCount
-count-refuses e = record { long = refl; end = λ n. refl; bad = λ l h. ap countSays h }
+pub count-refuses : (velocities e : ℕ) → Refuses velocities (stageAt P.Count e 0) headRefusal NoCount
+count-refuses velocities e = record { long = refl; end = λ n. refl; bad = λ l h. ap countSays h }
 
 -- Something is left.
 not-done : (left : ℕ) → eqb (suc left) 0 ≡ false
 not-done left = ne-eqb (suc left) 0 (λ z. omega arith)
 
-tick-refuses : (e left : ℕ) → Refuses (stageAt P.Ticks e (suc left)) tickRefusal (NoTick velocityCount e)
-tick-refuses e left =
+tick-refuses : (velocities e left : ℕ)
+    → Refuses velocities (stageAt P.Ticks e (suc left)) tickRefusal (NoTick velocities e)
+tick-refuses velocities e left =
     record {
       long = refl;
       end = λ n. rw (not-done left);
@@ -128,18 +129,20 @@ tick-refuses e left =
 -- ---- after the last tick line that is fine
 
 -- Where no tick is left, every line says the refusal.
-line-after-says : (e : ℕ) (b : Bool) (l : List ℕ) → overLong l ≡ b
-    → lineSays velocityCount (stageAt P.Ticks e 0) l ≡ refused tickRefusal
+line-after-says : (velocities e : ℕ) (b : Bool) (l : List ℕ) → overLong l ≡ b
+    → lineSays velocities (stageAt P.Ticks e 0) l ≡ refused tickRefusal
 unfolding lineSays
-line-after-says e true l q = rw q
-line-after-says e false l q = rw q
+line-after-says velocities e true l q = rw q
+line-after-says velocities e false l q = rw q
 
-pub closes-owed : {e left : ℕ} {ls : List (List ℕ)} {tail : List ℕ} {o : Output}
-    → Closes velocityCount e left ls tail o → (n : ℕ) (ps t c v : List ℕ)
-    → owed (worldOf (watchOf (stageAt P.Ticks e left) n) ps t c v) ls tail ≡ outputBytes o
-unfolding owed
-closes-owed whole n ps t c v = refl
-closes-owed {e = e} (line-after {l} {ls} {tail}) n ps t c v =
-    refused-owed _ tickRefusal l ls tail (line-after-says e (overLong l) l refl)
-closes-owed (bytes-after {tail = tail}) n ps t c v = rw (not-done (length tail))
-closes-owed {e = e} (tick-fails {left} {tail = tail} h) n ps t c v = fails-owed _ (tick-refuses e left) h tail
+module _ (context : Context) where
+  pub closes-owed : {e left : ℕ} {ls : List (List ℕ)} {tail : List ℕ} {o : Output}
+      → Closes (context .velocities) e left ls tail o → (n : ℕ) (ps t c v : List ℕ)
+      → owed (worldIn context (watchOf (stageAt P.Ticks e left) n) ps t c v) ls tail ≡ outputBytes o
+  unfolding owed
+  closes-owed whole n ps t c v = refl
+  closes-owed {e = e} (line-after {l} {ls} {tail}) n ps t c v =
+      refused-owed _ tickRefusal l ls tail (line-after-says (context .velocities) e (overLong l) l refl)
+  closes-owed (bytes-after {tail = tail}) n ps t c v = rw (not-done (length tail))
+  closes-owed {e = e} (tick-fails {left} {tail = tail} h) n ps t c v =
+      fails-owed _ (tick-refuses (context .velocities) e left) h tail

@@ -13,14 +13,14 @@ use borrow.Author.Tests.{le-leb, lt-ltb, ltb-false}
 use Rattle.traces.specs.declared.Tick.{Tick}
 use Rattle.words.specs.Split.{Out, splitOf}
 use Rattle.words.proofs.Splitting.{refused-made}
-use Rattle.words.proofs.Bounds.{standard-ranged}
+use Rattle.words.specs.Contract.{Ranged}
 use Rattle.words.specs.Split.Out.{made}
 use Rattle.formulas.specs.Formula.{Formula}
 use Rattle.formulas.specs.Meaning.{verdict}
 use Rattle.formulas.specs.Tree.{Tree, formulaOf}
 use Rattle.tables.specs.Table.{Equation, all}
-use Rattle.limits.specs.Limits.{parameterCount, standardCap, velocityCount, textLimit, equationLimit, tableRoom}
-use Rattle.limits.specs.Context.{standardContext}
+use Rattle.limits.specs.Limits.{parameterCount, standardCap, textLimit, equationLimit, tableRoom}
+use Rattle.limits.specs.declared.Context.{Context}
 use Rattle.flows.specs.Step.{AfterStep, freshened, stepped, stepChecked, steppedIf, afterTick as tickAfter}
 use Rattle.flows.specs.Step.{parameterFits}
 use Rattle.flows.specs.Run.{Call, Taken, steps, answered, callChecked}
@@ -47,7 +47,7 @@ use Rattle.cards.proofs.Ticks.{ticked}
 use Rattle.cards.specs.Says.{stageAt}
 use Rattle.cards.specs.declared.Phase.the-variants as P
 use Rattle.traces.specs.Trace.{tickOf}
-use Rattle.player.specs.Card.{worldOf, watchOf, Effect, owed}
+use Rattle.player.specs.Card.{worldIn, watchOf, Effect, owed}
 use Rattle.player.specs.Output.{outputBytes}
 use Rattle.player.specs.Shows.{TickLines, Closes, verdictLines}
 use Rattle.player.specs.Shows.TickLines.{none as no-lines, more as more-lines}
@@ -146,67 +146,73 @@ heads e = cc
 tails : {x y : Stepped} {xs ys : List Stepped} → x ∷ xs ≡ y ∷ ys → xs ≡ ys
 tails e = cc
 
-module _ (e : ℕ) (ps t : List ℕ) (n : ℕ) where
+module _ (context : Context) (e : ℕ) (ps t : List ℕ) (n : ℕ) where
+  -- How many velocities there are.
+  abbrev velocities : ℕ
+  velocities = context .velocities
+
   -- What the first call of a list answers, and the others.
   module _ (c v : List ℕ) (k : Tick) (ks : List Tick) (vd : ℕ → ℕ) (i : ℕ)
-      (q : answered (steps standardCap velocityCount t n c (callsOf standardCap velocityCount t n c v (k ∷ ks)))
+      (q : answered (steps standardCap velocities t n c (callsOf standardCap velocities t n c v (k ∷ ks)))
       ≡ verdictsFrom vd i (k ∷ ks)) where
     abbrev one : AfterStep
-    one = stepped standardCap velocityCount t n c v k
+    one = stepped standardCap velocities t n c v k
 
     first-answer : one .answer ≡ S.Verdict (vd i)
     unfolding steps callsOf verdictsFrom
     first-answer = heads q
 
     other-answers : answered
-        (steps standardCap velocityCount t n (one .state)
-        (callsOf standardCap velocityCount t n (one .state) (one .values) ks))
+        (steps standardCap velocities t n (one .state)
+        (callsOf standardCap velocities t n (one .state) (one .values) ks))
         ≡ verdictsFrom vd (suc i) ks
     unfolding steps callsOf verdictsFrom
     other-answers = tails q
 
   -- The tick lines print what the calls answer, where these answers are verdicts, and then the card ends.
   ticks-owed : {ls rest : List (List ℕ)} {ks : List Tick} {left : ℕ} {tail : List ℕ} {o : Output}
-      → TickLines velocityCount e ps ls ks → Closes velocityCount e left rest tail o
+      → TickLines velocities e ps ls ks → Closes velocities e left rest tail o
       → (vd : ℕ → ℕ) (i : ℕ) (c v : List ℕ)
-      → answered (steps standardCap velocityCount t n c (callsOf standardCap velocityCount t n c v ks))
+      → answered (steps standardCap velocities t n c (callsOf standardCap velocities t n c v ks))
       ≡ verdictsFrom vd i ks
-      → owed (worldOf (watchOf (stageAt P.Ticks e (length ks + left)) n) ps t c v) (ls ++ rest) tail
+      → owed (worldIn context (watchOf (stageAt P.Ticks e (length ks + left)) n) ps t c v) (ls ++ rest) tail
       ≡ verdictLines vd i ks ++ outputBytes o
   unfolding owed verdictLines
   ticks-owed {rest = rest} {left = left} {tail} no-lines h vd i c v q =
       let none : length {A = Tick} [] + left ≡ left = omega arith in
-      ap (λ (m : ℕ). owed (worldOf (watchOf (stageAt P.Ticks e m) n) ps t c v) rest tail) none
-      ∙ closes-owed h n ps t c v
+      ap (λ (m : ℕ). owed (worldIn context (watchOf (stageAt P.Ticks e m) n) ps t c v) rest tail) none
+      ∙ closes-owed context h n ps t c v
   ticks-owed {rest = rest} {left = left} {tail} {o}
       (more-lines {l} {ls} {start = b} {signals} {velocity} {ks} said r) h vd i c v q =
       let k = tickOf b signals velocity ps in
-      let a = stepped standardCap velocityCount t n c v k in
+      let a = stepped standardCap velocities t n c v k in
       let less : suc (length ks) + left - 1 ≡ length ks + left = omega arith in
       let w = watchOf (stageAt P.Ticks e (suc (length ks) + left)) n in
       let here =
-      tick-lined ps t w l b signals velocity (vd i) c v a refl (omega arith) said refl
+      tick-lined context ps t w l b signals velocity (vd i) c v a refl (omega arith) said refl
       (first-answer c v k ks vd i q)
-      ∙ ap (λ (m : ℕ). saying ps t (watchOf (stageAt P.Ticks e m) n) (vd i) (a .state) (a .values)) less in
+      ∙ ap (λ (m : ℕ). saying context ps t (watchOf (stageAt P.Ticks e m) n) (vd i) (a .state) (a .values)) less in
       ap (λ (y : Effect). outputBytes (y .output) ++ owed (y .world) (ls ++ rest) tail) here
       ∙ ap (λ (z : List ℕ). outputBytes (O.Verdict (vd i)) ++ z)
       (ticks-owed r h vd (suc i) (a .state) (a .values) (other-answers c v k ks vd i q))
       ∙ sym (append-assoc (outputBytes (O.Verdict (vd i))) (verdictLines vd (suc i) ks) (outputBytes o))
 
 -- From the fresh state of a table that observes a formula, these are the formula's verdicts.
-module _ {t ps : List ℕ} {n : ℕ} {f : Formula} (h : Observes standardCap velocityCount t n f)
-    (low : (j : ℕ) → getD ps j 0 < standardCap) where
+module _ {context : Context} (some : 0 < context .velocities) {t ps : List ℕ} {n : ℕ} {f : Formula}
+    (h : Observes standardCap (context .velocities) t n f) (low : (j : ℕ) → getD ps j 0 < standardCap) where
   pub ticks-meant : {e : ℕ} {ls rest : List (List ℕ)} {ks : List Tick} {left : ℕ} {tail : List ℕ} {o : Output}
-      → TickLines velocityCount e ps ls ks → Closes velocityCount e left rest tail o → (old v : List ℕ)
+      → TickLines (context .velocities) e ps ls ks → Closes (context .velocities) e left rest tail o → (old v : List ℕ)
       → n ≤ length old → n ≤ length v
       → owed
-      (worldOf (watchOf (stageAt P.Ticks e (length ks + left)) n) ps t (freshened velocityCount t n old .state) v)
+      (worldIn context (watchOf (stageAt P.Ticks e (length ks + left)) n) ps t
+      (freshened (context .velocities) t n old .state) v)
       (ls ++ rest) tail
       ≡ verdictLines (verdict (traceOfTicks ps ks) f) 0 ks ++ outputBytes o
   ticks-meant {e = e} {ks = ks} lines closes old v room-c room-v =
-      ticks-owed e ps t n lines closes (verdict (traceOfTicks ps ks) f) 0 (freshened velocityCount t n old .state) v
-      (calls-meant standardCap velocityCount t n ps low h old room-c ks v room-v (same-parameters lines)
-      (all-below (omega arith) lines))
+      ticks-owed context e ps t n lines closes (verdict (traceOfTicks ps ks) f) 0
+      (freshened (context .velocities) t n old .state) v
+      (calls-meant standardCap (context .velocities) t n ps low h old room-c ks v room-v (same-parameters lines)
+      (all-below some lines))
 
 -- ---- the rule
 
@@ -216,37 +222,37 @@ not-long true b x ws e = absurd (refused-made e)
 not-long false true x ws e = absurd (refused-made e)
 not-long false false x ws e = refl
 
-split-short : (text ws : List ℕ) → splitOf standardContext text ≡ made ws → length text ≤ textLimit
+split-short : (context : Context) (text ws : List ℕ) → splitOf context text ≡ made ws → length text ≤ textLimit
 unfolding splitOf
-split-short text ws e = ltb-false _ _ (not-long (eqb (length text) 0) (ltb textLimit (length text)) _ ws e)
+split-short context text ws e = ltb-false _ _ (not-long (eqb (length text) 0) (ltb textLimit (length text)) _ ws e)
 
-pub rule-short : (text : List ℕ) (t : Tree) → ruleOf standardContext text ≡ rule t → length text ≤ textLimit
-rule-short text t e = let a = accepted standardContext text t .0 e in split-short text (a .ws) (a .words)
+pub rule-short : (context : Context) (text : List ℕ) (t : Tree) → ruleOf context text ≡ rule t → length text ≤ textLimit
+rule-short context text t e = let a = accepted context text t .0 e in split-short context text (a .ws) (a .words)
 
 -- Compiling the text gives a table that observes the formula.
-pub record Compile (text before : List ℕ) (f : Formula) : Type 0 where
+pub record Compile (context : Context) (text before : List ℕ) (f : Formula) : Type 0 where
   pub n : ℕ
   pub table : List ℕ
-  pub is : compiled standardContext text before ≡ afterCompile (C.Equations n) table
+  pub is : compiled context text before ≡ afterCompile (C.Equations n) table
   pub few : n ≤ equationLimit
-  pub observes : Observes standardCap velocityCount table n f
+  pub observes : Observes standardCap (context .velocities) table n f
 
-module _ (text before : List ℕ) (t : Tree) (e : ruleOf standardContext text ≡ rule t)
-    (room : tableRoom ≤ length before) where
+module _ {context : Context} (ranged : Ranged context) (text before : List ℕ) (t : Tree)
+    (e : ruleOf context text ≡ rule t) (room : tableRoom ≤ length before) where
   of-observer : (f : Formula) → formulaOf t ≡ some f → (es : List Equation) → observer f ≡ es
       → sets before 0 (numbersOf es) ≡ numbersOf es ++ drop (4 * length es) before → length es ≤ equationLimit
-      → Observes standardCap velocityCount (numbersOf es ++ drop (4 * length es) before) (length es) f
-      → Compile text before f
+      → Observes standardCap (context .velocities) (numbersOf es ++ drop (4 * length es) before) (length es) f
+      → Compile context text before f
   of-observer f is es same front few h =
       record {
         n = length es;
         table = sets before 0 (numbersOf es);
-        is = sym (room-compiled standardContext text before t e f is room es same);
+        is = sym (room-compiled context text before t e f is room es same);
         few = few;
-        observes = subst (λ (l : List ℕ). Observes standardCap velocityCount l (length es) f) (sym front) h;
+        observes = subst (λ (l : List ℕ). Observes standardCap (context .velocities) l (length es) f) (sym front) h;
       }
 
-  of-known : (k : Known standardContext t) → Compile text before (k .formula)
+  of-known : (k : Known context t) → Compile context text before (k .formula)
   of-known k =
       let f = k .formula in
       of-observer f (k .is) (observer f) refl
@@ -256,7 +262,7 @@ module _ (text before : List ℕ) (t : Tree) (e : ruleOf standardContext text �
   same-formula : {f g : Formula} → formulaOf t ≡ some f → formulaOf t ≡ some g → f ≡ g
   same-formula p q = cc
 
-  pub compile : (f : Formula) → formulaOf t ≡ some f → Compile text before f
+  pub compile : (f : Formula) → formulaOf t ≡ some f → Compile context text before f
   compile f is =
-      let k = known standardContext standard-ranged text t e in
-      subst (λ (g : Formula). Compile text before g) (same-formula (k .is) is) (of-known k)
+      let k = known context ranged text t e in
+      subst (λ (g : Formula). Compile context text before g) (same-formula (k .is) is) (of-known k)

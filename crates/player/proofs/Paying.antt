@@ -7,7 +7,6 @@ use Prim.Native.Nat.{ℕ, _+_, _≤_}
 use native.Mathlib.Omega.{arith}
 use lib.Dec.{ltb}
 use lib.ListN.{length}
-use Rattle.limits.specs.Limits.{velocityCount}
 use Rattle.observers.specs.declared.Compiled.{Compiled}
 use Rattle.observers.specs.declared.Compiled.the-variants as C
 use Rattle.flows.specs.declared.Stepped.{Stepped}
@@ -20,7 +19,7 @@ use Rattle.cards.specs.declared.Phase.the-variants as P
 use Rattle.cards.specs.declared.Stage.{Stage}
 use Rattle.cards.proofs.Stages.{Follows, says-follows}
 use Rattle.player.specs.Card.{World, Effect, endedBy, withRule, withStep, playedTo, played, lined}
-use Rattle.player.specs.Card.{ruleMade, ruledWorld, stepOf, steppedWorld}
+use Rattle.player.specs.Card.{velocitiesIn, ruleMade, ruledWorld, stepOf, steppedWorld}
 use Rattle.player.specs.Card.{brokenBytes, longestOutput}
 use Rattle.player.specs.Output.{refusalDigits, outputBytes}
 use Rattle.player.specs.declared.Output.{Output}
@@ -84,7 +83,8 @@ played-pays : (k : Stage) (p : Phase) (left n : ℕ) (s : Says) (w : World) → 
 played-pays k p left n (edition e) w h = quiet-pays p n (ap isOver h) _
 played-pays k p left n (parameters ps) w h = quiet-pays p n (ap isOver h) _
 played-pays k p left n (rule text) w h =
-    let r = ruleMade text (w .table) (w .state) in rule-pays p n (ap isOver (h .0)) k (r .answer) (ruledWorld r w)
+    let r = ruleMade (w .context) text (w .table) (w .state) in
+    rule-pays p n (ap isOver (h .0)) k (r .answer) (ruledWorld r w)
 played-pays k p left n (count m) w h = quiet-pays p n (ap isOver (h .0)) _
 played-pays k p left n (tick start signals velocity) w h =
     let a = stepOf start signals velocity w in step-pays p n (ap isOver (h .0)) k (a .answer) (steppedWorld a w) (h .2)
@@ -96,8 +96,8 @@ pub lined-pays : (w : World) (l : List ℕ) → Pays (w .watch .stage .phase) (l
 unfolding lined played
 lined-pays w l =
     let k = w .watch .stage in
-    let s = lineSays velocityCount k l in
-    played-pays (stageAfter k s) (k .phase) (k .left) (length l) s w (says-follows velocityCount k l)
+    let s = lineSays (velocitiesIn w) k l in
+    played-pays (stageAfter k s) (k .phase) (k .left) (length l) s w (says-follows (velocitiesIn w) k l)
 
 -- So does an over-long line that is not whole.
 pub broken-room : (p : Phase) → length (brokenBytes p) + debt p ≤ longestOutput

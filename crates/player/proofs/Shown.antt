@@ -9,8 +9,11 @@ use lib.ListN.{length, replicate, length-replicate}
 use borrow.Author.Tests.{ne-eqb, lt-leb}
 use Rattle.formulas.specs.Formula.{Formula}
 use Rattle.formulas.specs.Tree.{Tree}
-use Rattle.limits.specs.Limits.{parameterCount, velocityCount, textLimit, lineLimit, equationLimit, tableRoom}
+use Rattle.limits.specs.Limits.{parameterCount, textLimit, lineLimit, equationLimit, tableRoom}
 use Rattle.limits.specs.Context.{standardContext}
+use Rattle.limits.specs.declared.Context.{Context}
+use Rattle.words.specs.Contract.{Ranged}
+use Rattle.words.proofs.Bounds.{standard-ranged}
 use Rattle.flows.specs.Step.{freshened}
 use Rattle.rules.specs.Reading.{HasOutcome}
 use Rattle.rules.specs.Computed.{ruleOf}
@@ -27,7 +30,7 @@ use Rattle.cards.specs.declared.Phase.the-variants as P
 use Rattle.cards.specs.declared.Stage.{Stage}
 use Rattle.cards.proofs.Editions.{edition-of, edition-known}
 use Rattle.cards.proofs.Sized.{parameters-low, parameters-short, count-short}
-use Rattle.player.specs.Card.{World, worldOf, watchOf, Effect, effectOf, overWorld, ruleMade, played, lined}
+use Rattle.player.specs.Card.{World, worldIn, watchOf, Effect, effectOf, overWorld, ruleMade, played, lined}
 use Rattle.player.specs.Card.{owed, prints, printed}
 use Rattle.player.specs.Output.{outputBytes}
 use Rattle.player.specs.Meant.{Meant}
@@ -51,14 +54,16 @@ silent-owed : (w : World) {w' : World} (l : List ℕ) (ls : List (List ℕ)) (ta
 unfolding owed outputBytes
 silent-owed w l ls tail e = rw e
 
-module _ (table c v : List ℕ) where
+module _ (context : Context) (table c v : List ℕ) where
   -- Before the rule's line, with the lent arrays as they are,
   abbrev early : Stage → List ℕ → World
-  early k ps = worldOf (watchOf k 0) ps table c v
+  early k ps = worldIn context (watchOf k 0) ps table c v
 
   -- After it, with the rule's table and its fresh state.
-  abbrev ruled : {text : List ℕ} {f : Formula} → Compile text table f → Stage → List ℕ → World
-  ruled o k ps = worldOf (watchOf k (o .n)) ps (o .table) (freshened velocityCount (o .table) (o .n) c .state) v
+  abbrev ruled : {text : List ℕ} {f : Formula} → Compile context text table f → Stage → List ℕ → World
+  ruled o k ps =
+      let fresh = freshened (context .velocities) (o .table) (o .n) c .state in
+      worldIn context (watchOf k (o .n)) ps (o .table) fresh v
 
   module _ (e : ℕ) where
     edition-lined : (ps : List ℕ) → IsEdition e
@@ -71,8 +76,8 @@ module _ (table c v : List ℕ) where
     unfolding lined played lineSays
     parameters-lined old ps l q = rw (lt-leb lineLimit (length l) (parameters-short l ps q), q)
 
-    rule-lined : {text : List ℕ} {f : Formula} (o : Compile text table f) (ps : List ℕ) → length text ≤ textLimit
-        → equationLimit ≤ length c
+    rule-lined : {text : List ℕ} {f : Formula} (o : Compile context text table f) (ps : List ℕ)
+        → length text ≤ textLimit → equationLimit ≤ length c
         → lined (early (stageAt P.Rule e 0) ps) (ruleHead ++ text) ≡ silent (ruled o (stageAt P.Count e 0) ps)
     unfolding lined played lineSays ruleMade hasPrefix
     rule-lined {text} o ps h room =
@@ -84,13 +89,13 @@ module _ (table c v : List ℕ) where
         )
 
     refused-lined : (ps text : List ℕ) (k : ℕ) → overLong (ruleHead ++ text) ≡ false
-        → ruleOf standardContext text ≡ refused k
+        → ruleOf context text ≡ refused k
         → lined (early (stageAt P.Rule e 0) ps) (ruleHead ++ text)
         ≡ effectOf (O.Refused k) (overWorld (early (stageAt P.Rule e 0) ps))
     unfolding lined played lineSays ruleMade hasPrefix
-    refused-lined ps text k h q = rw (h, ← (refused-compiled standardContext text table k q))
+    refused-lined ps text k h q = rw (h, ← (refused-compiled context text table k q))
 
-    count-lined : {text : List ℕ} {f : Formula} (o : Compile text table f) (ps l : List ℕ) (k : ℕ)
+    count-lined : {text : List ℕ} {f : Formula} (o : Compile context text table f) (ps l : List ℕ) (k : ℕ)
         → countOf l ≡ K.Is k
         → lined (ruled o (stageAt P.Count e 0) ps) l ≡ silent (ruled o (stageAt P.Ticks e k) ps)
     unfolding lined played lineSays
@@ -100,53 +105,55 @@ module _ (table c v : List ℕ) where
 
 -- From any lent arrays that are long enough: the lines after the first, after the second, and after a third that is a
 -- rule.
-module _ (old table c v : List ℕ) (room : tableRoom ≤ length table) (room-c : equationLimit ≤ length c)
-    (room-v : equationLimit ≤ length v) (tail : List ℕ) where
+module _ {context : Context} (ranged : Ranged context) (old table c v : List ℕ)
+    (room : tableRoom ≤ length table) (room-c : equationLimit ≤ length c) (room-v : equationLimit ≤ length v)
+    (tail : List ℕ) where
   module _ {e : ℕ} (one : IsEdition e) where
-    after-first : (ls : List (List ℕ)) → owed (early table c v firstStage old) (editionLine e ∷ ls) tail
-        ≡ owed (early table c v (stageAt P.Parameters e 0) old) ls tail
-    after-first ls = silent-owed _ (editionLine e) ls tail (edition-lined table c v e old one)
+    after-first : (ls : List (List ℕ)) → owed (early context table c v firstStage old) (editionLine e ∷ ls) tail
+        ≡ owed (early context table c v (stageAt P.Parameters e 0) old) ls tail
+    after-first ls = silent-owed _ (editionLine e) ls tail (edition-lined context table c v e old one)
 
     after-second : (second ps : List ℕ) (ls : List (List ℕ)) → parametersOf second ≡ are ps
-        → owed (early table c v firstStage old) (editionLine e ∷ second ∷ ls) tail
-        ≡ owed (early table c v (stageAt P.Rule e 0) ps) ls tail
+        → owed (early context table c v firstStage old) (editionLine e ∷ second ∷ ls) tail
+        ≡ owed (early context table c v (stageAt P.Rule e 0) ps) ls tail
     after-second second ps ls q =
-        after-first (second ∷ ls) ∙ silent-owed _ second ls tail (parameters-lined table c v e old ps second q)
+        after-first (second ∷ ls) ∙ silent-owed _ second ls tail (parameters-lined context table c v e old ps second q)
 
-    after-third : (second ps text : List ℕ) {t : Tree} {f : Formula} (o : Compile text table f) (ls : List (List ℕ))
-        → parametersOf second ≡ are ps → HasOutcome standardContext text (rule t)
-        → owed (early table c v firstStage old) (editionLine e ∷ second ∷ (ruleHead ++ text) ∷ ls) tail
-        ≡ owed (ruled table c v o (stageAt P.Count e 0) ps) ls tail
+    after-third : (second ps text : List ℕ) {t : Tree} {f : Formula} (o : Compile context text table f)
+        (ls : List (List ℕ)) → parametersOf second ≡ are ps → HasOutcome context text (rule t)
+        → owed (early context table c v firstStage old) (editionLine e ∷ second ∷ (ruleHead ++ text) ∷ ls) tail
+        ≡ owed (ruled context table c v o (stageAt P.Count e 0) ps) ls tail
     after-third second ps text {t} o ls q r =
         after-second second ps ((ruleHead ++ text) ∷ ls) q
         ∙ silent-owed _ (ruleHead ++ text) ls tail
-        (rule-lined table c v e o ps (rule-short text t (computed standardContext text r)) room-c)
+        (rule-lined context table c v e o ps (rule-short context text t (computed context text r)) room-c)
 
   -- Each case of what is shown.
-  lines-printed : {ls : List (List ℕ)} {out : List ℕ} → LinesShow tail ls out
-      → owed (early table c v firstStage old) ls tail ≡ out
-  lines-printed (edition-fails h) = fails-owed _ edition-refuses h tail
-  lines-printed (parameters-fail {e} {ls} one h) = after-first one ls ∙ fails-owed _ (parameters-refuse e) h tail
+  lines-printed : {ls : List (List ℕ)} {out : List ℕ} → LinesShow context tail ls out
+      → owed (early context table c v firstStage old) ls tail ≡ out
+  lines-printed (edition-fails h) = fails-owed _ (edition-refuses (context .velocities)) h tail
+  lines-printed (parameters-fail {e} {ls} one h) =
+      after-first one ls ∙ fails-owed _ (parameters-refuse (context .velocities) e) h tail
   lines-printed (rule-fails {e} {second} {ps} {ls} one q h) =
-      after-second one second ps ls q ∙ fails-owed _ (rule-refuses e) h tail
+      after-second one second ps ls q ∙ fails-owed _ (rule-refuses (context .velocities) e) h tail
   lines-printed (count-fails {e} {second} {ps} {text} {t} {ls} one q r h) =
-      let is = computed standardContext text r in
-      let f = has-formula standardContext text t is in
-      after-third one second ps text (compile text table t is room (f .0) (f .1)) ls q r
-      ∙ fails-owed _ (count-refuses e) h tail
+      let is = computed context text r in
+      let f = has-formula context text t is in
+      after-third one second ps text (compile ranged text table t is room (f .0) (f .1)) ls q r
+      ∙ fails-owed _ (count-refuses (context .velocities) e) h tail
   lines-printed (rule-refused {e} {second} {ps} {text} {k} {ls} one q short r) =
       after-second one second ps ((ruleHead ++ text) ∷ ls) q
       ∙ last-owed _ _ (ruleHead ++ text) ls tail (O.Refused k)
-      (refused-lined table c v e ps text k short (computed standardContext text r)) refl
+      (refused-lined context table c v e ps text k short (computed context text r)) refl
   lines-printed (
       verdicts {e} {second} {ps} {text} {fourth} {t} {f} {ls} {rest} {ks} {left} one q r is count lines closes
       ) =
-      let o = compile text table t (computed standardContext text r) room f is in
+      let o = compile ranged text table t (computed context text r) room f is in
       let fits-c : o .n ≤ length c = omega (arith, o .few) in
       let fits-v : o .n ≤ length v = omega (arith, o .few) in
       after-third one second ps text o (fourth ∷ (ls ++ rest)) q r
-      ∙ silent-owed _ fourth (ls ++ rest) tail (count-lined table c v e o ps fourth (length ks + left) count)
-      ∙ ticks-meant (o .observes) (parameters-low second ps q) lines closes c v fits-c fits-v
+      ∙ silent-owed _ fourth (ls ++ rest) tail (count-lined context table c v e o ps fourth (length ks + left) count)
+      ∙ ticks-meant (ranged .some) (o .observes) (parameters-low second ps q) lines closes c v fits-c fits-v
 
 long : (m : ℕ) → m ≤ length {A = ℕ} (replicate m 0)
 long m = omega (arith, length-replicate {A = ℕ} m 0)
@@ -155,7 +162,7 @@ long m = omega (arith, length-replicate {A = ℕ} m 0)
 pub shown-printed : (card : List ℕ) {out : List ℕ} → Shows card out → printed card ≡ out
 unfolding printed prints
 shown-printed card h =
-    lines-printed (replicate parameterCount 0) (replicate tableRoom 0) (replicate equationLimit 0)
+    lines-printed standard-ranged (replicate parameterCount 0) (replicate tableRoom 0) (replicate equationLimit 0)
     (replicate equationLimit 0) (long tableRoom) (long equationLimit) (long equationLimit) (cut card .tail) h
 
 pub one-output : (card out out' : List ℕ) → Shows card out → Shows card out' → out ≡ out'
@@ -164,7 +171,7 @@ one-output card out out' h h' = sym (shown-printed card h) ∙ shown-printed car
 -- Every card shows what is printed for it.
 pub shown : (card : List ℕ) → Shows card (printed card)
 shown card =
-    let h = lines-show (cut card .tail) (cut card .whole) in
+    let h = lines-show standardContext (cut card .tail) (cut card .whole) in
     subst (λ (out : List ℕ). Shows card out) (sym (shown-printed card (h .1))) (h .1)
 
 -- The statement of specs/Meant.antt.

@@ -6,8 +6,9 @@ use Prim.Native.Nat.{ℕ, _+_, _<_}
 use lib.ListN.{length, replicate}
 use denote.Ref.{RefT, now}
 use denote.Triple.Both.{Both}
-use Rattle.limits.specs.Limits.{standardCap, velocityCount, parameterCount, tableRoom, equationLimit}
+use Rattle.limits.specs.Limits.{standardCap, parameterCount, tableRoom, equationLimit}
 use Rattle.limits.specs.Context.{standardContext}
+use Rattle.limits.specs.declared.Context.{Context}
 use Rattle.lists.specs.Line.{lineFrom}
 use Rattle.traces.specs.Trace.{tickOf}
 use Rattle.observers.specs.Compile.{AfterCompile, compiled}
@@ -31,19 +32,28 @@ use Rattle.player.specs.declared.Answered.{Answered}
 
 -- ---- the player's memory
 
--- What the program knows between two lines: the stage of the card and the number of equations, the parameters, the
--- table, the state of its memories and the flow values.
+-- What the program knows between two lines: the context in which lines are read and steps taken, the stage of the card
+-- and the number of equations, the parameters, the table, the state of its memories and the flow values.
 pub record World : Type 0 where
+  pub context : Context
   pub watch : Watch
   pub parameters : List ℕ
   pub table : List ℕ
   pub state : List ℕ
   pub values : List ℕ
 
-abbrev pub worldOf : Watch → List ℕ → List ℕ → List ℕ → List ℕ → World
-worldOf w ps t c v = record { watch = w; parameters = ps; table = t; state = c; values = v }
+abbrev pub worldIn : Context → Watch → List ℕ → List ℕ → List ℕ → List ℕ → World
+worldIn context w ps t c v = record { context = context; watch = w; parameters = ps; table = t; state = c; values = v }
 
--- The same of what a function is lent,
+-- How many velocities there are in it.
+abbrev pub velocitiesIn : World → ℕ
+velocitiesIn w = w .context .velocities
+
+-- The program's, in the context of the specification,
+abbrev pub worldOf : Watch → List ℕ → List ℕ → List ℕ → List ℕ → World
+worldOf w ps t c v = worldIn standardContext w ps t c v
+
+-- the same of what a function is lent,
 abbrev pub brought : Watch → RefT (List ℕ) → RefT (List ℕ) → RefT (List ℕ) → RefT (List ℕ) → World
 brought w ps t c v = worldOf w (now ps) (now t) (now c) (now v)
 
@@ -72,7 +82,7 @@ effectOf o w = record { world = w; output = o }
 
 -- The world with another watch.
 abbrev pub withWatch : Watch → World → World
-withWatch k w = worldOf k (w .parameters) (w .table) (w .state) (w .values)
+withWatch k w = worldIn (w .context) k (w .parameters) (w .table) (w .state) (w .values)
 
 abbrev pub movedOn : Watch → Output → World → Effect
 movedOn k o w = effectOf o (withWatch k w)
@@ -110,16 +120,16 @@ freshAs n (F.Refused r) = C.Refused r
 abbrev pub madeFresh : ℕ → List ℕ → AfterFresh → AfterRule
 madeFresh n t f = afterRule (freshAs n (f .answer)) t (f .state)
 
-abbrev pub madeAs : Compiled → List ℕ → List ℕ → AfterRule
-madeAs (C.Equations n) t c = madeFresh n t (freshened velocityCount t n c)
-madeAs (C.Refused r) t c = afterRule (C.Refused r) t c
+abbrev pub madeAs : ℕ → Compiled → List ℕ → List ℕ → AfterRule
+madeAs velocities (C.Equations n) t c = madeFresh n t (freshened velocities t n c)
+madeAs velocities (C.Refused r) t c = afterRule (C.Refused r) t c
 
-abbrev pub madeBy : AfterCompile → List ℕ → AfterRule
-madeBy k c = madeAs (k .answer) (k .table) c
+abbrev pub madeBy : ℕ → AfterCompile → List ℕ → AfterRule
+madeBy velocities k c = madeAs velocities (k .answer) (k .table) c
 
 -- SPEC 10.9: at its line a rule is judged. It is compiled, and its fresh state made.
-unfoldable pub ruleMade : List ℕ → List ℕ → List ℕ → AfterRule
-ruleMade text t c = madeBy (compiled standardContext text t) c
+unfoldable pub ruleMade : Context → List ℕ → List ℕ → List ℕ → AfterRule
+ruleMade context text t c = madeBy (context .velocities) (compiled context text t) c
 
 -- A rule with a refusal ends the card.
 abbrev pub ruleAnswer : Stage → Compiled → Answered
@@ -130,7 +140,7 @@ abbrev pub withRule : Stage → Compiled → World → Effect
 withRule k r w = movedOn (ruleAnswer k r .watch) (ruleAnswer k r .output) w
 
 abbrev pub ruledWorld : AfterRule → World → World
-ruledWorld r w = worldOf (w .watch) (w .parameters) (r .table) (r .state) (w .values)
+ruledWorld r w = worldIn (w .context) (w .watch) (w .parameters) (r .table) (r .state) (w .values)
 
 abbrev pub ruleEffect : Stage → AfterRule → World → Effect
 ruleEffect k r w = withRule k (r .answer) (ruledWorld r w)
@@ -141,14 +151,14 @@ withStep k (S.Verdict v) w = movedOn (watchOf k (w .watch .n)) (O.Verdict v) w
 withStep k (S.Refused r) w = endedBy (O.Refused r) w
 
 abbrev pub steppedWorld : AfterStep → World → World
-steppedWorld a w = worldOf (w .watch) (w .parameters) (w .table) (a .state) (a .values)
+steppedWorld a w = worldIn (w .context) (w .watch) (w .parameters) (w .table) (a .state) (a .values)
 
 abbrev pub stepEffect : Stage → AfterStep → World → Effect
 stepEffect k a w = withStep k (a .answer) (steppedWorld a w)
 
 abbrev pub stepOf : ℕ → ℕ → ℕ → World → AfterStep
 stepOf start signals velocity w =
-    stepped standardCap velocityCount (w .table) (w .watch .n) (w .state) (w .values)
+    stepped standardCap (velocitiesIn w) (w .table) (w .watch .n) (w .state) (w .values)
     (tickOf start signals velocity (w .parameters))
 
 abbrev pub tickEffect : Stage → ℕ → ℕ → ℕ → World → Effect
@@ -157,8 +167,9 @@ tickEffect k start signals velocity w = stepEffect k (stepOf start signals veloc
 -- What a line does that says so, k being the stage after it.
 abbrev pub playedTo : Stage → Says → World → Effect
 playedTo k (edition e) w = movedOn (watchOf k 0) O.Quiet w
-playedTo k (parameters ps) w = effectOf O.Quiet (worldOf (watchOf k 0) ps (w .table) (w .state) (w .values))
-playedTo k (rule text) w = ruleEffect k (ruleMade text (w .table) (w .state)) w
+playedTo k (parameters ps) w =
+    effectOf O.Quiet (worldIn (w .context) (watchOf k 0) ps (w .table) (w .state) (w .values))
+playedTo k (rule text) w = ruleEffect k (ruleMade (w .context) text (w .table) (w .state)) w
 playedTo k (count m) w = movedOn (watchOf k (w .watch .n)) O.Quiet w
 playedTo k (tick start signals velocity) w = tickEffect k start signals velocity w
 playedTo k (refused r) w = endedBy (O.Refused r) w
@@ -169,7 +180,7 @@ played w s = playedTo (stageAfter (w .watch .stage) s) s w
 
 -- SPEC 10.9, one line after another: what a line does, given without its byte 10.
 unfoldable pub lined : World → List ℕ → Effect
-lined w l = played w (lineSays velocityCount (w .watch .stage) l)
+lined w l = played w (lineSays (velocitiesIn w) (w .watch .stage) l)
 
 -- The line of the bytes s at the place `at` ends before the place `to`, and its line end is among the bytes.
 pub record WholeLine (s : List ℕ) (at to : ℕ) : Type 0 where

@@ -6,8 +6,8 @@ use mathlib.Core.Option.{some}
 use mathlib.Core.Path.{_≡_}
 use Prim.Native.Nat.{ℕ, zero, suc, _+_}
 use lib.ListN.{length}
-use Rattle.limits.specs.Limits.{velocityCount}
 use Rattle.limits.specs.Context.{standardContext}
+use Rattle.limits.specs.declared.Context.{Context}
 use Rattle.traces.specs.declared.Tick.{Tick}
 use Rattle.traces.specs.Trace.{tickOf}
 use Rattle.formulas.specs.Formula.{Formula}
@@ -85,32 +85,33 @@ abbrev pub refusalLine : ℕ → List ℕ
 refusalLine k = outputBytes (O.Refused k)
 
 -- What is printed for these lines and then these bytes with no line end. Each case has all lines before the one that it
--- is about as they have to be (SPEC 10.9): the first is that of an edition e.
-pub data LinesShow (tail : List ℕ) : List (List ℕ) → List ℕ → Type 0 where
+-- is about as they have to be (SPEC 10.9): the first is that of an edition e. The rule and the tick lines are read in
+-- this context.
+pub data LinesShow (context : Context) (tail : List ℕ) : List (List ℕ) → List ℕ → Type 0 where
   -- SPEC 10.7: one of the four first lines fails, the first, the second,
-  edition-fails : {ls : List (List ℕ)} → Fails NoEdition ls → LinesShow tail ls (refusalLine headRefusal)
+  edition-fails : {ls : List (List ℕ)} → Fails NoEdition ls → LinesShow context tail ls (refusalLine headRefusal)
   parameters-fail : {e : ℕ} {ls : List (List ℕ)} → IsEdition e → Fails NoParameters ls
-      → LinesShow tail (editionLine e ∷ ls) (refusalLine headRefusal)
+      → LinesShow context tail (editionLine e ∷ ls) (refusalLine headRefusal)
   -- the third,
   rule-fails : {e : ℕ} {second ps : List ℕ} {ls : List (List ℕ)} → IsEdition e → parametersOf second ≡ are ps
-      → Fails NoRule ls → LinesShow tail (editionLine e ∷ second ∷ ls) (refusalLine headRefusal)
+      → Fails NoRule ls → LinesShow context tail (editionLine e ∷ second ∷ ls) (refusalLine headRefusal)
   -- and the fourth, after a text that is a rule.
   count-fails : {e : ℕ} {second ps text : List ℕ} {t : Tree} {ls : List (List ℕ)} → IsEdition e
-      → parametersOf second ≡ are ps → HasOutcome standardContext text (rule t) → Fails NoCount ls
-      → LinesShow tail (editionLine e ∷ second ∷ (ruleHead ++ text) ∷ ls) (refusalLine headRefusal)
+      → parametersOf second ≡ are ps → HasOutcome context text (rule t) → Fails NoCount ls
+      → LinesShow context tail (editionLine e ∷ second ∷ (ruleHead ++ text) ∷ ls) (refusalLine headRefusal)
   -- SPEC 10.9: the rule is refused, at its line and by its number.
   rule-refused : {e : ℕ} {second ps text : List ℕ} {k : ℕ} {ls : List (List ℕ)} → IsEdition e
-      → parametersOf second ≡ are ps → overLong (ruleHead ++ text) ≡ false → HasOutcome standardContext text (refused k)
-      → LinesShow tail (editionLine e ∷ second ∷ (ruleHead ++ text) ∷ ls) (refusalLine k)
+      → parametersOf second ≡ are ps → overLong (ruleHead ++ text) ≡ false → HasOutcome context text (refused k)
+      → LinesShow context tail (editionLine e ∷ second ∷ (ruleHead ++ text) ∷ ls) (refusalLine k)
   -- SPEC 10.10: the verdict of the rule's formula by the interval meaning (SPEC 4.10), for the ticks up to the last or
   -- up to a refusal.
   verdicts : {e : ℕ} {second ps text fourth : List ℕ} {t : Tree} {f : Formula} {ls rest : List (List ℕ)}
       {ks : List Tick} {left : ℕ} {o : Output} → IsEdition e → parametersOf second ≡ are ps
-      → HasOutcome standardContext text (rule t) → formulaOf t ≡ some f → countOf fourth ≡ K.Is (length ks + left)
-      → TickLines velocityCount e ps ls ks → Closes velocityCount e left rest tail o
-      → LinesShow tail (editionLine e ∷ second ∷ (ruleHead ++ text) ∷ fourth ∷ (ls ++ rest))
+      → HasOutcome context text (rule t) → formulaOf t ≡ some f → countOf fourth ≡ K.Is (length ks + left)
+      → TickLines (context .velocities) e ps ls ks → Closes (context .velocities) e left rest tail o
+      → LinesShow context tail (editionLine e ∷ second ∷ (ruleHead ++ text) ∷ fourth ∷ (ls ++ rest))
       (verdictLines (verdict (traceOfTicks ps ks) f) 0 ks ++ outputBytes o)
 
--- What a card shows, from its bytes on.
+-- What a card shows, from its bytes on, in the context of the specification.
 abbrev pub Shows : List ℕ → List ℕ → Type 0
-Shows card out = LinesShow (cut card .tail) (cut card .whole) out
+Shows card out = LinesShow standardContext (cut card .tail) (cut card .whole) out

@@ -9,6 +9,7 @@ use observers::Compiled;
 ghost use mathlib.Core.Path.{_≡_};
 ghost use mathlib.Core.List.{List};
 ghost use Prim.Native.Nat.{ℕ};
+ghost use Rattle.limits.specs.Context.{standardContext};
 ghost use Rattle.lists.specs.Line.{lineFrom};
 ghost use Rattle.cards.specs.Says.{saysBy, brokenBy, isOver};
 ghost use Rattle.reader.specs.Part.{ruleFrom};
@@ -38,7 +39,7 @@ pub struct Answered {
 // rule is judged at its line (SPEC 10.9).
 fn rule_line(bytes: &[u8], at: usize, table: &mut [u32], state: &mut [u32]) -> Compiled
     ensures { λ r. ⌜ afterRule r (now (table .exit)) (now (state .exit))
-        ≡ ruleMade (ruleFrom (now (bytes .entry)) at) (now (table .entry)) (now (state .entry)) ⌝ }
+        ≡ ruleMade standardContext (ruleFrom (now (bytes .entry)) at) (now (table .entry)) (now (state .entry)) ⌝ }
 {
     let compiled = observers::compile_rule(reader::rule_part(bytes, at), table);
     match compiled {

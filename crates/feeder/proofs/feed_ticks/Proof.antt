@@ -5,6 +5,7 @@ use types.Run.{miss}
 use native.Mathlib.Omega.{arith}
 use borrow.Author.Needs.{needs}
 use Rattle.player.specs.Card.{brought}
+use Rattle.player.proofs.Playing.{some-velocity}
 use Rattle.tables.proofs.Checks.{failed-passed}
 use Rattle.feeder.specs.Feed.{Admitted}
 use Rattle.feeder.proofs.TickRuns.{passes-any, passes-at, runs-none}
@@ -49,7 +50,7 @@ admitted c =
     let passes = sym (checked .step-checked .ensures) ∙ c .enum-told2 .given .1 in
     record {
       phase = ticks checked .enum-told .given .1;
-      passes = passes-any _ _ _ _ _ (built checked .tick-of .ensures) passes;
+      passes = passes-any _ _ _ _ _ _ (built checked .tick-of .ensures) passes;
     }
 
 -- Another phase; a step that would be refused.
@@ -68,7 +69,7 @@ step-refused c =
     let is = built checked .tick-of .ensures in
     rw (c .fed-to2 .ensures) (
       runs-none _ _ _,
-      (λ admits more. absurd (failed-passed (refused ∙ passes-at _ _ admits (omega arith) is)), λ no. refl),
+      (λ admits more. absurd (failed-passed (refused ∙ passes-at _ _ _ admits some-velocity is)), λ no. refl),
     )
 
 run-ticks-requires : tie.Need-run-ticks-requires

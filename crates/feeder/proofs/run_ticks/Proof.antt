@@ -6,12 +6,13 @@ use borrow.Author.Needs.{needs}
 use mathlib.Core.List.{List}
 use Prim.Native.Nat.{ℕ}
 use lib.ListN.{length}
-use Rattle.limits.specs.Limits.{velocityCount}
+use Rattle.limits.specs.Context.{standardContext}
 use Rattle.cards.specs.Says.{stageAt}
 use Rattle.cards.specs.Place.{tickAt}
 use Rattle.cards.specs.declared.TickFound.the-variants as F
 use Rattle.player.specs.Card.{worldOf, watchOf}
 use Rattle.cards.proofs.Front.{none-first}
+use Rattle.player.proofs.Playing.{some-velocity}
 use Rattle.feeder.specs.Feed.{Admitted}
 use Rattle.feeder.proofs.Feeding.{Between, begun}
 use Rattle.feeder.proofs.TickRuns.{passes-at, velocity-low, admitted-on, verdict-room, after-tick, runs-all}
@@ -78,7 +79,7 @@ line-broken c =
     rw (c .fed-to .ensures, c .before .watch-at .ensures) (
       runs-all (loop .loop .inv .0) (entry loop .pre .1 .phase) (loop .loop .inv .1 .phase),
       λ more.
-          none-first velocityCount _ (piece loop) (loop .loop .used)
+          none-first (standardContext .velocities) _ (piece loop) (loop .loop .used)
           (sym (c .before .before .enum-told .given .1) ∙ looked c .tick-at .ensures),
     )
 
@@ -95,7 +96,7 @@ found : (c : tie.After-found Inv-loop μ-loop) →
     let loop = turn c in
     let line = c .found .given .0 in
     F.Is (line .0) (line .1 .0) (line .1 .1 .0) (line .1 .1 .1 .0)
-    ≡ tickAt velocityCount (entry loop .args .watch .stage .edition) (piece loop) (loop .loop .used)
+    ≡ tickAt (standardContext .velocities) (entry loop .args .watch .stage .edition) (piece loop) (loop .loop .used)
 found c = sym (c .found .given .1) ∙ c .before .before .tick-at .ensures
 
 -- and its step.
@@ -105,8 +106,8 @@ step-passed-requires c κs =
     let line = tick .before .before .before in
     let loop = turn line in
     let admits = loop .loop .inv .1 in
-    let low = velocity-low _ _ (piece loop) (loop .loop .used) admits (found line) in
-    passes-at _ _ admits low (tick .tick-of .ensures)
+    let low = velocity-low _ _ _ some-velocity (piece loop) (loop .loop .used) admits (found line) in
+    passes-at _ _ _ admits low (tick .tick-of .ensures)
 
 put-verdict-requires : tie.Need-put-verdict-requires Inv-loop μ-loop
 put-verdict-requires c κs =
@@ -115,8 +116,8 @@ put-verdict-requires c κs =
     let loop = turn line in
     let inv = loop .loop .inv in
     let more = line .before .before .before .loop-test .taken in
-    verdict-room _ _ (piece loop) (loop .loop .used) (inv .1) (found line) (built step .tick-of .ensures)
-    (step .step-passed .ensures) (inv .0) more
+    verdict-room _ _ _ some-velocity (piece loop) (loop .loop .used) (inv .1) (found line)
+    (built step .tick-of .ensures) (step .step-passed .ensures) (inv .0) more
 
 loop-again : tie.Need-loop-again Inv-loop μ-loop
 loop-again c =
@@ -126,10 +127,10 @@ loop-again c =
     let loop = turn line in
     let inv = loop .loop .inv in
     let more = line .before .before .before .loop-test .taken in (
-      after-tick _ _ (piece loop) (loop .loop .used) (inv .1) (found line) (built step .tick-of .ensures)
-          (step .step-passed .ensures) (inv .0) more (put .0) (put .1),
-      admitted-on _ _ (piece loop) (loop .loop .used) (inv .1) (found line) (built step .tick-of .ensures)
-          (step .step-passed .ensures),
+      after-tick _ _ _ some-velocity (piece loop) (loop .loop .used) (inv .1) (found line)
+          (built step .tick-of .ensures) (step .step-passed .ensures) (inv .0) more (put .0) (put .1),
+      admitted-on _ _ _ some-velocity (piece loop) (loop .loop .used) (inv .1) (found line)
+          (built step .tick-of .ensures) (step .step-passed .ensures),
       omega (arith, step .step-passed .kept, inv .2),
       omega (arith, step .step-passed .kept, inv .3),
     )

@@ -7,7 +7,6 @@ use native.Mathlib.Omega.{arith}
 use borrow.Author.Needs.{needs}
 use lib.ListN.{length, take, drop}
 use Rattle.observers.specs.declared.Compiled.{Compiled}
-use Rattle.limits.specs.Limits.{velocityCount}
 use Rattle.lists.specs.Line.{lineFrom}
 use Rattle.cards.specs.Says.{saysBy, lineSays}
 use Rattle.cards.specs.declared.Stage.{Stage}
@@ -15,7 +14,8 @@ use Rattle.cards.specs.declared.Content.{Content}
 use Rattle.cards.specs.declared.Content.the-variants as Line
 use Rattle.lists.proofs.Lines.{take-line}
 use Rattle.reader.specs.Part.{ruleFrom}
-use Rattle.player.specs.Card.{World, brought, AfterRule, afterRule, ruleMade, ruleEffect, playedTo, lined}
+use Rattle.player.specs.Card.{World, velocitiesIn, brought, AfterRule, afterRule, ruleMade, ruleEffect, playedTo}
+use Rattle.player.specs.Card.{lined}
 use Rattle.player.proofs.Playing.{plays, text-at}
 use Rattle.player.proofs.on_line.Statement.{statement}
 use Rattle.player.proofs.on_line.Tie as tie
@@ -56,7 +56,7 @@ module _ (c : tie.After-stage-after) where
       ap (λ (n : ℕ). take n (drop at (args .bytes .now))) e ∙ take-line (drop at (args .bytes .now))
 
   -- so it says what the line says.
-  says : saysBy told eight line ≡ lineSays velocityCount (world .watch .stage) line
+  says : saysBy told eight line ≡ lineSays (velocitiesIn world) (world .watch .stage) line
   says = rw is-line at (c .before .read-line .ensures .0)
 
   -- What is played of it.
@@ -67,15 +67,16 @@ module _ (c : tie.After-stage-after) where
 
   -- The rule, with this answer and this table and state after it.
   rule-ends : told ≡ Line.Rule → (r : Compiled) (t s : List ℕ) → afterRule r t s
-      ≡ ruleMade (ruleFrom (begun c .args .bytes .now) (begun c .args .at)) (world .table) (world .state)
+      ≡ ruleMade (world .context) (ruleFrom (begun c .args .bytes .now) (begun c .args .at)) (world .table)
+      (world .state)
       → ruleEffect next (afterRule r t s) world ≡ lined world line
   rule-ends e r t s h =
       let args = begun c .args in
-      let is : saysBy Line.Rule eight line ≡ lineSays velocityCount (world .watch .stage) line =
+      let is : saysBy Line.Rule eight line ≡ lineSays (velocitiesIn world) (world .watch .stage) line =
       ap (λ (y : Content). saysBy y eight line) (sym e) ∙ says in
-      let text = text-at (world .watch .stage) (args .bytes .now) (args .at) is in
+      let text = text-at (velocitiesIn world) (world .watch .stage) (args .bytes .now) (args .at) is in
       ap (λ (x : AfterRule). ruleEffect next x world)
-      (h ∙ ap (λ (l : List ℕ). ruleMade l (world .table) (world .state)) text)
+      (h ∙ ap (λ (l : List ℕ). ruleMade (world .context) l (world .table) (world .state)) text)
       ∙ ends Line.Rule e
 
 -- ---- the ways out

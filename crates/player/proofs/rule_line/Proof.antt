@@ -29,14 +29,14 @@ fresh-refused : tie.Need-returns-2
 fresh-refused c =
     let fresh = c .before .before .before .before .before in
     let made = compiled fresh in
-    rule-fresh _ _ _ _ _ _ _ _ _ _ (text made .rule-part .ensures) (made .compile-rule .ensures .0)
+    rule-fresh _ _ _ _ _ _ _ _ _ _ _ (text made .rule-part .ensures) (made .compile-rule .ensures .0)
     (rule-taken fresh .compiled2 .given .1) (fresh .fresh-state .ensures) (ap (freshAs _) (c .before .fresh .given .1))
 
 fresh-made : tie.Need-returns-3
 fresh-made c =
     let fresh = c .before .before .before .before in
     let made = compiled fresh in
-    rule-fresh _ _ _ _ _ _ _ _ _ _ (text made .rule-part .ensures) (made .compile-rule .ensures .0)
+    rule-fresh _ _ _ _ _ _ _ _ _ _ _ (text made .rule-part .ensures) (made .compile-rule .ensures .0)
     (rule-taken fresh .compiled2 .given .1) (fresh .fresh-state .ensures) (ap (freshAs _) (c .enum-told .given .1))
 
 pub rule-line-spec : {M : Type 1} → statement M
