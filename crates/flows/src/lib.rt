@@ -113,9 +113,18 @@ fn gate(x: u32, y: u32) -> u32
     if 0 < x { y } else { 0 }
 }
 
-// The value of equation i, from its cell and the flows before it.
-fn value(cap: u32, table: &[u32], i: usize, tick: Tick, cell: u32, before: &[u32]) -> u32
-    requires { ⌜ 4 * i + 3 < length (now table) ⌝ }
+// The value of equation i, from its cell and the flows before it. `ps` are the tick's parameters, lent for all equations
+// of a tick: out of the tick the compiler would copy all of them at each use.
+fn value(
+    cap: u32,
+    table: &[u32],
+    i: usize,
+    tick: Tick,
+    ps: &[u32; limits::PARAMETERS],
+    cell: u32,
+    before: &[u32],
+) -> u32
+    requires { ⌜ (4 * i + 3 < length (now table)) × (now ps ≡ tick .parameters) ⌝ }
     ensures { λ r. ⌜ r ≡ valueOf cap tick (numberAt (now (before .entry))) cell
         (kindAt (now (table .entry)) i) (equationAt (now (table .entry)) i) ⌝ }
 {
@@ -135,7 +144,7 @@ fn value(cap: u32, table: &[u32], i: usize, tick: Tick, cell: u32, before: &[u32
         tables::CAPPED => increase(cap, number_at(before, a), number_at(before, b)),
         tables::IF => gate(number_at(before, a), number_at(before, b)),
         tables::COMPARE_LITERAL => number(compare(b, number_at(before, a), c)),
-        tables::COMPARE_PARAMETER => number(compare(b, number_at(before, a), parameter(tick, c))),
+        tables::COMPARE_PARAMETER => number(compare(b, number_at(before, a), number_at(ps, c))),
         tables::VELOCITY => number(compare(a, tick.velocity, b)),
         _ => 0,
     }
@@ -147,9 +156,10 @@ fn fill(cap: u32, table: &[u32], n: usize, state: &[u32], values: &mut [u32], ti
     ensures { λ r. ⌜ now (values .exit)
         ≡ flows cap (now (table .entry)) tick (now (state .entry)) n ++ drop n (now (values .entry)) ⌝ }
 {
+    let ps = tick.parameters;
     let mut i = 0;
     while i < n {
-        let v = value(cap, table, i, tick, state[i], &values[..i]);
+        let v = value(cap, table, i, tick, &ps, state[i], &values[..i]);
         values[i] = v;
         i += 1;
     }

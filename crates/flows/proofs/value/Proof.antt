@@ -11,12 +11,12 @@ use borrow.Author.Needs.{needs}
 use Rattle.flows.proofs.value.Statement.{statement}
 use Rattle.flows.proofs.value.Tie as tie
 
--- Where the first operand is read, from the answer of the start flow; and the start of the function.
-abbrev operand-read : tie.After-number → tie.After-shared-slice-known4
-operand-read c = c .before .before .before .before .before
+-- Where the kind is read, from where all of the equation is; and the start of the function.
+abbrev kind-read : tie.After-shared-slice-known6 → tie.After-shared-slice-known3
+kind-read c = c .before .before .before
 
-abbrev entry : tie.After-number → tie.Start
-entry c = operand-read c .before .before .before .before
+abbrev entry : tie.After-shared-slice-known6 → tie.Start
+entry c = kind-read c .before .before .before
 
 of-signal : tie.Need-returns
 unfolding valueOf kindOf
@@ -25,7 +25,9 @@ of-signal c = rw (c .before .match .keys1) (c .signal-at .ensures)
 of-start : tie.Need-returns-2
 unfolding valueOf kindOf
 of-start c =
-    rw (c .before .before .match .keys2) (c .number .ensures ∙ ap truth (positive (entry c .args .tick .start)))
+    let match = c .before .before in
+    let tick = entry (match .before) .args .tick in
+    rw (match .match .keys2) (c .number .ensures ∙ ap truth (positive (tick .start)))
 
 of-constant : tie.Need-returns-3
 unfolding valueOf kindOf
@@ -83,9 +85,11 @@ of-compare-literal c =
 of-compare-parameter : tie.Need-returns-12
 unfolding valueOf kindOf
 of-compare-parameter c =
-    let x = c .before .before .before .number-at11 in
-    let y = c .before .before .parameter in
-    rw (c .before .before .before .before .match .keys12, ← x .ensures, ← y .ensures)
+    let second = c .before .before in
+    let first = second .before .before in
+    let match = first .before in
+    let tick = entry (match .before) .pre .1 in
+    rw (match .match .keys12, ← first .number-at11 .ensures, ← tick, ← second .number-at12 .ensures)
     (c .number4 .ensures ∙ ap truth (c .before .compare2 .ensures))
 
 of-velocity : tie.Need-returns-13
