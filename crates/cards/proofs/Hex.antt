@@ -60,15 +60,18 @@ module _ (b : ℕ) where
   unfolding hexOf isDigit
   hex-between h k = rw (le-leb (byte "0") b (omega arith), lt-leb b (byte "9") h, lt-leb (byte "a") b k)
 
-  -- and the others: the low four bits of a digit, nine more for a letter, which has bit 6.
-  pub hex-decimal : byte "0" ≤ b → b ≤ byte "9" → hexOf b ≡ b % 16 + b / 64 * 9
+  -- and the others: the low four bits, with nine added first for a letter, which has bit 6.
+  pub hex-decimal : byte "0" ≤ b → b ≤ byte "9" → hexOf b ≡ (b + b / 64 * 9) % 16
   unfolding hexOf isDigit
-  hex-decimal h k = rw (le-leb (byte "0") b h, le-leb b (byte "9") k) (omega arith)
+  hex-decimal h k =
+      let top : b / 64 ≡ 0 = omega arith in
+      rw (top, le-leb (byte "0") b h, le-leb b (byte "9") k) (omega arith)
 
-  pub hex-letter : byte "a" ≤ b → b ≤ byte "f" → hexOf b ≡ b % 16 + b / 64 * 9
+  pub hex-letter : byte "a" ≤ b → b ≤ byte "f" → hexOf b ≡ (b + b / 64 * 9) % 16
   unfolding hexOf isDigit
   hex-letter h k =
-      rw (le-leb (byte "0") b (omega arith), lt-leb b (byte "9") (omega arith))
+      let top : b / 64 ≡ 1 = omega arith in
+      rw (top, le-leb (byte "0") b (omega arith), lt-leb b (byte "9") (omega arith))
       (rw (le-leb (byte "a") b h, le-leb b (byte "f") k) (omega arith))
 
 -- A line that is not broken passes each of its tests.

@@ -2,6 +2,7 @@
 pub mod Numbers
 pub mod Hex
 pub mod Sized
+pub mod Velocities
 pub mod Ticks
 pub mod Bits
 pub mod Lines

@@ -119,10 +119,10 @@ module _ {s : List ℕ} {at max : ℕ} {r : Decimal} (h : DecimalAt s at max r) 
 
 -- What the code's answer says of the definition
 module _ {r : Number} {s : List ℕ} {p : Parsed} (h : ReadsAs r s p) where
-  none-of : r ≡ N.Broken → p ≡ none
+  pub none-of : r ≡ N.Broken → p ≡ none
   none-of e = sym (h .means) ∙ ap (λ (q : Number). readTo q s) e
 
-  done-of : {v n : ℕ} → r ≡ N.Is v n → p ≡ done v (drop n s)
+  pub done-of : {v n : ℕ} → r ≡ N.Is v n → p ≡ done v (drop n s)
   done-of e = sym (h .means) ∙ ap (λ (q : Number). readTo q s) e
 
   -- All of the line's rest is a number.

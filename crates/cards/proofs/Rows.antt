@@ -8,7 +8,7 @@ use Rattle.cards.specs.Heads.{noEdition}
 use Rattle.cards.specs.Numbers.{number, hasPrefix, beforeComma, atEnd, numbers, parametersOf}
 use Rattle.cards.specs.Numbers.{wholly, countOf}
 use Rattle.cards.specs.Numbers.Listed.{are, broken}
-use Rattle.cards.specs.Ticks.{hexOf, hexes, plainTick, struckTick, tickLine}
+use Rattle.cards.specs.Ticks.{hexOf, hexes, plainTick, velocityIn, struckTick, tickLine}
 use Rattle.cards.specs.Says.{editionOf}
 use Rattle.cards.specs.declared.Count.the-variants as K
 use Rattle.cards.specs.declared.TickLine.the-variants as T
@@ -98,43 +98,43 @@ no-velocity-there = refl
 
 -- With a velocity: the least, one in between, the highest, and one above it.
 velocity-0 : tickLine velocityCount 2 (bytes "t=1,0000000000000001,0") ≡ T.Is 1 1 0
-unfolding tickLine struckTick plainTick hexes hexOf isDigit wholly number numeral
+unfolding tickLine struckTick plainTick hexes hexOf isDigit velocityIn wholly number numeral
 velocity-0 = refl
 
 velocity-90 : tickLine velocityCount 2 (bytes "t=0,8000000000000000,90") ≡ T.Is 0 9223372036854775808 90
-unfolding tickLine struckTick plainTick hexes hexOf isDigit wholly number numeral digitsAfter
+unfolding tickLine struckTick plainTick hexes hexOf isDigit velocityIn wholly number numeral digitsAfter
 velocity-90 = refl
 
 velocity-127 : tickLine velocityCount 2 (bytes "t=1,0000000000000000,127") ≡ T.Is 1 0 127
-unfolding tickLine struckTick plainTick hexes hexOf isDigit wholly number numeral digitsAfter
+unfolding tickLine struckTick plainTick hexes hexOf isDigit velocityIn wholly number numeral digitsAfter
 velocity-127 = refl
 
 velocity-128 : tickLine velocityCount 2 (bytes "t=1,0000000000000000,128") ≡ T.Broken
-unfolding tickLine struckTick plainTick hexes hexOf isDigit wholly number numeral digitsAfter
+unfolding tickLine struckTick plainTick hexes hexOf isDigit velocityIn wholly number numeral digitsAfter
 velocity-128 = refl
 
 -- Missing, with or without its comma, signed, with a needless 0, and with a byte behind it.
 velocity-missing : tickLine velocityCount 2 (bytes "t=1,0000000000000001") ≡ T.Broken
-unfolding tickLine struckTick
+unfolding tickLine struckTick plainTick hexes hexOf isDigit velocityIn wholly
 velocity-missing = refl
 
 velocity-bare : tickLine velocityCount 2 (bytes "t=1,0000000000000001,") ≡ T.Broken
-unfolding tickLine struckTick plainTick hexes hexOf isDigit wholly number numeral
+unfolding tickLine struckTick plainTick hexes hexOf isDigit velocityIn wholly number numeral
 velocity-bare = refl
 
 velocity-signed : tickLine velocityCount 2 (bytes "t=1,0000000000000001,+5") ≡ T.Broken
-unfolding tickLine struckTick plainTick hexes hexOf isDigit wholly number numeral
+unfolding tickLine struckTick plainTick hexes hexOf isDigit velocityIn wholly number numeral
 velocity-signed = refl
 
 velocity-needless : tickLine velocityCount 2 (bytes "t=1,0000000000000001,05") ≡ T.Broken
-unfolding tickLine struckTick plainTick hexes hexOf isDigit wholly number numeral
+unfolding tickLine struckTick plainTick hexes hexOf isDigit velocityIn wholly number numeral
 velocity-needless = refl
 
 velocity-space : tickLine velocityCount 2 (bytes "t=1,0000000000000001,5 ") ≡ T.Broken
-unfolding tickLine struckTick plainTick hexes hexOf isDigit wholly number numeral digitsAfter
+unfolding tickLine struckTick plainTick hexes hexOf isDigit velocityIn wholly number numeral digitsAfter
 velocity-space = refl
 
 -- In front of it each digit counts as in the other line.
 velocity-uppercase : tickLine velocityCount 2 (bytes "t=0,000000000000000A,5") ≡ T.Broken
-unfolding tickLine struckTick plainTick hexes hexOf isDigit wholly number numeral digitsAfter
+unfolding tickLine struckTick plainTick hexes hexOf isDigit velocityIn wholly number numeral digitsAfter
 velocity-uppercase = refl

@@ -6,20 +6,20 @@ use mathlib.Core.List.{List, [], _∷_}
 use Prim.Native.Nat.{ℕ, _+_, _-_, _*_, _≤_, _<_}
 use native.Mathlib.Omega.{arith}
 use lib.Dec.{eqb, ltb}
-use borrow.Author.Tests.{ltb-true}
 use lib.ListN.{length, getD, take, drop, length-take, length-drop}
 use lib.Seq.{take-all}
-use Rattle.limits.specs.Limits.{lastLiteral, lineLimit}
+use Rattle.limits.specs.Limits.{lineLimit}
 use Rattle.lists.specs.Decimal.{digitValue}
 use Rattle.cards.specs.Heads.{plainEdition}
-use Rattle.cards.specs.Numbers.{number, wholly}
-use Rattle.cards.specs.Ticks.{hexOf, hexes, tickLength, plainTick, struckBy, struckTick, tickLine}
+use Rattle.cards.specs.Numbers.{wholly}
+use Rattle.cards.specs.Ticks.{hexOf, hexes, tickLength, plainTick, velocityIn, struckBy}
+use Rattle.cards.specs.Ticks.{struckTick, tickLine}
 use Rattle.cards.specs.declared.Count.{Count}
 use Rattle.cards.specs.declared.Count.the-variants as K
 use Rattle.cards.specs.declared.TickLine.{TickLine}
 use Rattle.cards.specs.declared.TickLine.the-variants.{Is, Broken}
-use Rattle.cards.proofs.Hex.{passed, not-failed, broken-is, plain-length}
-use Rattle.cards.proofs.Sized.{last-short}
+use Rattle.cards.proofs.Hex.{passed, not-failed, plain-length}
+use Rattle.cards.proofs.Velocities.{velocity-last}
 
 -- A line with no velocity has velocity 0.
 hexes-velocity : (start x : ℕ) (l : List ℕ) {i j v : ℕ} → hexes start x l ≡ Is i j v → v ≡ 0
@@ -56,30 +56,36 @@ plain-ticked velocities l {i} {j} e =
       short = omega (arith, whole);
     }
 
--- A line with a velocity: its front, and the number at its end.
-struck-by : (velocities : ℕ) (t : TickLine) (k : Count) {i j v : ℕ} → struckBy velocities t k ≡ Is i j v
-    → (none : ℕ) × (t ≡ Is i j none) × (k ≡ K.Is v) × (v < velocities)
-struck-by velocities (Is start signals none) (K.Is velocity) e =
-    let both = passed (ltb velocity velocities) e in
-    (none, cc, cc, rw (same-velocity (both .1)) at (ltb-true velocity velocities (both .0)))
-  where
-    same-velocity : {s i g j x v : ℕ} → Is s g x ≡ Is i j v → x ≡ v
-    same-velocity q = cc
-struck-by velocities (Is start signals none) K.Broken e = (0, cc, cc, absurd (broken-is e))
-struck-by velocities Broken k e = (0, cc, cc, absurd (broken-is e))
+-- A line with a velocity: its front, and the velocity at its end.
+pub struck-by : (t : TickLine) (k : Count) {i j v : ℕ} → struckBy t k ≡ Is i j v
+    → (none : ℕ) × (t ≡ Is i j none) × (k ≡ K.Is v)
+struck-by (Is start signals none) (K.Is velocity) e = (none, cc, cc)
+struck-by (Is start signals none) K.Broken e = (0, cc, cc)
+struck-by Broken k e = (0, cc, cc)
+
+-- With no velocity it is broken, whatever its front is.
+pub struck-broken : (t : TickLine) → struckBy t K.Broken ≡ Broken
+struck-broken (Is start signals none) = refl
+struck-broken Broken = refl
+
+-- The tick from what its two parts say.
+pub struck-of : (velocities : ℕ) (l : List ℕ) {t : TickLine} {k : Count} → t ≡ plainTick (take tickLength l)
+    → k ≡ wholly (velocityIn velocities (drop tickLength l)) → struckBy t k ≡ struckTick velocities l
+unfolding struckTick
+struck-of velocities l p q = rw (p, q)
 
 struck-ticked : (velocities : ℕ) (l : List ℕ) {i j v : ℕ} → struckTick velocities l ≡ Is i j v
     → Ticked velocities l i j v
 unfolding struckTick
 struck-ticked velocities l {i} {j} {v} e =
-    let rest = drop (tickLength + 1) l in
-    let both = passed (eqb (getD l tickLength 0) 44) e .1 in
-    let parts = struck-by velocities (plainTick (take tickLength l)) (wholly (number lastLiteral rest)) both in
+    let rest = drop tickLength l in
+    let parts = struck-by (plainTick (take tickLength l)) (wholly (velocityIn velocities rest)) e in
     let front = parts .1 in
+    let last = velocity-last velocities rest (parts .2) in
     record {
       front = front ∙ ap (Is i j) (plain-velocity (take tickLength l) front);
-      low = λ p. parts .3;
-      short = omega (arith, last-short lastLiteral (omega arith) rest v (parts .2), length-drop (tickLength + 1) l);
+      low = λ p. last .0;
+      short = omega (arith, last .1, length-drop tickLength l);
     }
 
 pub ticked : (velocities e : ℕ) (l : List ℕ) {i j v : ℕ} → tickLine velocities e l ≡ Is i j v
@@ -90,11 +96,3 @@ ticked velocities e l {i} {j} {v} h = by-edition (eqb e plainEdition) h
     by-edition : (t : Bool) → cond t (plainTick l) (struckTick velocities l) ≡ Is i j v → Ticked velocities l i j v
     by-edition true q = plain-ticked velocities l q
     by-edition false q = struck-ticked velocities l q
-
--- With too few bytes a line is broken.
-pub few-broken : (velocities e : ℕ) (l : List ℕ) → length l < tickLength → Broken ≡ tickLine velocities e l
-few-broken velocities e l few = by-line (tickLine velocities e l) refl
-  where
-    by-line : (x : TickLine) → tickLine velocities e l ≡ x → Broken ≡ x
-    by-line (Is i j v) q = absurd (omega (arith, ticked-long (ticked velocities e l q)))
-    by-line Broken q = refl

@@ -9,7 +9,8 @@ use Rattle.lists.specs.Decimal.{isDigit, digitValue}
 use Rattle.lists.specs.Number.{numberAt}
 use Rattle.lists.specs.Text.{byte}
 use Rattle.cards.specs.Heads.{plainEdition}
-use Rattle.cards.specs.Numbers.{number, wholly}
+use Rattle.cards.specs.Numbers.{Parsed, number, wholly}
+use Rattle.cards.specs.Numbers.Parsed.{done, none}
 use Rattle.cards.specs.declared.Count.{Count}
 use Rattle.cards.specs.declared.Count.the-variants as K
 use Rattle.cards.specs.declared.TickLine.{TickLine}
@@ -44,21 +45,26 @@ plainTick l =
     (cond (eqb (numberAt l 1) (byte "="))
     (cond (eqb (numberAt l 3) (byte ",")) (started (numberAt l 2) (drop 4 l)) Broken) Broken) Broken) Broken
 
--- A tick with this velocity, where it is below how many there are.
-abbrev pub struckBy : ℕ → TickLine → Count → TickLine
-struckBy velocities (Is start signals none) (K.Is velocity) =
-    cond (ltb velocity velocities) (Is start signals velocity) Broken
-struckBy velocities (Is start signals none) K.Broken = Broken
-struckBy velocities Broken k = Broken
+-- A number that is below how many velocities there are.
+abbrev pub lowBy : ℕ → Parsed → Parsed
+lowBy velocities none = none
+lowBy velocities (done v l) = cond (ltb v velocities) (done v l) none
 
--- A line with a velocity: its first bytes, which say this tick, then a comma, and the velocity up to the line's end.
-abbrev pub struckAfter : ℕ → TickLine → List ℕ → TickLine
-struckAfter velocities front l =
-    cond (eqb (numberAt l tickLength) (byte ","))
-    (struckBy velocities front (wholly (number lastLiteral (drop (tickLength + 1) l)))) Broken
+-- SPEC 10.6: a comma at the front of some bytes and the velocity behind it, and the bytes after that.
+unfoldable pub velocityIn : ℕ → List ℕ → Parsed
+velocityIn velocities [] = none
+velocityIn velocities (b ∷ l) = cond (eqb b (byte ",")) (lowBy velocities (number lastLiteral l)) none
 
+-- A tick with this velocity.
+abbrev pub struckBy : TickLine → Count → TickLine
+struckBy (Is start signals velocity) (K.Is v) = Is start signals v
+struckBy (Is start signals velocity) K.Broken = Broken
+struckBy Broken k = Broken
+
+-- SPEC 10.6: a line with a velocity. Its first bytes are a line with none, and the velocity ends it.
 unfoldable pub struckTick : ℕ → List ℕ → TickLine
-struckTick velocities l = struckAfter velocities (plainTick (take tickLength l)) l
+struckTick velocities l =
+    struckBy (plainTick (take tickLength l)) (wholly (velocityIn velocities (drop tickLength l)))
 
 -- SPEC 10.6: the tick line of an edition.
 unfoldable pub tickLine : ℕ → ℕ → List ℕ → TickLine

@@ -9,9 +9,10 @@ ghost use mathlib.Core.List.{List};
 ghost use Prim.Native.Nat.{ℕ};
 ghost use lib.ListN.{drop, replicate};
 ghost use Rattle.limits.specs.Limits.{parameterCount};
+ghost use Rattle.cards.specs.Heads.{plainEdition};
 ghost use Rattle.cards.specs.Numbers.{number, parametersOf, wholly, countOf};
-ghost use Rattle.cards.specs.Ticks.{hexOf, plainTick, struckAfter, tickLine};
-ghost use Rattle.cards.specs.Place.{tickAt};
+ghost use Rattle.cards.specs.Ticks.{hexOf, plainTick, velocityIn, struckTick, tickLine};
+ghost use Rattle.cards.specs.Place.{ReadsAs, tickAt};
 ghost use Rattle.cards.specs.Says.{editionOf, editionSays, parametersSay, countSays, tickIn, saysBy, brokenBy};
 ghost use Rattle.cards.specs.Says.{lineSays};
 ghost use Rattle.cards.specs.Says.{endSays, stageAt, stageAfter, firstStage, isOver};
@@ -180,8 +181,8 @@ fn hex_digit(b: u8) -> u64
             return 16;
         }
     }
-    // The low four bits of a digit, nine more for a letter: bit 6 tells them apart.
-    (b % 16 + b / 64 * 9) as u64
+    // The low four bits, with nine added first for a letter: bit 6 tells it from a digit.
+    ((b + b / 64 * 9) % 16) as u64
 }
 
 // A tick line with no velocity.
@@ -220,43 +221,52 @@ fn plain_line(s: &[u8]) -> TickLine
     TickLine::Is((b - b'0') as u32, x, 0)
 }
 
-// The tick of a line whose first bytes say this one: a comma and the velocity are behind them.
-fn struck_line(velocities: u32, front: TickLine, s: &[u8]) -> TickLine
-    ensures { λ r. ⌜ r ≡ struckAfter velocities front (now (s .entry)) ⌝ }
+// The velocity behind a comma at a place, and the place after it.
+fn velocity_at(velocities: u32, s: &[u8], at: usize) -> Number
+    ensures { λ r. ⌜ ReadsAs r (now (s .entry)) (velocityIn velocities (drop at (now (s .entry)))) ⌝ }
+{
+    if s.len() <= at {
+        return Number::Broken;
+    }
+    if s[at] != b',' {
+        return Number::Broken;
+    }
+    let Number::Is { value, next } = decimals::decimal_at(s, at + 1, limits::LAST_LITERAL) else {
+        return Number::Broken;
+    };
+    if velocities <= value {
+        return Number::Broken;
+    }
+    Number::Is { value, next }
+}
+
+// A tick line with a velocity.
+fn struck_line(velocities: u32, s: &[u8]) -> TickLine
+    ensures { λ r. ⌜ r ≡ struckTick velocities (now (s .entry)) ⌝ }
 {
     if s.len() <= TICK_LINE {
         return TickLine::Broken;
     }
-    if s[TICK_LINE] != b',' {
-        return TickLine::Broken;
-    }
-    let TickLine::Is(start, signals, _) = front else {
+    let TickLine::Is(start, signals, _) = plain_line(&s[..TICK_LINE]) else {
         return TickLine::Broken;
     };
-    let Count::Is(velocity) = last_number(s, TICK_LINE + 1, limits::LAST_LITERAL) else {
+    let Number::Is { value, next } = velocity_at(velocities, s, TICK_LINE) else {
         return TickLine::Broken;
     };
-    if velocities <= velocity {
+    if next < s.len() {
         return TickLine::Broken;
     }
-    TickLine::Is(start, signals, velocity)
+    TickLine::Is(start, signals, value)
 }
 
 // SPEC 10.6: the tick line of an edition.
 fn tick_line(velocities: u32, edition: u32, s: &[u8]) -> TickLine
     ensures { λ r. ⌜ r ≡ tickLine velocities edition (now (s .entry)) ⌝ }
 {
-    if s.len() < TICK_LINE {
-        return TickLine::Broken;
+    if edition == PLAIN_EDITION {
+        return plain_line(s);
     }
-    let front = plain_line(&s[..TICK_LINE]);
-    if edition != PLAIN_EDITION {
-        return struck_line(velocities, front, s);
-    }
-    if TICK_LINE < s.len() {
-        return TickLine::Broken;
-    }
-    front
+    struck_line(velocities, s)
 }
 
 // SPEC 10.2: which edition's line the first line is.
@@ -272,10 +282,29 @@ fn edition_of(s: &[u8]) -> u32
     NO_EDITION
 }
 
-// The tick line at a place of s, where it is there with its byte 10: this one is looked for behind the bytes that each
-// tick line has.
-pub fn tick_at(velocities: u32, edition: u32, s: &[u8], at: usize) -> TickFound
-    ensures { λ r. ⌜ r ≡ tickAt velocities edition (now (s .entry)) at ⌝ }
+// The tick line with no velocity at a place: its bytes and byte 10 are at fixed places.
+fn plain_at(s: &[u8], at: usize) -> TickFound
+    ensures { λ r. ⌜ ((velocities : ℕ) → r ≡ tickAt velocities plainEdition (now (s .entry)) at) ⌝ }
+{
+    if s.len() <= TICK_LINE {
+        return TickFound::Broken;
+    }
+    if s.len() - TICK_LINE <= at {
+        return TickFound::Broken;
+    }
+    let stop = at + TICK_LINE;
+    if s[stop] != lists::LINE_END {
+        return TickFound::Broken;
+    }
+    let TickLine::Is(start, signals, velocity) = plain_line(&s[at..stop]) else {
+        return TickFound::Broken;
+    };
+    TickFound::Is(start, signals, velocity, stop + 1)
+}
+
+// The tick line with a velocity at a place: its first bytes are at fixed places, and byte 10 is behind the velocity.
+fn struck_at(velocities: u32, s: &[u8], at: usize) -> TickFound
+    ensures { λ r. ⌜ ((e : ℕ) → (e ≡ plainEdition → ⊥) → r ≡ tickAt velocities e (now (s .entry)) at) ⌝ }
 {
     if s.len() <= TICK_LINE {
         return TickFound::Broken;
@@ -284,14 +313,29 @@ pub fn tick_at(velocities: u32, edition: u32, s: &[u8], at: usize) -> TickFound
         return TickFound::Broken;
     }
     let from = at + TICK_LINE;
-    let stop = from + lists::line_length(s, from);
-    if stop == s.len() {
-        return TickFound::Broken;
-    }
-    let TickLine::Is(start, signals, velocity) = tick_line(velocities, edition, &s[at..stop]) else {
+    let TickLine::Is(start, signals, _) = plain_line(&s[at..from]) else {
         return TickFound::Broken;
     };
-    TickFound::Is(start, signals, velocity, stop + 1)
+    let Number::Is { value, next } = velocity_at(velocities, s, from) else {
+        return TickFound::Broken;
+    };
+    if s.len() <= next {
+        return TickFound::Broken;
+    }
+    if s[next] != lists::LINE_END {
+        return TickFound::Broken;
+    }
+    TickFound::Is(start, signals, value, next + 1)
+}
+
+// The tick line at a place of s, where it is there with its byte 10, and the place after that.
+pub fn tick_at(velocities: u32, edition: u32, s: &[u8], at: usize) -> TickFound
+    ensures { λ r. ⌜ r ≡ tickAt velocities edition (now (s .entry)) at ⌝ }
+{
+    if edition == PLAIN_EDITION {
+        return plain_at(s, at);
+    }
+    struck_at(velocities, s, at)
 }
 
 // What a line says that fails (SPEC 10.7): nothing once the card is over.

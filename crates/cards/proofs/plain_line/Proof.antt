@@ -4,7 +4,7 @@ use Prim.Native.Nat.{_-_}
 use native.Mathlib.Omega.{arith}
 use borrow.Author.Needs.{needs}
 use borrow.Author.Tests.{eq-eqb, ne-eqb, lt-ltb, le-ltb}
-use Rattle.cards.specs.Ticks.{plainTick}
+use Rattle.cards.specs.Ticks.{tickLength, plainTick}
 use Rattle.cards.proofs.Hex.{tick-digits, Hexing, hexing-bad, hexing-fits, hexing-more, hexing-end}
 use Rattle.cards.proofs.plain_line.Statement.{statement}
 use Rattle.cards.proofs.plain_line.Tie as tie
@@ -26,7 +26,7 @@ has-equals c = c .before .before
 -- Another length, another byte than `t`, `=` or the comma, a start below 0 or above 1.
 other-length : tie.Need-returns Inv-loop μ-loop
 unfolding plainTick
-other-length c = simp (ne-eqb _ _ (c .if1 .taken))
+other-length c = simp (ne-eqb _ tickLength (c .if1 .taken))
 
 no-t : tie.Need-returns-2 Inv-loop μ-loop
 unfolding plainTick

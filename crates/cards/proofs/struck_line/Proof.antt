@@ -1,82 +1,86 @@
--- `cards::struck_line` meets its contract: one case for each way that the comma, the tick before it or the velocity can
--- fail. Assumes nothing.
+-- `cards::struck_line` meets its contract: too few bytes, a front that is no line with no velocity, no velocity behind
+-- it, bytes behind that, or a tick. Assumes nothing.
+use mathlib.Core.Path.{_≡_, sym, _∙_}
+use native.Mathlib.Omega.{arith}
 use borrow.Author.Needs.{needs}
-use borrow.Author.Tests.{eq-eqb, ne-eqb, le-ltb, lt-ltb}
-use lib.ListN.{List·getD-eq-default}
+use lib.ListN.{take, drop, drop-of-length-le}
+use lib.Seq.{length-take-le}
+use Rattle.cards.specs.Numbers.{wholly}
+use Rattle.cards.specs.Ticks.{tickLength, plainTick, velocityIn, struckBy, struckTick}
+use Rattle.cards.specs.declared.Count.{Count}
+use Rattle.cards.specs.declared.TickLine.the-variants.{Is}
+use Rattle.cards.proofs.Numbers.{wholly-none, wholly-last, wholly-not}
+use Rattle.cards.proofs.Ticks.{struck-broken, struck-of}
 use Rattle.cards.proofs.struck_line.Statement.{statement}
 use Rattle.cards.proofs.struck_line.Tie as tie
 
--- Where the first bytes are known to say a tick, from where the velocity is read; and where the comma is known.
-abbrev front : tie.After-last-number → tie.After-front
+-- The start, from where the first bytes are lent; where these are known to be a tick, from where the velocity is read;
+-- and where that is read, from where its value is known.
+abbrev entry : tie.After-plain-line-arg → tie.Start
+entry c = c .before .before .before
+
+abbrev front : tie.After-velocity-at → tie.After-start
 front c = c .before .before
 
-abbrev comma : tie.After-front → tie.Else2
-comma c = c .before .before
+abbrev begun : tie.After-velocity-at → tie.Start
+begun c = entry (front c .before .before .before)
 
-no-room : tie.Need-returns
-no-room c = rw (List·getD-eq-default (c .before .before .args .s .now) 0 {n = 20} (c .if1 .taken))
+abbrev read : tie.After-value → tie.After-velocity-at
+read c = c .before .before
 
-no-comma : tie.Need-returns-2
-no-comma c = rw (ne-eqb _ _ (c .if2 .taken))
+few : tie.Need-returns
+unfolding struckTick velocityIn wholly
+few c =
+    let args = c .before .before .args in
+    let short = drop-of-length-le (args .s .now) {i = tickLength} (omega arith) in
+    rw short (sym (struck-broken (plainTick (take tickLength (args .s .now)))))
 
-no-front : tie.Need-returns-3
-no-front c = rw (eq-eqb _ _ (c .before .before .if2 .left), c .enum-told .given .1)
+front-length : tie.Need-slice-aggregate-plain-line
+front-length c = sym (length-take-le tickLength (entry c .args .s .now) (omega arith))
 
-no-velocity : tie.Need-returns-4
+no-front : tie.Need-returns-2
+unfolding struckTick
+no-front c = rw (← c .before .before .plain-line .ensures, c .enum-told .given .1)
+
+-- With a tick in front, what stands behind it decides.
+by-velocity : (c : tie.After-velocity-at) {k : Count} →
+    let args = begun c .args in
+    let tick = front c .start .given .0 in
+    k ≡ wholly (velocityIn (args .velocities) (drop tickLength (args .s .now)))
+    → struckBy (Is (tick .0) (tick .1 .0) (tick .1 .1 .0)) k ≡ struckTick (args .velocities) (args .s .now)
+by-velocity c q =
+    let args = begun c .args in
+    let read = front c .before .before .plain-line in
+    struck-of (args .velocities) (args .s .now) (sym (front c .start .given .1) ∙ read .ensures) q
+
+no-velocity : tie.Need-returns-3
 no-velocity c =
-    let last = c .before .before in
-    let tick = front last in
-    rw (
-      eq-eqb _ _ (comma tick .if2 .left),
-      tick .front .given .1,
-      ← last .last-number .ensures,
-      c .enum-told2 .given .1,
-    )
+    let velocity = c .before .before in
+    by-velocity velocity (wholly-none (velocity .velocity-at .ensures) (c .enum-told2 .given .1))
 
--- The velocity is known, and whether it is below how many there are.
-abbrev number : tie.After-velocity → tie.After-last-number
-number c = c .before .before
+bytes-behind : tie.Need-returns-4
+bytes-behind c =
+    let value = c .before .before in
+    by-velocity (read value) (wholly-not (read value .velocity-at .ensures) (value .value .given .1) (c .if2 .taken))
 
-too-high : tie.Need-returns-5
-too-high c =
-    let known = c .before .before in
-    let last = number known in
-    let tick = front last in
-    rw (
-      eq-eqb _ _ (comma tick .if2 .left),
-      tick .front .given .1,
-      ← last .last-number .ensures,
-      known .velocity .given .1,
-      le-ltb _ _ (c .if3 .taken),
-    )
-
-struck : tie.Need-returns-6
+struck : tie.Need-returns-5
 struck c =
-    let known = c .before .before in
-    let last = number known in
-    let tick = front last in
-    rw (
-      eq-eqb _ _ (comma tick .if2 .left),
-      tick .front .given .1,
-      ← last .last-number .ensures,
-      known .velocity .given .1,
-      lt-ltb _ _ (c .if3 .left),
-    )
+    let value = c .before .before in
+    by-velocity (read value) (wholly-last (read value .velocity-at .ensures) (value .value .given .1) (c .if2 .left))
 
 pub struck-line-spec : {M : Type 1} → statement M
 struck-line-spec =
     tie.close
     (tie.spec
-    no-room
-    (λ c. search needs)
-    no-comma
+    few
+    front-length
+    (λ c κs. search needs)
     (λ c. search needs)
     (λ c. search needs)
     no-front
-    (λ c. search needs)
     (λ c κs. search needs)
     (λ c. search needs)
     (λ c. search needs)
     no-velocity
-    too-high
+    bytes-behind
     struck)
