@@ -1,19 +1,20 @@
--- How hexadecimal digits (specs/Ticks.antt) go on at a place of a line, that sixteen of them fit 64 bits, and their
--- values. Assumes nothing.
-use mathlib.Core.Path.{_≡_, refl, _∙_, sym}
-use mathlib.Core.Bool.{Bool, true, false, cond}
-use mathlib.Core.List.{List}
-use Prim.Native.Nat.{ℕ, _+_, _-_, _*_, _/_, _%_, _^_, _≤_, _<_}
+-- How hexadecimal digits (specs/Ticks.antt) go on at a place of a line, that sixteen of them fit 64 bits, and the table
+-- of their values. Assumes nothing.
+use mathlib.Core.Path.{_≡_, refl, _∙_, sym, ap}
+use mathlib.Core.Bool.{Bool, true, false, cond, _&&_, false≢true}
+use mathlib.Core.List.{List, [], _∷_}
+use Prim.Native.Nat.{ℕ, zero, suc, _+_, _-_, _*_, _^_, _≤_, _<_}
 use native.Mathlib.Omega.{arith}
-use native.Mathlib.Nat.{pow-suc, pow-le-pow-right}
+use native.Mathlib.Nat.{add-zero, zero-add, pow-suc, pow-le-pow-right}
 use native.Mathlib.Numerals.{add-one}
-use lib.Dec.{eqb}
-use lib.ListN.{length, getD, drop, drop-of-length-le}
+use lib.Dec.{eqb, leb, ltb}
+use lib.ListN.{length, getD, set, replicate, drop, drop-of-length-le}
 use lib.Seq.{drop-cons}
-use borrow.Author.Tests.{eq-eqb, lt-ltb, le-ltb, le-leb, lt-leb, eqb-true}
-use Rattle.lists.specs.Text.{byte}
+use borrow.Author.Tests.{eq-eqb, lt-ltb, le-ltb, lt-leb, leb-true, ltb-true, eqb-true}
+use Rattle.lists.specs.Text.{byte, bytes}
 use Rattle.lists.specs.Decimal.{isDigit, digitValue}
 use Rattle.cards.specs.Ticks.{hexOf, hexes, tickLength, plainTick}
+use Rattle.cards.specs.Place.{hexesFrom, hexTable}
 use Rattle.cards.specs.declared.TickLine.{TickLine}
 use Rattle.cards.specs.declared.TickLine.the-variants.{Is, Broken}
 
@@ -44,35 +45,10 @@ fits64 k x d z h e =
     let l : 16 ^ k ≤ 16 ^ 15 = pow-le-pow-right (omega arith) z in
     omega (arith, room (16 ^ k) x d h e)
 
--- The bytes below the first digit, above the last, and between 9 and a,
-module _ (b : ℕ) where
-  pub hex-low : b < byte "0" → hexOf b ≡ 16
-  unfolding hexOf isDigit
-  hex-low h = rw (lt-leb (byte "0") b h, lt-leb (byte "a") b (omega arith))
-
-  pub hex-high : byte "f" < b → hexOf b ≡ 16
-  unfolding hexOf isDigit
-  hex-high h =
-      rw (le-leb (byte "0") b (omega arith), lt-leb b (byte "9") (omega arith))
-      (rw (le-leb (byte "a") b (omega arith), lt-leb b (byte "f") h))
-
-  pub hex-between : byte "9" < b → b < byte "a" → hexOf b ≡ 16
-  unfolding hexOf isDigit
-  hex-between h k = rw (le-leb (byte "0") b (omega arith), lt-leb b (byte "9") h, lt-leb (byte "a") b k)
-
-  -- and the others: the low four bits, with nine added first for a letter, which has bit 6.
-  pub hex-decimal : byte "0" ≤ b → b ≤ byte "9" → hexOf b ≡ (b + b / 64 * 9) % 16
-  unfolding hexOf isDigit
-  hex-decimal h k =
-      let top : b / 64 ≡ 0 = omega arith in
-      rw (top, le-leb (byte "0") b h, le-leb b (byte "9") k) (omega arith)
-
-  pub hex-letter : byte "a" ≤ b → b ≤ byte "f" → hexOf b ≡ (b + b / 64 * 9) % 16
-  unfolding hexOf isDigit
-  hex-letter h k =
-      let top : b / 64 ≡ 1 = omega arith in
-      rw (top, le-leb (byte "0") b (omega arith), lt-leb b (byte "9") (omega arith))
-      (rw (le-leb (byte "a") b h, le-leb b (byte "f") k) (omega arith))
+-- A byte below the first digit is none.
+pub hex-low : (b : ℕ) → b < byte "0" → hexOf b ≡ 16
+unfolding hexOf isDigit
+hex-low b h = rw (lt-leb (byte "0") b h, lt-leb (byte "a") b (omega arith))
 
 -- A line that is not broken passes each of its tests.
 module _ {start signals velocity : ℕ} where
@@ -135,3 +111,67 @@ module _ {s : List ℕ} {b x i : ℕ} (k : Hexing s b x i) where
           whole = k .whole;
           below = rw z (grows (i - 4) x d (k .below) g);
         }
+
+-- ---- the table of digits
+
+-- No value is above that of a byte that is none.
+pub hex-most : (b : ℕ) → hexOf b ≤ 16
+unfolding hexOf isDigit
+hex-most b = by-byte (leb (byte "0") b) (leb b (byte "9")) (leb (byte "a") b) (leb b (byte "f")) refl refl refl refl
+  where
+    by-byte : (p q r t : Bool) → leb (byte "0") b ≡ p → leb b (byte "9") ≡ q → leb (byte "a") b ≡ r
+        → leb b (byte "f") ≡ t → cond (p && q) (digitValue b) (cond (r && t) (b - byte "a" + 10) 16) ≤ 16
+    by-byte true true r t e f g h = omega (arith, leb-true b (byte "9") f)
+    by-byte true false true true e f g h = omega (arith, leb-true b (byte "f") h)
+    by-byte true false true false e f g h = omega arith
+    by-byte true false false t e f g h = omega arith
+    by-byte false q true true e f g h = omega (arith, leb-true b (byte "f") h)
+    by-byte false q true false e f g h = omega arith
+    by-byte false q false t e f g h = omega arith
+
+-- All bytes are no digits but for the first k of these.
+unfoldable pub filled : List ℕ → ℕ → List ℕ
+filled ds zero = replicate 256 16
+filled ds (suc k) = set (filled ds k) (getD ds k 0) k
+
+pub filled-more : (ds hex : List ℕ) (k : ℕ) → hex ≡ filled ds k → set hex (getD ds k 0) k ≡ filled ds (k + 1)
+unfolding filled
+filled-more ds hex k e = rw (add-one k, e)
+
+-- The sixteen digits, each of which has a place in the table.
+abbrev pub digitBytes : List ℕ
+digitBytes = bytes "0123456789abcdef"
+
+abbrev low-bytes : List ℕ → Bool
+low-bytes [] = true
+low-bytes (b ∷ l) = cond (ltb b 256) (low-bytes l) false
+
+low-at : (l : List ℕ) → low-bytes l ≡ true → (k : ℕ) → getD l k 0 < 256
+low-at [] e k = omega arith
+low-at (b ∷ l) e k = by-byte (ltb b 256) refl e (low-at l) k
+  where
+    by-byte : (t : Bool) → ltb b 256 ≡ t → cond t (low-bytes l) false ≡ true
+        → (low-bytes l ≡ true → (k : ℕ) → getD l k 0 < 256) → (k : ℕ) → getD (b ∷ l) k 0 < 256
+    by-byte true q e rest zero = ltb-true b 256 q
+    by-byte true q e rest (suc k) = rest e k
+    by-byte false q e rest k = absurd (false≢true e)
+
+pub digit-low : (k : ℕ) → getD digitBytes k 0 < 256
+digit-low k = low-at digitBytes refl k
+
+-- With all of them it is the table.
+pub filled-all : filled digitBytes 16 ≡ hexTable
+unfolding filled hexesFrom hexOf isDigit
+filled-all = refl
+
+-- Its values.
+from-at : (m b k : ℕ) → k < m → getD (hexesFrom m b) k 0 ≡ hexOf (b + k)
+unfolding hexesFrom
+from-at zero b k h = absurd (omega arith)
+from-at (suc m) b zero h = ap hexOf (sym (add-zero b))
+from-at (suc m) b (suc k) h =
+    let z : suc b + k ≡ b + suc k = omega arith in
+    from-at m (suc b) k (omega arith) ∙ ap hexOf z
+
+pub table-at : (b : ℕ) → b < 256 → getD hexTable b 0 ≡ hexOf b
+table-at b h = from-at 256 0 b h ∙ ap hexOf (zero-add b)

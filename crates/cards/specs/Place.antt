@@ -1,21 +1,29 @@
--- What inner functions answer that read a number at a place, or a tick line at the front of some bytes. Definitions
--- only.
+-- What inner functions answer that read a number at a place, or a tick line at the front of some bytes, and the table
+-- of hexadecimal digits that they are lent. Definitions only.
 use mathlib.Core.Bool.{cond}
-use mathlib.Core.List.{List}
+use mathlib.Core.List.{List, [], _∷_}
 use mathlib.Core.Path.{_≡_}
-use Prim.Native.Nat.{ℕ, _+_, _≤_}
+use Prim.Native.Nat.{ℕ, zero, suc, _+_, _≤_}
 use lib.Dec.{ltb}
 use lib.ListN.{length, drop}
 use Rattle.lists.specs.Line.{line}
 use Rattle.cards.specs.Numbers.{Parsed}
 use Rattle.cards.specs.Numbers.Parsed.{done, none}
-use Rattle.cards.specs.Ticks.{tickLine}
+use Rattle.cards.specs.Ticks.{hexOf, tickLine}
 use Rattle.cards.specs.declared.decimals.Number.{Number}
 use Rattle.cards.specs.declared.decimals.Number.the-variants as N
 use Rattle.cards.specs.declared.TickLine.{TickLine}
 use Rattle.cards.specs.declared.TickLine.the-variants as T
 use Rattle.cards.specs.declared.TickFound.{TickFound}
 use Rattle.cards.specs.declared.TickFound.the-variants as F
+
+-- The values of m bytes as hexadecimal digits (SPEC 10.6), from the byte b on; and of all bytes.
+unfoldable pub hexesFrom : ℕ → ℕ → List ℕ
+hexesFrom zero b = []
+hexesFrom (suc m) b = hexOf b ∷ hexesFrom m (suc b)
+
+abbrev pub hexTable : List ℕ
+hexTable = hexesFrom 256 0
 
 -- What the code's answer says: the number, and what stands from `next` on.
 abbrev pub readTo : Number → List ℕ → Parsed

@@ -12,7 +12,7 @@ ghost use Rattle.limits.specs.Limits.{parameterCount};
 ghost use Rattle.cards.specs.Heads.{plainEdition};
 ghost use Rattle.cards.specs.Numbers.{number, parametersOf, wholly, countOf};
 ghost use Rattle.cards.specs.Ticks.{hexOf, plainTick, velocityIn, struckTick, tickLine};
-ghost use Rattle.cards.specs.Place.{ReadsAs, tickAt};
+ghost use Rattle.cards.specs.Place.{hexTable, ReadsAs, tickAt};
 ghost use Rattle.cards.specs.Says.{editionOf, editionSays, parametersSay, countSays, tickIn, saysBy, brokenBy};
 ghost use Rattle.cards.specs.Says.{lineSays};
 ghost use Rattle.cards.specs.Says.{endSays, stageAt, stageAfter, firstStage, isOver};
@@ -166,27 +166,33 @@ fn count_line(s: &[u8]) -> Count
     last_number(s, COUNT_HEAD.len(), limits::LAST_LITERAL)
 }
 
-// The value of a hexadecimal digit of SPEC 10.6, 16 for any other byte.
-fn hex_digit(b: u8) -> u64
+// The value of each byte as a hexadecimal digit of SPEC 10.6, 16 where it is none. It is made once for all lines of a
+// piece, and lent to those that read them.
+pub fn hex_digits() -> [u8; 256]
+    ensures { λ r. ⌜ r ≡ hexTable ⌝ }
+{
+    let digits = *b"0123456789abcdef";
+    let mut hex = [16u8; 256];
+    let mut k = 0;
+    while k < digits.len() {
+        let b = digits[k];
+        hex[b as usize] = k as u8;
+        k += 1;
+    }
+    hex
+}
+
+// The value of a byte in them.
+fn digit_in(hex: &[u8; 256], b: u8) -> u64
+    requires { ⌜ now hex ≡ hexTable ⌝ }
     ensures { λ r. ⌜ r ≡ hexOf b ⌝ }
 {
-    if b < b'0' {
-        return 16;
-    }
-    if b'f' < b {
-        return 16;
-    }
-    if b'9' < b {
-        if b < b'a' {
-            return 16;
-        }
-    }
-    // The low four bits, with nine added first for a letter: bit 6 tells it from a digit.
-    ((b + b / 64 * 9) % 16) as u64
+    hex[b as usize] as u64
 }
 
 // A tick line with no velocity.
-fn plain_line(s: &[u8]) -> TickLine
+fn plain_line(hex: &[u8; 256], s: &[u8]) -> TickLine
+    requires { ⌜ now hex ≡ hexTable ⌝ }
     ensures { λ r. ⌜ r ≡ plainTick (now (s .entry)) ⌝ }
 {
     if s.len() != TICK_LINE {
@@ -211,7 +217,7 @@ fn plain_line(s: &[u8]) -> TickLine
     let mut x = 0u64;
     let mut i = 4;
     while i < TICK_LINE {
-        let d = hex_digit(s[i]);
+        let d = digit_in(hex, s[i]);
         if 15 < d {
             return TickLine::Broken;
         }
@@ -241,13 +247,14 @@ fn velocity_at(velocities: u32, s: &[u8], at: usize) -> Number
 }
 
 // A tick line with a velocity.
-fn struck_line(velocities: u32, s: &[u8]) -> TickLine
+fn struck_line(hex: &[u8; 256], velocities: u32, s: &[u8]) -> TickLine
+    requires { ⌜ now hex ≡ hexTable ⌝ }
     ensures { λ r. ⌜ r ≡ struckTick velocities (now (s .entry)) ⌝ }
 {
     if s.len() <= TICK_LINE {
         return TickLine::Broken;
     }
-    let TickLine::Is(start, signals, _) = plain_line(&s[..TICK_LINE]) else {
+    let TickLine::Is(start, signals, _) = plain_line(hex, &s[..TICK_LINE]) else {
         return TickLine::Broken;
     };
     let Number::Is { value, next } = velocity_at(velocities, s, TICK_LINE) else {
@@ -260,13 +267,14 @@ fn struck_line(velocities: u32, s: &[u8]) -> TickLine
 }
 
 // SPEC 10.6: the tick line of an edition.
-fn tick_line(velocities: u32, edition: u32, s: &[u8]) -> TickLine
+fn tick_line(hex: &[u8; 256], velocities: u32, edition: u32, s: &[u8]) -> TickLine
+    requires { ⌜ now hex ≡ hexTable ⌝ }
     ensures { λ r. ⌜ r ≡ tickLine velocities edition (now (s .entry)) ⌝ }
 {
     if edition == PLAIN_EDITION {
-        return plain_line(s);
+        return plain_line(hex, s);
     }
-    struck_line(velocities, s)
+    struck_line(hex, velocities, s)
 }
 
 // SPEC 10.2: which edition's line the first line is.
@@ -283,7 +291,8 @@ fn edition_of(s: &[u8]) -> u32
 }
 
 // The tick line with no velocity at a place: its bytes and byte 10 are at fixed places.
-fn plain_at(s: &[u8], at: usize) -> TickFound
+fn plain_at(hex: &[u8; 256], s: &[u8], at: usize) -> TickFound
+    requires { ⌜ now hex ≡ hexTable ⌝ }
     ensures { λ r. ⌜ ((velocities : ℕ) → r ≡ tickAt velocities plainEdition (now (s .entry)) at) ⌝ }
 {
     if s.len() <= TICK_LINE {
@@ -296,14 +305,15 @@ fn plain_at(s: &[u8], at: usize) -> TickFound
     if s[stop] != lists::LINE_END {
         return TickFound::Broken;
     }
-    let TickLine::Is(start, signals, velocity) = plain_line(&s[at..stop]) else {
+    let TickLine::Is(start, signals, velocity) = plain_line(hex, &s[at..stop]) else {
         return TickFound::Broken;
     };
     TickFound::Is(start, signals, velocity, stop + 1)
 }
 
 // The tick line with a velocity at a place: its first bytes are at fixed places, and byte 10 is behind the velocity.
-fn struck_at(velocities: u32, s: &[u8], at: usize) -> TickFound
+fn struck_at(hex: &[u8; 256], velocities: u32, s: &[u8], at: usize) -> TickFound
+    requires { ⌜ now hex ≡ hexTable ⌝ }
     ensures { λ r. ⌜ ((e : ℕ) → (e ≡ plainEdition → ⊥) → r ≡ tickAt velocities e (now (s .entry)) at) ⌝ }
 {
     if s.len() <= TICK_LINE {
@@ -313,7 +323,7 @@ fn struck_at(velocities: u32, s: &[u8], at: usize) -> TickFound
         return TickFound::Broken;
     }
     let from = at + TICK_LINE;
-    let TickLine::Is(start, signals, _) = plain_line(&s[at..from]) else {
+    let TickLine::Is(start, signals, _) = plain_line(hex, &s[at..from]) else {
         return TickFound::Broken;
     };
     let Number::Is { value, next } = velocity_at(velocities, s, from) else {
@@ -329,13 +339,14 @@ fn struck_at(velocities: u32, s: &[u8], at: usize) -> TickFound
 }
 
 // The tick line at a place of s, where it is there with its byte 10, and the place after that.
-pub fn tick_at(velocities: u32, edition: u32, s: &[u8], at: usize) -> TickFound
+pub fn tick_at(hex: &[u8; 256], velocities: u32, edition: u32, s: &[u8], at: usize) -> TickFound
+    requires { ⌜ now hex ≡ hexTable ⌝ }
     ensures { λ r. ⌜ r ≡ tickAt velocities edition (now (s .entry)) at ⌝ }
 {
     if edition == PLAIN_EDITION {
-        return plain_at(s, at);
+        return plain_at(hex, s, at);
     }
-    struck_at(velocities, s, at)
+    struck_at(hex, velocities, s, at)
 }
 
 // What a line says that fails (SPEC 10.7): nothing once the card is over.
@@ -381,7 +392,8 @@ fn tick_content(velocities: u32, edition: u32, left: u32, s: &[u8]) -> Content
     if left == 0 {
         return Content::Refused(TICK_REFUSAL);
     }
-    let t = tick_line(velocities, edition, s);
+    let hex = hex_digits();
+    let t = tick_line(&hex, velocities, edition, s);
     match t {
         TickLine::Broken => Content::Refused(TICK_REFUSAL),
         TickLine::Is(start, signals, velocity) => Content::Tick(start, signals, velocity),

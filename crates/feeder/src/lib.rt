@@ -128,11 +128,12 @@ fn run_ticks(
     let phase = stage.phase;
     let edition = stage.edition;
     let n = watch.n;
+    let hex = cards::hex_digits();
     let mut left = stage.left;
     let mut used = 0;
     let mut at = 0;
     while 0 < left {
-        let found = cards::tick_at(limits::VELOCITIES, edition, bytes, used);
+        let found = cards::tick_at(&hex, limits::VELOCITIES, edition, bytes, used);
         let TickFound::Is(start, signals, velocity, next) = found else {
             return fed_to(watch_at(phase, edition, left, n), used, at);
         };

@@ -113,8 +113,8 @@ fn gate(x: u32, y: u32) -> u32
     if 0 < x { y } else { 0 }
 }
 
-// The value of equation i, from its cell and the flows before it. `ps` are the tick's parameters, lent for all equations
-// of a tick: out of the tick the compiler would copy all of them at each use.
+// The value of equation i, from its cell and the flows before it. `ps` are the tick's parameters, lent to all
+// equations: out of the tick the compiler would copy all of them at each use.
 fn value(
     cap: u32,
     table: &[u32],

@@ -10,10 +10,10 @@ use Rattle.cards.proofs.plain_line.Statement.{statement}
 use Rattle.cards.proofs.plain_line.Tie as tie
 
 abbrev Inv-loop : tie.InvT-loop
-Inv-loop s b x₀ i₀ x i = Hexing s b x i
+Inv-loop hex s b x₀ i₀ x i = Hexing s b x i
 
 abbrev μ-loop : tie.MeasureT-loop
-μ-loop s b x₀ i₀ x i = 20 - i
+μ-loop hex s b x₀ i₀ x i = 20 - i
 
 -- Where the line is known to have its `t`, from where it is known to have its `=`; and that place, from where it is
 -- known to have its comma.
@@ -99,22 +99,22 @@ loop-holds c =
 no-digit : tie.Need-returns-7 Inv-loop μ-loop
 no-digit c =
     let inv = c .before .before .before .before .loop .inv in
-    hexing-bad inv (omega arith) (c .before .hex-digit .ensures) (c .if7 .taken)
+    hexing-bad inv (omega arith) (c .before .digit-in .ensures) (c .if7 .taken)
 
 mul-x : tie.Need-mul-x Inv-loop μ-loop
 mul-x c =
     let inv = c .before .before .before .before .loop .inv in
-    omega (arith, hexing-fits inv (omega arith) (c .before .hex-digit .ensures) (c .if7 .left))
+    omega (arith, hexing-fits inv (omega arith) (c .before .digit-in .ensures) (c .if7 .left))
 
 add-x : tie.Need-add-x Inv-loop μ-loop
 add-x c =
     let inv = c .before .before .before .before .loop .inv in
-    record { fits = hexing-fits inv (omega arith) (c .before .hex-digit .ensures) (c .if7 .left) }
+    record { fits = hexing-fits inv (omega arith) (c .before .digit-in .ensures) (c .if7 .left) }
 
 loop-again : tie.Need-loop-again Inv-loop μ-loop
 loop-again c =
     let inv = c .before .before .before .before .loop .inv in
-    hexing-more inv (omega arith) (c .before .hex-digit .ensures) (c .if7 .left)
+    hexing-more inv (omega arith) (c .before .digit-in .ensures) (c .if7 .left)
 
 all-digits : tie.Need-returns-8 Inv-loop μ-loop
 all-digits c = hexing-end (c .before .loop .inv) (omega arith)

@@ -20,7 +20,7 @@ use Rattle.feeder.proofs.run_ticks.Statement.{statement}
 use Rattle.feeder.proofs.run_ticks.Tie as tie
 
 abbrev Inv-loop : tie.InvT-loop
-Inv-loop bytes ps table state₀ values₀ out₀ phase edition n left₀ used₀ at₀ state values out left used at =
+Inv-loop bytes ps table state₀ values₀ out₀ phase edition n hex left₀ used₀ at₀ state values out left used at =
     let w₀ = worldOf (watchOf (stageAt phase edition left₀) n) ps table state₀ values₀ in
     let w = worldOf (watchOf (stageAt phase edition left) n) ps table state values in
     Between w₀ bytes out₀ w out used at
@@ -28,7 +28,7 @@ Inv-loop bytes ps table state₀ values₀ out₀ phase edition n left₀ used�
     × (length state ≡ length state₀) × (length values ≡ length values₀)
 
 abbrev μ-loop : tie.MeasureT-loop
-μ-loop bytes ps table state₀ values₀ out₀ phase edition n left₀ used₀ at₀ state values out left used at = left
+μ-loop bytes ps table state₀ values₀ out₀ phase edition n hex left₀ used₀ at₀ state values out left used at = left
 
 -- ---- the places
 
@@ -37,7 +37,7 @@ abbrev start : tie.After-slice-known3 Inv-loop μ-loop → tie.Start Inv-loop μ
 start c = c .before .before .before .before .before
 
 abbrev entry : tie.At-loop Inv-loop μ-loop → tie.Start Inv-loop μ-loop
-entry c = start (c .before .before)
+entry c = start (c .before .before .before)
 
 -- The tick that is built, from its step; where its line is known; and the loop from there.
 abbrev built : tie.After-step-passed Inv-loop μ-loop → tie.After-tick-of Inv-loop μ-loop
@@ -47,7 +47,7 @@ abbrev read : tie.After-step-passed Inv-loop μ-loop → tie.After-found Inv-loo
 read c = built c .before .before .before
 
 abbrev turn : tie.After-found Inv-loop μ-loop → tie.At-loop Inv-loop μ-loop
-turn c = c .before .before .before .before
+turn c = c .before .before .before .before .before
 
 -- The step, from where the output is lent for its verdict, and that place from the end of the turn.
 abbrev stepped : tie.After-put-verdict-arg Inv-loop μ-loop → tie.After-step-passed Inv-loop μ-loop
@@ -61,7 +61,7 @@ abbrev looked : tie.After-fed-to Inv-loop μ-loop → tie.After-tick-at Inv-loop
 looked c = c .before .before .before .before
 
 abbrev stopped : tie.After-fed-to Inv-loop μ-loop → tie.At-loop Inv-loop μ-loop
-stopped c = looked c .before .before
+stopped c = looked c .before .before .before
 
 -- The piece that is fed.
 abbrev piece : tie.At-loop Inv-loop μ-loop → List ℕ
@@ -70,7 +70,7 @@ piece c = entry c .args .bytes .now
 -- ---- the needs
 
 loop-holds : tie.Need-loop-holds Inv-loop μ-loop
-loop-holds c = let pre = start (c .before) .pre in (begun _ _ _ (pre .0), pre .1, refl, refl)
+loop-holds c = let pre = start (c .before .before) .pre in (begun _ _ _ (pre .0), pre .1, refl, refl)
 
 -- The next line is broken or not whole, or no tick is left.
 line-broken : tie.Need-returns Inv-loop μ-loop
@@ -115,7 +115,7 @@ put-verdict-requires c κs =
     let line = read step in
     let loop = turn line in
     let inv = loop .loop .inv in
-    let more = line .before .before .before .loop-test .taken in
+    let more = line .before .before .before .before .loop-test .taken in
     verdict-room _ _ _ some-velocity (piece loop) (loop .loop .used) (inv .1) (found line)
     (built step .tick-of .ensures) (step .step-passed .ensures) (inv .0) more
 
@@ -126,7 +126,7 @@ loop-again c =
     let line = read step in
     let loop = turn line in
     let inv = loop .loop .inv in
-    let more = line .before .before .before .loop-test .taken in (
+    let more = line .before .before .before .before .loop-test .taken in (
       after-tick _ _ _ some-velocity (piece loop) (loop .loop .used) (inv .1) (found line)
           (built step .tick-of .ensures) (step .step-passed .ensures) (inv .0) more (put .0) (put .1),
       admitted-on _ _ _ some-velocity (piece loop) (loop .loop .used) (inv .1) (found line)
@@ -141,8 +141,9 @@ run-ticks-spec =
     (tie.spec
     Inv-loop
     μ-loop
-    loop-holds
     (λ c κs. search needs)
+    loop-holds
+    (λ c κs. c .before .before .before .hex-digits .ensures)
     (λ c. search needs)
     (λ c. search needs)
     (λ c κs. search needs)
