@@ -10,7 +10,8 @@ use lib.ListN.{length, getD, take, drop, length-drop}
 use lib.Seq.{take-take, take-all, drop-drop}
 use borrow.Author.Tests.{eqb-true, ltb-true, ltb-false, lt-ltb, ne-eqb}
 use Rattle.lists.specs.Line.{line, lineFrom}
-use Rattle.lists.specs.Text.{lineEnd}
+use Rattle.lists.specs.Decimal.{digitValue}
+use Rattle.lists.specs.Text.{byte, lineEnd}
 use Rattle.lists.proofs.Lines.{take-line, line-short, line-stop, line-more}
 use Rattle.cards.specs.Heads.{plainEdition}
 use Rattle.cards.specs.Numbers.{wholly}
@@ -48,17 +49,17 @@ plain-line (a ∷ []) e = cc
 plain-line (a ∷ b ∷ []) e = cc
 plain-line (a ∷ b ∷ c ∷ []) e = cc
 plain-line (a ∷ b ∷ c ∷ d ∷ l) e =
-    let first = passed (eqb a 116) (passed (eqb (length (a ∷ b ∷ c ∷ d ∷ l)) 20) e .1) in
-    let second = passed (eqb b 61) (first .1) in
-    let fourth = passed (eqb d 44) (second .1) in
-    let low = not-failed (ltb c 48) (fourth .1) in
-    let high = not-failed (ltb 49 c) (low .1) in
-    let p : a ≡ lineEnd → ⊥ = λ z. omega (arith, eqb-true a 116 (first .0)) in
-    let q : b ≡ lineEnd → ⊥ = λ z. omega (arith, eqb-true b 61 (second .0)) in
-    let r : c ≡ lineEnd → ⊥ = λ z. omega (arith, ltb-false c 48 (low .0)) in
-    let s : d ≡ lineEnd → ⊥ = λ z. omega (arith, eqb-true d 44 (fourth .0)) in
+    let first = passed (eqb a (byte "t")) (passed (eqb (length (a ∷ b ∷ c ∷ d ∷ l)) tickLength) e .1) in
+    let second = passed (eqb b (byte "=")) (first .1) in
+    let fourth = passed (eqb d (byte ",")) (second .1) in
+    let low = not-failed (ltb c (byte "0")) (fourth .1) in
+    let high = not-failed (ltb (byte "1") c) (low .1) in
+    let p : a ≡ lineEnd → ⊥ = λ z. omega (arith, eqb-true a (byte "t") (first .0)) in
+    let q : b ≡ lineEnd → ⊥ = λ z. omega (arith, eqb-true b (byte "=") (second .0)) in
+    let r : c ≡ lineEnd → ⊥ = λ z. omega (arith, ltb-false c (byte "0") (low .0)) in
+    let s : d ≡ lineEnd → ⊥ = λ z. omega (arith, eqb-true d (byte ",") (fourth .0)) in
     rw (ne-eqb a lineEnd p, ne-eqb b lineEnd q, ne-eqb c lineEnd r, ne-eqb d lineEnd s)
-    (ap (λ (m : List ℕ). a ∷ b ∷ c ∷ d ∷ m) (hexes-line (c - 48) 0 l (high .1)))
+    (ap (λ (m : List ℕ). a ∷ b ∷ c ∷ d ∷ m) (hexes-line (digitValue c) 0 l (high .1)))
 
 -- ---- where the first line goes on
 

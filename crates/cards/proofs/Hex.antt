@@ -14,7 +14,7 @@ use borrow.Author.Tests.{eq-eqb, lt-ltb, le-ltb, lt-leb, leb-true, ltb-true, eqb
 use Rattle.lists.specs.Text.{byte, bytes}
 use Rattle.lists.specs.Decimal.{isDigit, digitValue}
 use Rattle.cards.specs.Ticks.{hexOf, hexes, tickLength, plainTick}
-use Rattle.cards.specs.Place.{hexesFrom, hexTable}
+use Rattle.cards.specs.Place.{byteCount, hexesFrom, hexTable}
 use Rattle.cards.specs.declared.TickLine.{TickLine}
 use Rattle.cards.specs.declared.TickLine.the-variants.{Is, Broken}
 
@@ -122,16 +122,16 @@ hex-most b = by-byte (leb (byte "0") b) (leb b (byte "9")) (leb (byte "a") b) (l
     by-byte : (p q r t : Bool) → leb (byte "0") b ≡ p → leb b (byte "9") ≡ q → leb (byte "a") b ≡ r
         → leb b (byte "f") ≡ t → cond (p && q) (digitValue b) (cond (r && t) (b - byte "a" + 10) 16) ≤ 16
     by-byte true true r t e f g h = omega (arith, leb-true b (byte "9") f)
-    by-byte true false true true e f g h = omega (arith, leb-true b (byte "f") h)
+    by-byte true false true true e f g h = omega (arith, leb-true (byte "a") b g, leb-true b (byte "f") h)
     by-byte true false true false e f g h = omega arith
     by-byte true false false t e f g h = omega arith
-    by-byte false q true true e f g h = omega (arith, leb-true b (byte "f") h)
+    by-byte false q true true e f g h = omega (arith, leb-true (byte "a") b g, leb-true b (byte "f") h)
     by-byte false q true false e f g h = omega arith
     by-byte false q false t e f g h = omega arith
 
 -- All bytes are no digits but for the first k of these.
 unfoldable pub filled : List ℕ → ℕ → List ℕ
-filled ds zero = replicate 256 16
+filled ds zero = replicate byteCount 16
 filled ds (suc k) = set (filled ds k) (getD ds k 0) k
 
 pub filled-more : (ds hex : List ℕ) (k : ℕ) → hex ≡ filled ds k → set hex (getD ds k 0) k ≡ filled ds (k + 1)
@@ -144,19 +144,19 @@ digitBytes = bytes "0123456789abcdef"
 
 abbrev low-bytes : List ℕ → Bool
 low-bytes [] = true
-low-bytes (b ∷ l) = cond (ltb b 256) (low-bytes l) false
+low-bytes (b ∷ l) = cond (ltb b byteCount) (low-bytes l) false
 
-low-at : (l : List ℕ) → low-bytes l ≡ true → (k : ℕ) → getD l k 0 < 256
+low-at : (l : List ℕ) → low-bytes l ≡ true → (k : ℕ) → getD l k 0 < byteCount
 low-at [] e k = omega arith
-low-at (b ∷ l) e k = by-byte (ltb b 256) refl e (low-at l) k
+low-at (b ∷ l) e k = by-byte (ltb b byteCount) refl e (low-at l) k
   where
-    by-byte : (t : Bool) → ltb b 256 ≡ t → cond t (low-bytes l) false ≡ true
-        → (low-bytes l ≡ true → (k : ℕ) → getD l k 0 < 256) → (k : ℕ) → getD (b ∷ l) k 0 < 256
-    by-byte true q e rest zero = ltb-true b 256 q
+    by-byte : (t : Bool) → ltb b byteCount ≡ t → cond t (low-bytes l) false ≡ true
+        → (low-bytes l ≡ true → (k : ℕ) → getD l k 0 < byteCount) → (k : ℕ) → getD (b ∷ l) k 0 < byteCount
+    by-byte true q e rest zero = ltb-true b byteCount q
     by-byte true q e rest (suc k) = rest e k
     by-byte false q e rest k = absurd (false≢true e)
 
-pub digit-low : (k : ℕ) → getD digitBytes k 0 < 256
+pub digit-low : (k : ℕ) → getD digitBytes k 0 < byteCount
 digit-low k = low-at digitBytes refl k
 
 -- With all of them it is the table.
@@ -173,5 +173,5 @@ from-at (suc m) b (suc k) h =
     let z : suc b + k ≡ b + suc k = omega arith in
     from-at m (suc b) k (omega arith) ∙ ap hexOf z
 
-pub table-at : (b : ℕ) → b < 256 → getD hexTable b 0 ≡ hexOf b
-table-at b h = from-at 256 0 b h ∙ ap hexOf (zero-add b)
+pub table-at : (b : ℕ) → b < byteCount → getD hexTable b 0 ≡ hexOf b
+table-at b h = from-at byteCount 0 b h ∙ ap hexOf (zero-add b)

@@ -84,6 +84,11 @@ signal-32 : tickLine velocityCount 1 (bytes "t=0,0000000100000000") ≡ T.Is 0 4
 unfolding tickLine plainTick hexes hexOf isDigit
 signal-32 = refl
 
+-- Each digit at its place, and bytes that are none.
+all-digits : tickLine velocityCount 1 (bytes "t=0,fedcba9876543210") ≡ T.Is 0 18364758544493064720 0
+unfolding tickLine plainTick hexes hexOf isDigit
+all-digits = refl
+
 uppercase : tickLine velocityCount 1 (bytes "t=0,000000000000000A") ≡ T.Broken
 unfolding tickLine plainTick hexes hexOf isDigit
 uppercase = refl

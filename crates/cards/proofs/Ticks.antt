@@ -10,6 +10,7 @@ use lib.ListN.{length, getD, take, drop, length-take, length-drop}
 use lib.Seq.{take-all}
 use Rattle.limits.specs.Limits.{lineLimit}
 use Rattle.lists.specs.Decimal.{digitValue}
+use Rattle.lists.specs.Text.{byte}
 use Rattle.cards.specs.Heads.{plainEdition}
 use Rattle.cards.specs.Numbers.{wholly}
 use Rattle.cards.specs.Ticks.{hexOf, hexes, tickLength, plainTick, velocityIn, struckBy}
@@ -31,9 +32,9 @@ hexes-velocity start x (b ∷ l) e =
 pub plain-velocity : (l : List ℕ) {i j v : ℕ} → plainTick l ≡ Is i j v → v ≡ 0
 unfolding plainTick
 plain-velocity l e =
-    let t = passed (eqb (getD l 0 0) 116) (passed (eqb (length l) tickLength) e .1) in
-    let comma = passed (eqb (getD l 3 0) 44) (passed (eqb (getD l 1 0) 61) (t .1) .1) in
-    let start = not-failed (ltb 49 (getD l 2 0)) (not-failed (ltb (getD l 2 0) 48) (comma .1) .1) in
+    let t = passed (eqb (getD l 0 0) (byte "t")) (passed (eqb (length l) tickLength) e .1) in
+    let comma = passed (eqb (getD l 3 0) (byte ",")) (passed (eqb (getD l 1 0) (byte "=")) (t .1) .1) in
+    let start = not-failed (ltb (byte "1") (getD l 2 0)) (not-failed (ltb (getD l 2 0) (byte "0")) (comma .1) .1) in
     hexes-velocity (digitValue (getD l 2 0)) 0 (drop 4 l) (start .1)
 
 -- The line l is a tick with this start, these signals and this velocity.

@@ -17,13 +17,17 @@ use Rattle.cards.specs.declared.TickLine.the-variants as T
 use Rattle.cards.specs.declared.TickFound.{TickFound}
 use Rattle.cards.specs.declared.TickFound.the-variants as F
 
+-- How many values a byte has.
+abbrev pub byteCount : ℕ
+byteCount = 256
+
 -- The values of m bytes as hexadecimal digits (SPEC 10.6), from the byte b on; and of all bytes.
 unfoldable pub hexesFrom : ℕ → ℕ → List ℕ
 hexesFrom zero b = []
 hexesFrom (suc m) b = hexOf b ∷ hexesFrom m (suc b)
 
 abbrev pub hexTable : List ℕ
-hexTable = hexesFrom 256 0
+hexTable = hexesFrom byteCount 0
 
 -- What the code's answer says: the number, and what stands from `next` on.
 abbrev pub readTo : Number → List ℕ → Parsed

@@ -45,7 +45,7 @@ plainTick l =
     (cond (eqb (numberAt l 1) (byte "="))
     (cond (eqb (numberAt l 3) (byte ",")) (started (numberAt l 2) (drop 4 l)) Broken) Broken) Broken) Broken
 
--- A number that is below how many velocities there are.
+-- A number that is a velocity (SPEC 1.1): below how many there are.
 abbrev pub lowBy : ℕ → Parsed → Parsed
 lowBy velocities none = none
 lowBy velocities (done v l) = cond (ltb v velocities) (done v l) none
@@ -55,7 +55,7 @@ unfoldable pub velocityIn : ℕ → List ℕ → Parsed
 velocityIn velocities [] = none
 velocityIn velocities (b ∷ l) = cond (eqb b (byte ",")) (lowBy velocities (number lastLiteral l)) none
 
--- A tick with this velocity.
+-- SPEC 10.6: a tick with this velocity.
 abbrev pub struckBy : TickLine → Count → TickLine
 struckBy (Is start signals velocity) (K.Is v) = Is start signals v
 struckBy (Is start signals velocity) K.Broken = Broken

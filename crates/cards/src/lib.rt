@@ -23,6 +23,9 @@ const LAST: usize = limits::PARAMETERS - 1;
 // The bytes of a tick line with no velocity, its byte 10 not counted.
 const TICK_LINE: usize = 20;
 
+// How many values a byte has.
+pub const BYTES: usize = 256;
+
 // No edition is known: before the first line, and once the card is over.
 pub const NO_EDITION: u32 = 0;
 
@@ -45,7 +48,7 @@ const HEAD_REFUSAL: u32 = 17;
 
 const TICK_REFUSAL: u32 = 18;
 
-// A number that a line ends with: how many ticks there are, or a velocity.
+// A number that ends a line: how many ticks there are, and in the definitions a velocity.
 pub enum Count {
     Is(u32),
     Broken,
@@ -166,13 +169,13 @@ fn count_line(s: &[u8]) -> Count
     last_number(s, COUNT_HEAD.len(), limits::LAST_LITERAL)
 }
 
-// The value of each byte as a hexadecimal digit of SPEC 10.6, 16 where it is none. It is made once for all lines of a
-// piece, and lent to those that read them.
-pub fn hex_digits() -> [u8; 256]
+// The value of each byte as a hexadecimal digit of SPEC 10.6, 16 where it is none. It is made once for all tick lines
+// that are run together, or for one line by itself, and lent to the functions that read them.
+pub fn hex_digits() -> [u8; BYTES]
     ensures { λ r. ⌜ r ≡ hexTable ⌝ }
 {
     let digits = *b"0123456789abcdef";
-    let mut hex = [16u8; 256];
+    let mut hex = [16u8; BYTES];
     let mut k = 0;
     while k < digits.len() {
         let b = digits[k];
@@ -183,7 +186,7 @@ pub fn hex_digits() -> [u8; 256]
 }
 
 // The value of a byte in them.
-fn digit_in(hex: &[u8; 256], b: u8) -> u64
+fn digit_in(hex: &[u8; BYTES], b: u8) -> u64
     requires { ⌜ now hex ≡ hexTable ⌝ }
     ensures { λ r. ⌜ r ≡ hexOf b ⌝ }
 {
@@ -191,7 +194,7 @@ fn digit_in(hex: &[u8; 256], b: u8) -> u64
 }
 
 // A tick line with no velocity.
-fn plain_line(hex: &[u8; 256], s: &[u8]) -> TickLine
+fn plain_line(hex: &[u8; BYTES], s: &[u8]) -> TickLine
     requires { ⌜ now hex ≡ hexTable ⌝ }
     ensures { λ r. ⌜ r ≡ plainTick (now (s .entry)) ⌝ }
 {
@@ -247,7 +250,7 @@ fn velocity_at(velocities: u32, s: &[u8], at: usize) -> Number
 }
 
 // A tick line with a velocity.
-fn struck_line(hex: &[u8; 256], velocities: u32, s: &[u8]) -> TickLine
+fn struck_line(hex: &[u8; BYTES], velocities: u32, s: &[u8]) -> TickLine
     requires { ⌜ now hex ≡ hexTable ⌝ }
     ensures { λ r. ⌜ r ≡ struckTick velocities (now (s .entry)) ⌝ }
 {
@@ -267,7 +270,7 @@ fn struck_line(hex: &[u8; 256], velocities: u32, s: &[u8]) -> TickLine
 }
 
 // SPEC 10.6: the tick line of an edition.
-fn tick_line(hex: &[u8; 256], velocities: u32, edition: u32, s: &[u8]) -> TickLine
+fn tick_line(hex: &[u8; BYTES], velocities: u32, edition: u32, s: &[u8]) -> TickLine
     requires { ⌜ now hex ≡ hexTable ⌝ }
     ensures { λ r. ⌜ r ≡ tickLine velocities edition (now (s .entry)) ⌝ }
 {
@@ -291,7 +294,7 @@ fn edition_of(s: &[u8]) -> u32
 }
 
 // The tick line with no velocity at a place: its bytes and byte 10 are at fixed places.
-fn plain_at(hex: &[u8; 256], s: &[u8], at: usize) -> TickFound
+fn plain_at(hex: &[u8; BYTES], s: &[u8], at: usize) -> TickFound
     requires { ⌜ now hex ≡ hexTable ⌝ }
     ensures { λ r. ⌜ ((velocities : ℕ) → r ≡ tickAt velocities plainEdition (now (s .entry)) at) ⌝ }
 {
@@ -312,7 +315,7 @@ fn plain_at(hex: &[u8; 256], s: &[u8], at: usize) -> TickFound
 }
 
 // The tick line with a velocity at a place: its first bytes are at fixed places, and byte 10 is behind the velocity.
-fn struck_at(hex: &[u8; 256], velocities: u32, s: &[u8], at: usize) -> TickFound
+fn struck_at(hex: &[u8; BYTES], velocities: u32, s: &[u8], at: usize) -> TickFound
     requires { ⌜ now hex ≡ hexTable ⌝ }
     ensures { λ r. ⌜ ((e : ℕ) → (e ≡ plainEdition → ⊥) → r ≡ tickAt velocities e (now (s .entry)) at) ⌝ }
 {
@@ -339,7 +342,7 @@ fn struck_at(hex: &[u8; 256], velocities: u32, s: &[u8], at: usize) -> TickFound
 }
 
 // The tick line at a place of s, where it is there with its byte 10, and the place after that.
-pub fn tick_at(hex: &[u8; 256], velocities: u32, edition: u32, s: &[u8], at: usize) -> TickFound
+pub fn tick_at(hex: &[u8; BYTES], velocities: u32, edition: u32, s: &[u8], at: usize) -> TickFound
     requires { ⌜ now hex ≡ hexTable ⌝ }
     ensures { λ r. ⌜ r ≡ tickAt velocities edition (now (s .entry)) at ⌝ }
 {

@@ -47,7 +47,7 @@ pub const TABLE: usize = 4 * EQUATIONS;
 // The bytes that a line of a card can have, its byte 10 included.
 pub const LINE: usize = 4096;
 
-// What a text is read in: how many velocities there are.
+// What a text is read in, and the tick lines and steps of a card go by: how many velocities there are.
 pub struct Context {
     pub velocities: u32,
 }

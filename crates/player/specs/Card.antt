@@ -49,7 +49,7 @@ worldIn context w ps t c v = record { context = context; watch = w; parameters =
 abbrev pub velocitiesIn : World → ℕ
 velocitiesIn w = w .context .velocities
 
--- The program's, in the context of the specification,
+-- The program's world, in the context of the specification,
 abbrev pub worldOf : Watch → List ℕ → List ℕ → List ℕ → List ℕ → World
 worldOf w ps t c v = worldIn standardContext w ps t c v
 

@@ -13,7 +13,7 @@ abbrev Inv-loop : tie.InvT-loop
 Inv-loop hex s b x₀ i₀ x i = Hexing s b x i
 
 abbrev μ-loop : tie.MeasureT-loop
-μ-loop hex s b x₀ i₀ x i = 20 - i
+μ-loop hex s b x₀ i₀ x i = tickLength - i
 
 -- Where the line is known to have its `t`, from where it is known to have its `=`; and that place, from where it is
 -- known to have its comma.
