@@ -8,7 +8,7 @@ ghost use mathlib.Core.Path.{_≡_};
 ghost use mathlib.Core.List.{List};
 ghost use Prim.Native.Nat.{ℕ};
 ghost use lib.ListN.{drop, replicate};
-ghost use Rattle.limits.specs.Limits.{parameterCount};
+ghost use Rattle.limits.specs.Limits.{lastLiteral, parameterCount};
 ghost use Rattle.cards.specs.Heads.{plainEdition};
 ghost use Rattle.cards.specs.Numbers.{number, parametersOf, wholly, countOf};
 ghost use Rattle.cards.specs.Ticks.{hexOf, plainTick, velocityIn, struckTick, tickLine};
@@ -146,11 +146,11 @@ fn parameters_line(s: &[u8]) -> LineRead
     }
 }
 
-// The number from a place up to the line's end, up to a highest one.
-fn last_number(s: &[u8], at: usize, max: u32) -> Count
-    ensures { λ r. ⌜ r ≡ wholly (number max (drop at (now (s .entry)))) ⌝ }
+// The number from a place up to the line's end.
+fn last_number(s: &[u8], from: usize) -> Count
+    ensures { λ r. ⌜ r ≡ wholly (number lastLiteral (drop from (now (s .entry)))) ⌝ }
 {
-    let Number::Is { value, next } = decimals::decimal_at(s, at, max) else {
+    let Number::Is { value, next } = decimals::decimal_at(s, from, limits::LAST_LITERAL) else {
         return Count::Broken;
     };
     if next < s.len() {
@@ -166,7 +166,7 @@ fn count_line(s: &[u8]) -> Count
     if !decimals::has_prefix(s, &COUNT_HEAD) {
         return Count::Broken;
     }
-    last_number(s, COUNT_HEAD.len(), limits::LAST_LITERAL)
+    last_number(s, COUNT_HEAD.len())
 }
 
 // The value of each byte as a hexadecimal digit of SPEC 10.6, 16 where it is none. It is made once for all tick lines
