@@ -28,6 +28,7 @@ struct text {
     size_t length;
 };
 static struct text first, second;
+static uint32_t first_parameters[TOWERWATCH_PARAMETERS], second_parameters[TOWERWATCH_PARAMETERS];
 static uint32_t table[TOWERWATCH_TABLE_NUMBERS], loaded[TOWERWATCH_TABLE_NUMBERS];
 static uint32_t state[TOWERWATCH_EQUATIONS], values[TOWERWATCH_EQUATIONS], parameters[TOWERWATCH_PARAMETERS];
 static uint32_t velocity;
@@ -42,8 +43,8 @@ EMPTY no_read(const uint8_t *t, size_t l) { return (void)t, (void)l, answer; }
 EMPTY no_compile(const uint8_t *t, size_t l, uint32_t *e, size_t m) {
     return (void)t, (void)l, (void)e, (void)m, answer;
 }
-EMPTY no_same(const uint8_t *t, size_t l, const uint8_t *u, size_t m) {
-    return (void)t, (void)l, (void)u, (void)m, answer;
+EMPTY no_same(const uint8_t *t, size_t l, const uint32_t *p, const uint8_t *u, size_t m, const uint32_t *q) {
+    return (void)t, (void)l, (void)p, (void)u, (void)m, (void)q, answer;
 }
 EMPTY no_fresh(const uint32_t *e, size_t l, size_t k, uint32_t *s, size_t m) {
     return (void)e, (void)l, (void)k, (void)s, (void)m, answer;
@@ -68,7 +69,7 @@ static __typeof__(&towerwatch_read_lustre) read_lustre;
 static __typeof__(&towerwatch_pack) pack;
 static void call_read(void) { answer = read_rule(BYTES(first)); }
 static void call_compile(void) { answer = compile(BYTES(first), loaded, table_room); }
-static void call_same(void) { answer = same_rule(BYTES(first), BYTES(second)); }
+static void call_same(void) { answer = same_rule(BYTES(first), first_parameters, BYTES(second), second_parameters); }
 static void call_fresh(void) { answer = fresh_state(table, table_length, n, state, state_room); }
 static void call_step(void) {
     answer = step(table, table_length, n, state, state_room, values, values_room, 1, 0x5555, velocity, parameters);
@@ -333,6 +334,21 @@ static void measure_text(const char *what, const char *text, uint32_t refusal) {
     measure(SAME, what);
 }
 
+/* A text beside itself: it is the same rule, which takes the longest way. Then the last parameter of the first is too
+ * high, and that of the second. */
+static void measure_same(const char *what, const char *text) {
+    uint32_t *const last[2] = {first_parameters + TOWERWATCH_PARAMETERS - 1,
+                               second_parameters + TOWERWATCH_PARAMETERS - 1};
+    set(&first, text), set(&second, text);
+    measure(SAME, what), expect(what, 0);
+    if (answer.result != 1) fprintf(stderr, "%s: not the same rule\n", what), exit(1);
+    for (int i = 0; i < 2; i++) {
+        *last[i] = TOWERWATCH_LAST_NUMBER + 1;
+        measure(SAME, "a parameter too high"), expect(what, TOWERWATCH_REFUSED_PARAMETER);
+        *last[i] = TOWERWATCH_LAST_NUMBER;
+    }
+}
+
 /* The rule with the most equations: 32 of `then`, 21 of them after a `lag`, 240 words. */
 static void widest(char *to) {
     *to = 0;
@@ -350,6 +366,10 @@ static void measure_texts(void) {
     measure_text("60 atoms joined by |", text, 0);
     strcat(text, " len len");
     measure_text("241 words", text, TOWERWATCH_REFUSED_WORD_COUNT);
+    text[0] = 0;
+    for (int i = 0; i < 60; i++) sprintf(text + strlen(text), "%slen<k%d", i ? "|" : "", i % TOWERWATCH_PARAMETERS);
+    measure_text("60 atoms with parameters", text, 0);
+    measure_same("60 atoms with parameters", text);
     measure_text("no byte", "", TOWERWATCH_REFUSED_TEXT_LENGTH);
     measure_text("no word", "end[S0]", TOWERWATCH_REFUSED_WORD);
     measure_text("a signal too high", "end[s64]", TOWERWATCH_REFUSED_NUMBER);
@@ -475,6 +495,7 @@ static void report(void) {
 
 int main(int argc, char **argv) {
     int tries = argc > 1 ? atoi(argv[1]) : 20000;
+    for (int i = 0; i < TOWERWATCH_PARAMETERS; i++) first_parameters[i] = second_parameters[i] = TOWERWATCH_LAST_NUMBER;
     measure_nothing();
     measure_texts();
     measure_orders();

@@ -7,6 +7,7 @@
 #include "interpreter.h"
 
 static uint32_t table[16384], loaded[16384];
+static const uint32_t parameters[TOWERWATCH_PARAMETERS];
 static uint8_t text[409700];
 
 static double seconds(void) {
@@ -28,7 +29,7 @@ static double seconds(void) {
         printf("%s, µs\t%f\n", what, least * 1e6);                             \
     } while (0)
 
-int main(void) {
+static void rule_texts(void) {
     /* a rule of 239 words */
     static char rule[2048];
     for (int i = 0; i < 60; i++) strcat(rule, i ? "|len<=1" : "len<=1");
@@ -37,7 +38,15 @@ int main(void) {
     TIME("read a rule of 239 words", 200, towerwatch_read_rule(bytes, length));
     TIME("read and compile a rule of 239 words", 200, towerwatch_compile(bytes, length, table, 16384));
     TIME("read and compile a rule of 239 words, C", 200, compiler_compile(bytes, length, table, 16384));
-    TIME("compare it with itself", 200, towerwatch_same_rule(bytes, length, bytes, length));
+    TIME("compare it with itself", 200, towerwatch_same_rule(bytes, length, parameters, bytes, length, parameters));
+
+    /* the same with `k0` to `k7` in place of its literals */
+    rule[0] = 0;
+    for (int i = 0; i < 60; i++) sprintf(rule + strlen(rule), "%slen<=k%d", i ? "|" : "", i % TOWERWATCH_PARAMETERS);
+    length = strlen(rule);
+    TIME("compare it with itself, its counts with parameters", 200,
+         towerwatch_same_rule(bytes, length, parameters, bytes, length, parameters));
+
     const uint8_t *brief = (const uint8_t *)"kept[s0] then end[s1]";
     TIME("read and compile a rule of 9 words", 5000, towerwatch_compile(brief, 21, table, 16384));
     TIME("read and compile a rule of 9 words, C", 5000, compiler_compile(brief, 21, table, 16384));
@@ -48,9 +57,11 @@ int main(void) {
     length = strlen(rule);
     TIME("read and compile a rule of 237 words on velocity", 200, towerwatch_compile(bytes, length, table, 16384));
     TIME("read and compile a rule of 237 words on velocity, C", 200, compiler_compile(bytes, length, table, 16384));
+}
 
-    /* a table of 4,096 equations with long lines: a signal, a count, then gates and comparisons, and two comparisons to
-       close it */
+/* Of a table of 4,096 equations with long lines: a signal, a count, then gates and comparisons, and two comparisons to
+   close it. */
+static void lustre_text(void) {
     memset(table, 0, sizeof table);
     table[4] = 7, table[5] = 1;
     for (uint32_t i = 2; i < 4096; i++) {
@@ -62,5 +73,10 @@ int main(void) {
     TIME("write Lustre text of 4,096 equations", 5, towerwatch_write_lustre(table, 16384, 4096, text, sizeof text));
     TIME("read Lustre text of 4,096 equations", 5, towerwatch_read_lustre(text, bytes_written, loaded, 16384));
     if (memcmp(table, loaded, sizeof table)) printf("the table read is another\n"), exit(1);
+}
+
+int main(void) {
+    rule_texts();
+    lustre_text();
     return 0;
 }

@@ -6,7 +6,7 @@
 
 #include "towerwatch.h"
 
-_Static_assert(TOWERWATCH_VERSION_MAJOR == 4, "written for steps that get a velocity");
+_Static_assert(TOWERWATCH_VERSION_MAJOR == 5, "written for a same rule that takes parameters");
 _Static_assert(TOWERWATCH_TABLE_NUMBERS == 4 * TOWERWATCH_EQUATIONS, "an equation has four numbers");
 _Static_assert(TOWERWATCH_RULE_EQUATIONS <= TOWERWATCH_EQUATIONS, "a rule's table is a table");
 

@@ -1,7 +1,7 @@
 /* The header's numbers beside the archive's answers: each refusal provoked, tables that do not close with a started
  * flow and a verdict, empty buffers that are null, each limit reached and passed, idle steps, velocity tests, packed
- * tables. A line has the header's number and what the archive answered, and ends in WRONG where they do not agree or a
- * refused call changed a buffer; the exit status is then 1. */
+ * tables, same rules. A line has the header's number and what the archive answered, and ends in WRONG where they do not
+ * agree or a refused call changed a buffer; the exit status is then 1. */
 #include <stdio.h>
 #include <string.h>
 
@@ -70,10 +70,17 @@ static struct towerwatch_answer pack(const uint32_t *equations, size_t n, size_t
     return towerwatch_pack(equations, 8, n, second, second_len);
 }
 
+/* Whether two texts are the same rule, each with a value of parameter 3; all other parameters are 0. */
+static struct towerwatch_answer same(const char *text, uint32_t value, const char *other, uint32_t other_value) {
+    const uint32_t own[TOWERWATCH_PARAMETERS] = {[3] = value}, others[TOWERWATCH_PARAMETERS] = {[3] = other_value};
+    return towerwatch_same_rule((const uint8_t *)text, strlen(text), own, (const uint8_t *)other, strlen(other),
+                                others);
+}
+
 /* Of a kind that there is not; and a memory, whose cell is out of range where the state is filled. */
 static const uint32_t ill[8] = {13, 0, 0, 0, 1, 0, 0, 0}, memory[8] = {6, 0, 0, 0, 1, 0, 0, 0};
 
-enum { TOO_HARD = TOWERWATCH_LAST_VELOCITY + 1 };
+enum { TOO_HARD = TOWERWATCH_LAST_VELOCITY + 1, TOO_HIGH = TOWERWATCH_LAST_NUMBER + 1 };
 
 static void refusals(void) {
     static char words[TOWERWATCH_TEXT_BYTES];
@@ -91,7 +98,7 @@ static void refusals(void) {
     REFUSED(TABLE_LENGTH, step(start_flows, 3, 3, 0));
     REFUSED(TABLE, step(ill, 2, 2, 0));
     REFUSED(STATE_LENGTH, step(start_flows, 2, 1, 0));
-    REFUSED(PARAMETER, step(start_flows, 2, 2, TOWERWATCH_LAST_NUMBER + 1));
+    REFUSED(PARAMETER, step(start_flows, 2, 2, TOO_HIGH));
     REFUSED(STATE, step(memory, 2, 2, 0));
     REFUSED(LUSTRE_ROOM, towerwatch_write_lustre(start_flows, 8, 2, lustre, sizeof start_text - 2));
     REFUSED(LUSTRE, towerwatch_read_lustre(TEXT("let\ntel\n"), table, TOWERWATCH_TABLE_NUMBERS));
@@ -135,8 +142,8 @@ static void nulls(void) {
     REFUSED(TEXT_LENGTH, towerwatch_read_rule(NULL, 0));
     REFUSED(TEXT_LENGTH, towerwatch_compile(NULL, 0, NULL, 0));
     REFUSED(TABLE_ROOM, towerwatch_compile(TEXT("end[s0]"), NULL, 0));
-    REFUSED(TEXT_LENGTH, towerwatch_same_rule(NULL, 0, NULL, 0));
-    REFUSED(TEXT_LENGTH, towerwatch_same_rule(TEXT("end[s0]"), NULL, 0));
+    REFUSED(TEXT_LENGTH, towerwatch_same_rule(NULL, 0, parameters, NULL, 0, parameters));
+    REFUSED(TEXT_LENGTH, towerwatch_same_rule(TEXT("end[s0]"), parameters, NULL, 0, parameters));
     REFUSED(TABLE_LENGTH, towerwatch_fresh_state(NULL, 0, 1, NULL, 0));
     REFUSED(STATE_LENGTH, towerwatch_fresh_state(start_flows, 8, 2, NULL, 0));
     REFUSED(TABLE_LENGTH, towerwatch_step(NULL, 0, 1, NULL, 0, NULL, 0, 1, 0, 0, parameters));
@@ -206,6 +213,8 @@ static struct towerwatch_answer literal(uint32_t number) {
 }
 
 static struct towerwatch_answer parameter(uint32_t number) { return step(start_flows, 2, 2, number); }
+static struct towerwatch_answer first_parameter(uint32_t number) { return same("end[1]", number, "end[1]", 0); }
+static struct towerwatch_answer second_parameter(uint32_t number) { return same("end[1]", 0, "end[1]", number); }
 
 /* A velocity as the literal of a rule, of a step, and as B of an equation. */
 static struct towerwatch_answer velocity_literal(uint32_t number) {
@@ -246,6 +255,8 @@ static void limits(void) {
     LIMIT(PARAMETERS, parameter_count, NUMBER);
     LIMIT(LAST_NUMBER, literal, NUMBER);
     LIMIT(LAST_NUMBER, parameter, PARAMETER);
+    LIMIT(LAST_NUMBER, first_parameter, PARAMETER);
+    LIMIT(LAST_NUMBER, second_parameter, PARAMETER);
     LIMIT(LAST_COUNT, count_cell, STATE);
     LIMIT(LAST_VELOCITY, velocity_literal, NUMBER);
     LIMIT(LAST_VELOCITY, velocity, VELOCITY);
@@ -291,7 +302,7 @@ static void velocity_refusals(void) {
     REFUSED(TABLE_LENGTH, struck(start_flows, 3, 2, TOO_HARD, 0));
     REFUSED(TABLE, struck(ill, 2, 2, TOO_HARD, 0));
     REFUSED(STATE_LENGTH, struck(start_flows, 2, 1, TOO_HARD, 0));
-    REFUSED(PARAMETER, struck(start_flows, 2, 2, TOO_HARD, TOWERWATCH_LAST_NUMBER + 1));
+    REFUSED(PARAMETER, struck(start_flows, 2, 2, TOO_HARD, TOO_HIGH));
     REFUSED(STATE, struck(memory, 2, 2, TOO_HARD, 0));
     REFUSED(VELOCITY, struck(start_flows, 2, 2, UINT32_MAX, 0));
 }
@@ -379,6 +390,41 @@ static void packed_tables(void) {
     wrong |= !fine;
 }
 
+/* SPEC 8.3: the first text's refusal, 13 of the first parameters, then the same of the second; 13 also where the tree
+ * does not name the parameter that is too high, and where the answer would be no without it. */
+static void same_refusals(void) {
+    REFUSED(PARAMETER, same("len<=k3", TOO_HIGH, "len<=k3", 0));
+    REFUSED(PARAMETER, same("len<=k3", 0, "len<=k3", TOO_HIGH));
+    REFUSED(PARAMETER, same("len<=k3", TOO_HIGH, "len<=k3", TOO_HIGH));
+    REFUSED(PARAMETER, same("end[s0]", UINT32_MAX, "end[s0]", 0));
+    REFUSED(PARAMETER, same("end[s0]", 0, "end[s1]", UINT32_MAX));
+    REFUSED(WORD, same("end[S0]", TOO_HIGH, "end[s0]", 0));
+    REFUSED(WORD, same("end[S0]", 0, "end[s0]", TOO_HIGH));
+    REFUSED(PARAMETER, same("end[s0]", TOO_HIGH, "end[S0]", 0));
+    REFUSED(PARAMETER, same("end[s0]", TOO_HIGH, "end[S0]", TOO_HIGH));
+    REFUSED(WORD, same("end[s0]", 0, "end[S0]", TOO_HIGH));
+    REFUSED(GRAMMAR, same("end[s0", TOO_HIGH, "end[S0]", TOO_HIGH));
+}
+
+static void is_same(const char *what, uint32_t wanted, struct towerwatch_answer a) {
+    int fine = a.refusal == 0 && a.result == wanted;
+    printf("%-24s %7u result=%u%s\n", what, (unsigned)wanted, (unsigned)a.result, fine ? "" : " WRONG");
+    wrong |= !fine;
+}
+
+/* Which values count: those of the parameters that the tree names. */
+static void same_answers(void) {
+    is_same("one value", 1, same("len<=k3", 5, " ( len <= k3 ) ", 5));
+    is_same("two values", 0, same("len<=k3", 5, "len<=k3", 6));
+    is_same("two values, in a lag", 0, same("kept[s0] then lag[s0,k3,s1]", 5, "kept[s0] then lag[s0,k3,s1]", 6));
+    is_same("two values, not named", 1, same("len<=k2", 5, "len<=k2", 6));
+    is_same("two values, a literal 3", 1, same("len<=3", 5, "len<=3", 6));
+    is_same("the highest value", 1, same("len<=k3", TOWERWATCH_LAST_NUMBER, "len<=k3", TOWERWATCH_LAST_NUMBER));
+    is_same("a literal of its value", 0, same("len<=k3", 5, "len<=5", 5));
+    is_same("two parameters", 0, same("len<=k3", 0, "len<=k2", 0));
+    is_same("one array", 1, towerwatch_same_rule(TEXT("len<=k3"), parameters, TEXT("len<=k3"), parameters));
+}
+
 int main(void) {
     refusals();
     printf("not closed by two booleans\n");
@@ -397,5 +443,8 @@ int main(void) {
     printf("packing\n");
     packing_refusals();
     packed_tables();
+    printf("same rule\n");
+    same_refusals();
+    same_answers();
     return wrong;
 }

@@ -5,7 +5,8 @@
  * run at the same time, and one may interrupt another. The caller owns every buffer. Buffers of uint32_t are
  * aligned as uint32_t; texts are bytes and need no alignment. A buffer that a call writes must not overlap another
  * buffer of that call; buffers that are only read may. A length is the number of elements of the buffer, not of
- * bytes. A pointer may be null where its length is 0; `parameters` may never be null.
+ * bytes. A pointer may be null where its length is 0; `parameters`, `first_parameters` and `second_parameters` have no
+ * length and may never be null.
  *
  * Each function answers a struct of two numbers. Where `refusal` is 0, `result` holds; otherwise `refusal` is one
  * of the numbers TOWERWATCH_REFUSED_..., `result` is 0, and no buffer was changed. Where more than one applies, it
@@ -25,11 +26,12 @@ extern "C" {
 /* The version of this face. The major number rises where a caller's code may have to change: a function means
  * something else, takes other arguments, or a number below has another value. A function that means something else
  * also takes another number of arguments where it can, so that a caller written for the old one does not compile: since
- * 4.0 a step takes a velocity. In 3.0 it could not, where a step answers TOWERWATCH_IDLE before the first start and a
- * table of one equation is refused: ask for the major number that your code was written for. The minor number rises
- * where something is added. The archive has no version: take header and archive from one state of the repository;
- * docs/FIRMWARE.md, "Versions", says which stored tables have to be compiled again. */
-#define TOWERWATCH_VERSION_MAJOR 4
+ * 4.0 a step takes a velocity, and since 5.0 towerwatch_same_rule takes the parameters of each text, six arguments. In
+ * 3.0 it could not, where a step answers TOWERWATCH_IDLE before the first start and a table of one equation is refused:
+ * ask for the major number that your code was written for. The minor number rises where something is added.
+ * The archive has no version: take header and archive from one state of the repository; docs/FIRMWARE.md, "Versions",
+ * says which stored tables have to be compiled again. */
+#define TOWERWATCH_VERSION_MAJOR 5
 #define TOWERWATCH_VERSION_MINOR 0
 
 /* Limits of a rule text: its bytes, its words, how many round brackets are open at a time, and how often `!`, `then`,
@@ -104,10 +106,17 @@ struct towerwatch_answer towerwatch_read_rule(const uint8_t *text, size_t text_l
  * rule costs"); docs/FIRMWARE.md, "Memories", counts them. Refused: 1 to 8 as reading, 9. */
 struct towerwatch_answer towerwatch_compile(const uint8_t *text, size_t text_len, uint32_t *table, size_t table_len);
 
-/* Whether two texts are the same rule: both read to one tree. Spaces and needless brackets do not count.
- * Result: 1 for yes, 0 for no. Refused: 1 to 8 of the first text, then of the second. */
-struct towerwatch_answer towerwatch_same_rule(const uint8_t *first, size_t first_len, const uint8_t *second,
-                                              size_t second_len);
+/* Whether two texts with their parameters are the same rule: both read to one tree, and each parameter that the tree
+ * names has one value on both sides. Spaces and needless brackets do not count, nor does the value of a parameter that
+ * the tree does not name. A literal is no parameter: `len<=5`, and `len<=k0` where parameter 0 is 5, are two trees.
+ * first_parameters, second_parameters: TOWERWATCH_PARAMETERS numbers each, up to TOWERWATCH_LAST_NUMBER, only read.
+ * They may be the same array; neither may be null.
+ * Result: 1 for yes, 0 for no. Refused: 1 to 8 of the first text, 13 of the first parameters, 1 to 8 of the second
+ * text, 13 of the second parameters; 13 whether or not the tree names the parameter. */
+struct towerwatch_answer towerwatch_same_rule(const uint8_t *first, size_t first_len,
+                                              const uint32_t first_parameters[TOWERWATCH_PARAMETERS],
+                                              const uint8_t *second, size_t second_len,
+                                              const uint32_t second_parameters[TOWERWATCH_PARAMETERS]);
 
 /* Makes a fresh state for the table's n equations, a cell for each, in their order. The cells of memories are set to
  * their initial value, all others are kept.

@@ -41,7 +41,14 @@ extern "C" {
     ) -> Answer;
     fn towerwatch_write_lustre(table: *const u32, table_len: usize, n: usize, text: *mut u8, text_len: usize) -> Answer;
     fn towerwatch_read_lustre(text: *const u8, text_len: usize, table: *mut u32, table_len: usize) -> Answer;
-    fn towerwatch_same_rule(first: *const u8, first_len: usize, second: *const u8, second_len: usize) -> Answer;
+    fn towerwatch_same_rule(
+        first: *const u8,
+        first_len: usize,
+        first_parameters: *const u32,
+        second: *const u8,
+        second_len: usize,
+        second_parameters: *const u32,
+    ) -> Answer;
     fn towerwatch_pack(table: *const u32, table_len: usize, n: usize, packed: *mut u32, packed_len: usize) -> Answer;
 }
 
@@ -95,6 +102,21 @@ pub fn pack(table: &[u32], n: usize, packed: &mut [u32]) -> Answer {
     unsafe { towerwatch_pack(table.as_ptr(), table.len(), n, packed.as_mut_ptr(), packed.len()) }
 }
 
-pub fn same_rule(first: &[u8], second: &[u8]) -> Answer {
-    unsafe { towerwatch_same_rule(first.as_ptr(), first.len(), second.as_ptr(), second.len()) }
+/// A rule text and the values of its parameters.
+pub struct Side {
+    pub text: Vec<u8>,
+    pub parameters: [u32; 8],
+}
+
+pub fn same_rule(first: &Side, second: &Side) -> Answer {
+    unsafe {
+        towerwatch_same_rule(
+            first.text.as_ptr(),
+            first.text.len(),
+            first.parameters.as_ptr(),
+            second.text.as_ptr(),
+            second.text.len(),
+            second.parameters.as_ptr(),
+        )
+    }
 }

@@ -4,6 +4,7 @@ mod cards;
 mod long_runs;
 mod lustre;
 pub mod packing;
+mod pairs;
 mod rules;
 mod tables;
 mod texts;
@@ -39,7 +40,7 @@ pub struct Sort {
 pub const SORTS: [Sort; 8] = [
     Sort { name: "rules with their ticks", gate: 200_000, run: rules::run },
     Sort { name: "texts", gate: 200_000, run: |run, n| (0..n).for_each(|i| texts::text_case(run, i)) },
-    Sort { name: "pairs of texts", gate: 200_000, run: |run, n| (0..n).for_each(|i| texts::same_case(run, i)) },
+    Sort { name: "pairs of texts", gate: 200_000, run: |run, n| (0..n).for_each(|i| pairs::same_case(run, i)) },
     Sort { name: "tables", gate: 200_000, run: |run, n| (0..n).for_each(|i| tables::table_case(run, i)) },
     Sort { name: "Lustre texts", gate: 50_000, run: |run, n| (0..n).for_each(|i| lustre::lustre_case(run, i)) },
     Sort { name: "whole cards", gate: 10_000, run: |run, n| (0..n).for_each(|i| cards::card_case(run, i)) },

@@ -124,6 +124,34 @@ fn has_leads(r: &Rule) -> bool {
     }
 }
 
+/// What a parameter can stand in.
+#[derive(Clone, Copy, PartialEq, Eq, PartialOrd, Ord, Debug)]
+pub enum Atom {
+    Len,
+    Sum,
+    Age,
+    Lag,
+}
+
+pub const ATOMS: [Atom; 4] = [Atom::Len, Atom::Sum, Atom::Age, Atom::Lag];
+
+/// SPEC 3.11: the parameters that a rule names, each with what it stands in, in the order of the text.
+pub fn named(r: &Rule) -> Vec<(Atom, u32)> {
+    let by = |atom, n: &Num| match n {
+        Num::Literal(_) => Vec::new(),
+        Num::Parameter(j) => vec![(atom, *j)],
+    };
+    match r {
+        Rule::Test(..) => Vec::new(),
+        Rule::Len(_, n) => by(Atom::Len, n),
+        Rule::Sum(_, _, n) => by(Atom::Sum, n),
+        Rule::Age(_, _, n) => by(Atom::Age, n),
+        Rule::Lag(_, n, _) => by(Atom::Lag, n),
+        Rule::Not(f) | Rule::Exists(_, f) => named(f),
+        Rule::And(f, g) | Rule::Or(f, g) | Rule::Then(f, g) | Rule::Chop(f, g) => [named(f), named(g)].concat(),
+    }
+}
+
 /// The n of a `lag`: 0 and 1, which mean the same; a few ticks, or more than the random runs have; a parameter.
 #[derive(Clone, Copy, PartialEq, Eq, PartialOrd, Ord, Debug)]
 pub enum Delay {

@@ -3,7 +3,7 @@
 use crate::card::{Edition, End, Place, Why, Wrong, EDITIONS, WRONG_VELOCITIES};
 use crate::cases::packing::Origin;
 use crate::rule::meaning::IDLE;
-use crate::rule::{Around, Delay, Limit, Op, Root, AROUND, DELAYS, OPS, TESTS};
+use crate::rule::{Around, Atom, Delay, Limit, Op, Root, AROUND, ATOMS, DELAYS, OPS, TESTS};
 use crate::table::lustre::WRONG_ENDS;
 use crate::table::packing::{Effect, EFFECTS};
 use crate::table::{Flaw, CLOSING, KINDS};
@@ -26,11 +26,17 @@ pub enum Outcome {
     VelocityTooHigh(u32),
     /// A text that is read and stands exactly at a limit.
     AtLimit(Limit),
-    /// The refusal is the first text's, or the second's after a first that is read.
-    SameFirst(u32),
-    SameSecond(u32),
-    /// Whether two texts are the same rule.
-    Same(bool),
+    /// For what same rule is refused, and by which number.
+    SameRefused(Given, u32),
+    /// Same rule is refused for the first of these, although the second applies too.
+    SameOrder((Given, u32), (Given, u32)),
+    /// A parameter that is too high, where same rule is refused for it: on which side, which one, and whether its rule
+    /// names it.
+    SameHigh(Given, usize, bool),
+    /// Whether two rules are the same.
+    Same(Sameness),
+    /// The verdict of two texts that are the same rule, and whether all their parameters have equal values.
+    SameVerdict(bool, u32),
     FreshState(u32),
     /// A step of a random table, and of a rule's table.
     Step(u32),
@@ -98,12 +104,34 @@ pub enum Outcome {
     LongCard(Edition, bool),
 }
 
-/// Those of the operations that a call can break in two ways.
+/// What same rule is given, in the order in which it is refused.
+#[derive(Clone, Copy, PartialEq, Eq, PartialOrd, Ord, Debug)]
+pub enum Given {
+    FirstText,
+    FirstParameters,
+    SecondText,
+    SecondParameters,
+}
+
+/// Whether two rules are the same, and why.
+#[derive(Clone, Copy, PartialEq, Eq, PartialOrd, Ord, Debug)]
+pub enum Sameness {
+    /// Yes: one tree, with equal values of all parameters, or only of those that it names.
+    Equal,
+    Unnamed,
+    /// No: one tree, with two values of this parameter, which it names here and nowhere else; or of a parameter that it
+    /// names more than once, or of several.
+    Value(Atom, u32),
+    Values,
+    /// No: two trees, with equal values or not.
+    Trees(bool),
+}
+
+/// Those of the operations that a call can break in two ways. Same rule has four, which are counted apart.
 #[derive(Clone, Copy, PartialEq, Eq, PartialOrd, Ord, Debug)]
 pub enum Operation {
     Read,
     Compile,
-    Same,
     FreshState,
     Step,
     ReadLustre,
@@ -203,8 +231,15 @@ fn wanted() -> Vec<(Outcome, u64)> {
     want(500, &mut (0..=9).map(Outcome::Compile));
     want(100, &mut [Limit::Bytes, Limit::Words, Limit::Brackets, Limit::Operators].into_iter().map(Outcome::AtLimit));
     want(500, &mut std::iter::once(Outcome::AtLimit(Limit::Velocity)));
-    want(100, &mut (1..=8).flat_map(|r| [Outcome::SameFirst(r), Outcome::SameSecond(r)]));
-    want(5000, &mut [true, false].into_iter().map(Outcome::Same));
+    want(100, &mut (1..=8).flat_map(|r| [Given::FirstText, Given::SecondText].map(|g| Outcome::SameRefused(g, r))));
+    want(5000, &mut HIGH.into_iter().map(|given| Outcome::SameRefused(given, 13)));
+    want(30, &mut same_orders());
+    want(100, &mut (0..8).flat_map(|j| HIGH.map(|g| [true, false].map(|n| Outcome::SameHigh(g, j, n)))).flatten());
+    want(5000, &mut [Sameness::Equal, Sameness::Unnamed].into_iter().map(Outcome::Same));
+    want(2000, &mut [true, false].into_iter().map(|equal| Outcome::Same(Sameness::Trees(equal))));
+    want(50, &mut ATOMS.into_iter().flat_map(|a| (0..8).map(move |j| Outcome::Same(Sameness::Value(a, j)))));
+    want(500, &mut std::iter::once(Outcome::Same(Sameness::Values)));
+    want(5000, &mut (0..3).flat_map(|verdict| [true, false].map(|equal| Outcome::SameVerdict(equal, verdict))));
     want(2000, &mut [0, 10, 11, 12].into_iter().map(Outcome::FreshState));
     want(2000, &mut [0, 10, 11, 12, 13, 14, 19].into_iter().map(Outcome::Step));
     want(20_000, &mut [0, 12, 13, 19].into_iter().map(Outcome::RuleStep));
@@ -283,6 +318,26 @@ fn constants() -> impl Iterator<Item = Outcome> {
     PLACES.into_iter().map(|(k, j)| Outcome::Apart(k, j))
 }
 
+/// The parameters of each side, for which same rule is refused by 13.
+const HIGH: [Given; 2] = [Given::FirstParameters, Given::SecondParameters];
+
+/// SPEC 8.3: each two of the four that same rule is given, with each refusal of a text beside 13, and some beside those
+/// of the other text.
+fn same_orders() -> impl Iterator<Item = Outcome> {
+    use Given::{FirstParameters, FirstText, SecondParameters, SecondText};
+    let high = (1..=8).flat_map(|refusal| {
+        [
+            ((FirstText, refusal), (FirstParameters, 13)),
+            ((FirstText, refusal), (SecondParameters, 13)),
+            ((FirstParameters, 13), (SecondText, refusal)),
+            ((SecondText, refusal), (SecondParameters, 13)),
+        ]
+    });
+    let texts = [(2, 6), (6, 2), (2, 3), (3, 2), (7, 2)].map(|(a, b)| ((FirstText, a), (SecondText, b)));
+    let both = std::iter::once(((FirstParameters, 13), (SecondParameters, 13)));
+    high.chain(texts).chain(both).map(|(first, other)| Outcome::SameOrder(first, other))
+}
+
 fn orders() -> impl Iterator<Item = Outcome> {
     let of = |operation, pairs: &[(u32, u32)]| -> Vec<Outcome> {
         pairs.iter().map(|(first, other)| Outcome::Order(operation, *first, *other)).collect()
@@ -290,7 +345,6 @@ fn orders() -> impl Iterator<Item = Outcome> {
     let all = [
         of(Operation::Read, &[(5, 6), (5, 7), (5, 8), (6, 7), (7, 8)]),
         (1..=8).map(|refusal| Outcome::Order(Operation::Compile, refusal, 9)).collect(),
-        of(Operation::Same, &[(2, 6), (6, 2), (2, 3), (3, 2), (7, 2)]),
         of(Operation::FreshState, &[(10, 12), (11, 12)]),
         of(Operation::Step, &[(10, 12), (10, 13), (11, 12), (11, 13), (11, 14), (12, 13), (12, 14), (13, 14)]),
         (10..=14).map(|refusal| Outcome::Order(Operation::Step, refusal, 19)).collect(),

@@ -1,9 +1,7 @@
-//! Reading (SPEC 8.1) and compiling (SPEC 8.2) random and damaged texts, and comparing two (SPEC 8.3).
+//! Reading (SPEC 8.1) and compiling (SPEC 8.2) random and damaged texts.
 
 use super::{same, show, Run};
 use crate::archive::{self, Answer};
-use crate::random::Random;
-use crate::rule::make::random_rule;
 use crate::rule::{self, scramble::random_text};
 use crate::tally::{Operation, Outcome};
 
@@ -51,40 +49,4 @@ fn compile_case(run: &mut Run, text: &[u8], read_refusal: u32, number: u64) {
     same(table[kept..] == before[kept..], true, || format!("what is kept in {}", case()));
     run.tally.add(Outcome::Compile(refusal));
     run.tally.order(Operation::Compile, &refusals);
-}
-
-/// Two texts: of one rule, of two near ones, or any.
-fn two_texts(random: &mut Random) -> (Vec<u8>, Vec<u8>) {
-    let size = 1 + random.below(8);
-    let rule = random_rule(random, size, false);
-    let first = if random.once_in(8) { random_text(random) } else { rule::text_of(random, &rule) };
-    let second = match random.below(4) {
-        0 => random_text(random),
-        1 => {
-            let mut text = first.clone();
-            if !text.is_empty() {
-                let at = random.below(text.len());
-                text[at] = random.pick(b" ()!&|,<=>skv0123456789");
-            }
-            text
-        }
-        _ => rule::text_of(random, &rule),
-    };
-    (first, second)
-}
-
-pub fn same_case(run: &mut Run, number: u64) {
-    let (first, second) = two_texts(&mut run.random);
-    let (wanted, outcome) = match (rule::read(&first), rule::read(&second)) {
-        (Err(first), Err(second)) if first != second => {
-            run.tally.order(Operation::Same, &[first, second]);
-            (Answer::refused(first), Outcome::SameFirst(first))
-        }
-        (Err(refusal), _) => (Answer::refused(refusal), Outcome::SameFirst(refusal)),
-        (Ok(_), Err(refusal)) => (Answer::refused(refusal), Outcome::SameSecond(refusal)),
-        (Ok(a), Ok(b)) => (Answer::given(u32::from(a == b)), Outcome::Same(a == b)),
-    };
-    let case = || format!("pair {number}: {} and {}", show(&first), show(&second));
-    same(archive::same_rule(&first, &second), wanted, case);
-    run.tally.add(outcome);
 }

@@ -1,7 +1,8 @@
--- The answers of an observer, over every list of calls from the fresh state, are its formula's verdicts, and idle
--- exactly before the first start. This joins what Formed (scheme) shows of the table's check, Verdicts of flows that
--- satisfy their equations, and the laws of runs of any table (flows). Over a number m of signals that is left open
--- (scheme, proofs/Parts.antt). Assumes nothing.
+-- The answers of an observer, over every list of calls from the fresh state, are its formula's verdicts, where each
+-- parameter that the formula names has one value at all ticks, and idle exactly before the first start, whatever the
+-- parameters are. This joins what Formed (scheme) shows of the table's check, Verdicts of flows that satisfy their
+-- equations, and the laws of runs of any table (flows). Over a number m of signals that is left open (scheme,
+-- proofs/Parts.antt). Assumes nothing.
 use mathlib.Core.Bool.{true, cond}
 use mathlib.Core.List.{List, _++_}
 use mathlib.Core.Logic.{_↔_, Iff·trans}
@@ -16,7 +17,9 @@ use Rattle.formulas.specs.Meaning.{verdict}
 use Rattle.formulas.specs.Laws.{Starts}
 use Rattle.formulas.specs.Tree.{leads}
 use Rattle.formulas.specs.Bounds.{bounded}
+use Rattle.formulas.specs.Names.{namesParameter}
 use Rattle.formulas.specs.Raw.{raw}
+use Rattle.formulas.proofs.Named.{Unchanging, Steady, parameters-below}
 use Rattle.limits.specs.Limits.{equationLimit, literalCount, signalCount}
 use Rattle.tables.specs.Table.{verdictOf, checked}
 use Rattle.flows.specs.Flow.{answerOf}
@@ -82,35 +85,40 @@ module _ (cap velocities : ℕ) (low : cap ≤ literalCount) (m : ℕ) (few : m 
         subst (λ (a : Stepped). (a ≡ Verdict idleVerdict) ↔ ((i : ℕ) → i ≤ k → ¬ Starts trace i)) (sym tells)
         (Iff·trans (same-verdict _ idleVerdict) (idle-over cap velocities trace flow m f junk run k))
 
-  module _ (old : List ℕ) (room : n ≤ length old) (ps : List ℕ) where
-    -- and the formula's verdict, where the parameters are the same at all ticks and below the cap;
-    verdicts : (ks : List Tick) → SameParameters ps ks → Small cap ps → (e : ℕ)
-        → answerAt cap t n old (traceOfTicks ps ks) e ≡ verdict (traceOfTicks ps ks) f e
-    verdicts ks same small e =
-        let trace : Trace = traceOfTicks ps ks in
-        answer-over old room trace e
-        ∙ verdict-over cap velocities trace (flow old room trace) m f junk (run old room trace)
-        (λ i j. same-at same i ∙ sym (same-at same j)) (λ k j h. rw (same-at same k) (small j h)) led bound below e
+    -- and the formula's verdict, where each parameter that the formula names has one value at all ticks. At the tick of
+    -- an admitted call it is below the cap, and so it is at all ticks.
+    module _ (same : Unchanging trace (namesParameter (raw f))) where
+      steady : (k : ℕ) → Small cap ((trace k) .parameters) → (j : ℕ) → namesParameter (raw f) j ≡ true
+          → Steady cap trace j
+      steady k small j e =
+          record {
+            same = same j e;
+            small = λ i. rw (same j e i k) (small j (parameters-below cap velocities (raw f) j bound e));
+          }
 
-    -- and so the step of each tick answers it, over any list of calls.
-    module _ (ks : List Tick) (same : SameParameters ps ks) where
-      tick-means : (k : ℕ) (s : Taken) → Ran cap velocities t n passes old room (traceOfTicks ps ks) k s
-          → AsMeant f (traceOfTicks ps ks) k s
+      tick-means : (k : ℕ) (s : Taken) → Ran cap velocities t n passes old room trace k s → AsMeant f trace k s
       unfolding afterTick flowAt
       tick-means k s r =
-          let here : s .call .tick .parameters ≡ ps =
-          ap (λ (x : Tick). x .parameters) (sym (r .now)) ∙ same-at same k in
           let small = admitted-small cap velocities n (s .call .values) (s .call .tick) (r .admitted) in
-          ap (λ (z : AfterStep). z .answer) (r .left)
-          ∙ ap Verdict (verdicts ks same (subst (Small cap) here small) k)
+          let here = subst (λ (x : Tick). Small cap (x .parameters)) (sym (r .now)) small in
+          let means = verdict-over cap velocities trace flow m f junk run (steady k here) led bound below k in
+          ap (λ (z : AfterStep). z .answer) (r .left) ∙ ap Verdict (answer-over k ∙ means)
 
+  -- So the step of each tick answers the verdict, over any list of calls. Past the last tick the trace is as d.
+  pub answers-named : (old : List ℕ) → n ≤ length old → (calls : List Call) (d : Tick)
+      → Unchanging (traceOf d (ticks (fromFresh cap velocities t n old calls))) (namesParameter (raw f))
+      → EachTick (AsMeant f (traceOf d (ticks (fromFresh cap velocities t n old calls)))) 0
+      (fromFresh cap velocities t n old calls)
+  answers-named old room calls d same =
+      each-map (tick-means old room _ same) (ran cap velocities t n passes old room calls d)
+
+  -- Ticks with the same parameters are an instance: each named one has one value.
   pub answers-mean : (old : List ℕ) → n ≤ length old → (calls : List Call) (ps : List ℕ)
       → SameParameters ps (ticks (fromFresh cap velocities t n old calls))
       → EachTick (AsMeant f (traceOfTicks ps (ticks (fromFresh cap velocities t n old calls)))) 0
       (fromFresh cap velocities t n old calls)
   answers-mean old room calls ps same =
-      each-map (tick-means old room ps (ticks (fromFresh cap velocities t n old calls)) same)
-      (ran cap velocities t n passes old room calls (tickOf 0 0 0 ps))
+      answers-named old room calls (tickOf 0 0 0 ps) (λ j e i k. rw (same-at same i, same-at same k))
 
   pub answers-idle : (old : List ℕ) → n ≤ length old → (calls : List Call) (d : Tick)
       → EachTick (IdleUntilStart (traceOf d (ticks (fromFresh cap velocities t n old calls)))) 0

@@ -8,9 +8,9 @@ use lib.Dec.{leb, ltb}
 use lib.ListN.{length, getD}
 use borrow.Author.Tests.{ltb-true}
 use Rattle.traces.specs.declared.Tick.{Tick}
+use Rattle.traces.specs.Parameters.{parameterFits, parametersFit}
 use Rattle.tables.specs.Table.{all}
 use Rattle.limits.specs.Limits.{parameterCount}
-use Rattle.flows.specs.Step.{parameterFits}
 use Rattle.flows.specs.Run.{callChecked}
 use Rattle.tables.specs.declared.Checked.the-variants.{Passed, Refused as Failed}
 use Rattle.tables.proofs.Tests.{all-at}
@@ -33,8 +33,8 @@ pub admitted-small : (cap velocities n : ℕ) (values : List ℕ) (k : Tick)
 unfolding callChecked parameterFits
 admitted-small cap velocities n values k e j h =
     ltb-true (getD (k .parameters) j 0) cap
-    (all-at (parameterFits cap k) parameterCount
-    (passed (leb n (length values)) (all (parameterFits cap k) parameterCount) (ltb (k .velocity) velocities) e) j h)
+    (all-at (parameterFits cap (k .parameters)) parameterCount
+    (passed (leb n (length values)) (parametersFit cap (k .parameters)) (ltb (k .velocity) velocities) e) j h)
   where
     passed : (a b c : Bool) → cond a (cond b (cond c Passed (Failed 19)) (Failed 13)) (Failed 12) ≡ Passed → b ≡ true
     passed true true c e = refl

@@ -6,21 +6,26 @@ use mathlib.Core.Path.{_≡_, ap}
 use Prim.Native.Nat.{ℕ, _≤_, _<_}
 use native.Mathlib.Omega.{arith}
 use lib.ListN.{length}
+use Rattle.traces.specs.declared.Tick.{Tick}
+use Rattle.traces.specs.Trace.{traceOf}
 use Rattle.formulas.specs.Formula.{Formula}
 use Rattle.formulas.specs.Tree.{leads}
 use Rattle.formulas.specs.Bounds.{bounded}
 use Rattle.formulas.specs.Arena.{flat}
+use Rattle.formulas.specs.Names.{namesParameter}
 use Rattle.formulas.specs.Raw.{raw}
+use Rattle.formulas.proofs.Named.{Unchanging}
 use Rattle.limits.specs.Limits.{arenaLimit, equationLimit, literalCount, signalCount}
 use Rattle.tables.specs.Table.{checked}
 use Rattle.flows.specs.Step.{AfterFresh}
+use Rattle.flows.specs.Run.{Call, fromFresh, ticks, EachTick}
 use Rattle.tables.specs.declared.Checked.the-variants.{Passed}
 use Rattle.scheme.specs.Emit.{namedBy, observer, numbersOf}
-use Rattle.agreement.specs.Agreement.{Observes, Closing}
+use Rattle.agreement.specs.Agreement.{Observes, AsMeant, Closing}
 use Rattle.flows.proofs.Lists.{made, calls-decide}
 use Rattle.scheme.proofs.Header.{names-below}
 use Rattle.scheme.proofs.Sizes.{observer-size}
-use Rattle.agreement.proofs.Answers.{passes, answers-mean, answers-idle}
+use Rattle.agreement.proofs.Answers.{passes, answers-named, answers-mean, answers-idle}
 use Rattle.agreement.proofs.Ends.{closing-over}
 
 -- The formula names signals 0 to 63 only.
@@ -58,6 +63,20 @@ observes cap velocities low f led bound size junk =
 
     formed : checked velocities t n ≡ Passed
     formed = passes cap velocities low signalCount few f led bound (below cap velocities f bound) junk short
+
+-- The agreement of its answers with the meaning asks less: that each parameter that f names has one value at all ticks.
+-- Others may change from tick to tick. Past the last tick the trace is as d.
+pub agrees-named : (cap velocities : ℕ) → cap ≤ literalCount → (f : Formula) → leads (raw f) ≡ true
+    → bounded cap velocities (raw f) ≡ true → length (flat (raw f)) ≤ arenaLimit → (junk : List ℕ)
+    → let t : List ℕ = numbersOf (observer f) ++ junk in
+    let n : ℕ = length (observer f) in
+    (old : List ℕ) → n ≤ length old → (calls : List Call) (d : Tick)
+    → Unchanging (traceOf d (ticks (fromFresh cap velocities t n old calls))) (namesParameter (raw f))
+    → EachTick (AsMeant f (traceOf d (ticks (fromFresh cap velocities t n old calls)))) 0
+    (fromFresh cap velocities t n old calls)
+agrees-named cap velocities low f led bound size junk =
+    answers-named cap velocities low signalCount few f led bound (below cap velocities f bound) junk
+    (observer-size f size)
 
 -- SPEC 12.7: how it closes.
 pub closing : (cap velocities : ℕ) → cap ≤ literalCount → (f : Formula) → bounded cap velocities (raw f) ≡ true

@@ -6,6 +6,7 @@ use mathlib.Core.Path.{_≡_, refl}
 use mathlib.Core.List.{List, map}
 use lib.Dec.{leb}
 use lib.ListN.{length}
+use Rattle.traces.specs.Parameters.{parameterFits}
 use Rattle.formulas.specs.Formula.{Formula}
 use Rattle.formulas.specs.Tree.{leads}
 use Rattle.formulas.specs.Bounds.{bounded}
@@ -17,7 +18,7 @@ use Rattle.tables.specs.Table.{equationsFit, closes}
 use Rattle.limits.specs.Limits.{arenaLimit, standardCap, velocityCount}
 use Rattle.flows.specs.Flow.{increased, valueOf, flows, answerOf, memoriesSet, initial, inRange}
 use Rattle.tables.specs.Table.{isMemory}
-use Rattle.flows.specs.Step.{parameterFits, cellFits, freshChecked, stepChecked, freshened, afterTick, stepped}
+use Rattle.flows.specs.Step.{cellFits, freshChecked, stepChecked, freshened, afterTick, stepped}
 use Rattle.flows.specs.Run.{steps}
 use Rattle.flows.specs.declared.Stepped.the-variants.{Verdict}
 use Rattle.agreement.specs.Trials.{ran}

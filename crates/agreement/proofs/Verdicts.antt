@@ -1,22 +1,23 @@
 -- What the last two flows of an observer answer, in any flows that satisfy its table's equations: idle before the first
--- start; from it on, on a trace whose parameters are the same at all ticks and below the cap, the formula's verdict.
--- Assumes nothing.
+-- start; from it on, on a trace in which each parameter that the formula names has one value at all ticks, below the
+-- cap, the formula's verdict. Assumes nothing.
 use mathlib.Core.Bool.{true, not, cond}
 use mathlib.Core.List.{List, _++_}
 use mathlib.Core.Logic.{_↔_}
 use mathlib.Core.Path.{_≡_, sym, subst}
 use Prim.Native.Nat.{ℕ, _≤_, _<_}
 use lib.ListN.{length}
-use Rattle.traces.specs.Trace.{Trace, truth, idleVerdict, signalAt, parameterAt, starts}
+use Rattle.traces.specs.Trace.{Trace, truth, idleVerdict, signalAt, starts}
 use Rattle.formulas.specs.Formula.{Formula}
 use Rattle.formulas.specs.Meaning.{latest, verdict}
 use Rattle.formulas.specs.Laws.{Starts}
 use Rattle.formulas.specs.Tree.{leads}
 use Rattle.formulas.specs.Bounds.{bounded}
+use Rattle.formulas.specs.Names.{namesParameter}
 use Rattle.formulas.specs.Raw.{raw}
 use Rattle.formulas.proofs.Laws.{seen, since-idle}
+use Rattle.formulas.proofs.Named.{Steady}
 use Rattle.tables.specs.Table.{kindOf}
-use Rattle.limits.specs.Limits.{parameterCount}
 use Rattle.flows.specs.Lustre.{Lustre}
 use Rattle.scheme.specs.Scheme.{_⊕_}
 use Rattle.scheme.specs.Emit.{namedBy, startFlow, negatedFlow, headerCount, testsOf, numbersOf}
@@ -66,8 +67,7 @@ module _ (cap velocities : ℕ) (trace : Trace) (flow : ℕ → ℕ → ℕ) whe
         (sym (answers-since cap trace flow startFlow (wholePlace m f) (bodyBlock m f .out) closing begins x e))
         (since-idle trace (λ b. x) e (latest trace e) (seen trace e))
 
-    module _ (same : (i j : ℕ) → (trace i) .parameters ≡ (trace j) .parameters)
-        (small : (k j : ℕ) → j < parameterCount → parameterAt (trace k) j < cap)
+    module _ (steady : (j : ℕ) → namesParameter (raw f) j ≡ true → Steady cap trace j)
         (led : leads (raw f) ≡ true) (bound : bounded cap velocities (raw f) ≡ true)
         (below : (j : ℕ) → namedBy f j ≡ true → j < m) where
       -- The flow of each named signal is the signal.
@@ -79,10 +79,11 @@ module _ (cap velocities : ℕ) (trace : Trace) (flow : ℕ → ℕ → ℕ) whe
 
       body-agrees : Agrees trace flow startFlow (bodyBlock m f .out) f
       body-agrees =
-          agrees cap velocities trace flow same small (flowAmong (namedBy f) m) f startFlow negatedFlow (testsPlace m f)
+          agrees cap velocities trace flow (flowAmong (namedBy f) m) f startFlow negatedFlow (testsPlace m f)
           (bodyPlace m f) (record {
             led = led;
             bound = bound;
+            steady = steady;
             signals = signals;
             negated = negated;
             tested = each-left (LocalAt cap trace flow) (testsOf f) _ (testsPlace m f) after;

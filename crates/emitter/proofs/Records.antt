@@ -11,6 +11,7 @@ use lib.Dec.{eqb}
 use lib.ListN.{set, drop, length, length-drop}
 use lib.Seq.{drop-cons}
 use Rattle.lists.specs.Number.{numberAt}
+use Rattle.lists.proofs.Fours.{four, short}
 use Rattle.formulas.specs.Arena.{SIGNAL, VELOCITY}
 use Rattle.tables.specs.Kind as tables
 use Rattle.tables.specs.Table.{Equation, equation}
@@ -23,28 +24,6 @@ use Rattle.emitter.specs.Contract.{Entered, Ran, Put, Tested, stateOf}
 use Rattle.emitter.specs.declared.Place.{Place}
 use Rattle.emitter.specs.declared.Record.{Record}
 use Rattle.emitter.proofs.Equations.{equations-none, equations-append}
-
--- What is left at i begins with a record.
-four : (l : List ℕ) (i : ℕ) → i + 4 ≤ length l →
-    drop i l ≡ numberAt l i ∷ numberAt l (i + 1) ∷ numberAt l (i + 2) ∷ numberAt l (i + 3) ∷ drop (i + 4) l
-four l i h =
-    let at-0 : i < length l = omega arith in
-    let at-1 : suc i < length l = omega arith in
-    let at-2 : suc (suc i) < length l = omega arith in
-    let at-3 : suc (suc (suc i)) < length l = omega arith in
-    rw (
-      add-one i,
-      add-two i,
-      add-three i,
-      add-four i,
-      drop-cons l i 0 at-0,
-      drop-cons l (suc i) 0 at-1,
-      drop-cons l (suc (suc i)) 0 at-2,
-      drop-cons l (suc (suc (suc i))) 0 at-3,
-    )
-
-short : (l : List ℕ) (i : ℕ) → length l < i + 4 → length (drop i l) < 4
-short l i h = rw (length-drop i l) (omega arith)
 
 -- ---- entering
 

@@ -7,7 +7,7 @@ use lib.ListN.{length, drop, length-drop}
 use borrow.Author.Tests.{lt-ltb}
 use Rattle.limits.specs.Limits.{standardCap}
 use Rattle.limits.specs.declared.Context.{Context}
-use Rattle.flows.specs.Step.{AfterStep, afterStep, parameterFits, stepChecked, stepped}
+use Rattle.flows.specs.Step.{AfterStep, afterStep, stepChecked, stepped}
 use Rattle.tables.specs.declared.Checked.the-variants.{Passed}
 use Rattle.flows.specs.declared.Stepped.the-variants as S
 use Rattle.flows.proofs.Lists.{step-on}
@@ -19,6 +19,7 @@ use Rattle.cards.proofs.Front.{First, first-tick}
 use Rattle.cards.proofs.Ticks.{ticked}
 use Rattle.traces.specs.Trace.{tickOf}
 use Rattle.traces.specs.declared.Tick.{Tick}
+use Rattle.traces.specs.Parameters.{parameterFits}
 use Rattle.player.specs.Card.{World, worldIn, lined}
 use Rattle.player.specs.Output.{outputBytes}
 use Rattle.player.specs.declared.Output.the-variants as O

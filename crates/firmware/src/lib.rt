@@ -12,7 +12,7 @@ ghost use Rattle.limits.specs.Limits.{standardCap, velocityCount};
 ghost use Rattle.limits.specs.Context.{standardContext};
 ghost use Rattle.traces.specs.Trace.{tickOf};
 ghost use Rattle.flows.specs.Step.{afterFresh, freshened, freshReply, afterStep, stepped, stepReply};
-ghost use Rattle.rules.specs.Computed.{ruleOf, sameOf};
+ghost use Rattle.rules.specs.Computed.{ruleOf, comparison};
 ghost use Rattle.rules.specs.Contract.{answerOf, Told, readReply};
 ghost use Rattle.rules.specs.Same.{SameAnswer, sameReply};
 ghost use Rattle.observers.specs.Compile.{afterCompile, compiled};
@@ -165,16 +165,20 @@ pub extern "C" fn towerwatch_compile(text: &[u8], table: &mut [u32]) -> Answer
     compiled_answer(observers::compile_rule(text, table))
 }
 
-// Compares two texts: 1 where they are the same rule, else 0 (SPEC 8.3).
+// Compares two texts, each with its parameters: 1 where they are the same rule, else 0 (SPEC 8.3).
 #[no_mangle]
-pub extern "C" fn towerwatch_same_rule(first: &[u8], second: &[u8]) -> Answer
-    ensures { λ r. ⌜ Given sameReply
-        (λ x. x ≡ sameOf (ruleOf standardContext (now (first .entry)))
-        (ruleOf standardContext (now (second .entry)))) r ⌝ }
-    ensures { λ r. ⌜ Given sameReply
-        (SameAnswer standardContext (now (first .entry)) (now (second .entry))) r ⌝ }
+pub extern "C" fn towerwatch_same_rule(
+    first: &[u8],
+    ps: &[u32; limits::PARAMETERS],
+    second: &[u8],
+    qs: &[u32; limits::PARAMETERS],
+) -> Answer
+    ensures { λ r. ⌜ Given sameReply (λ x. x ≡ comparison standardContext (now (first .entry)) (now (ps .entry))
+        (now (second .entry)) (now (qs .entry))) r ⌝ }
+    ensures { λ r. ⌜ Given sameReply (SameAnswer standardContext (now (first .entry)) (now (ps .entry))
+        (now (second .entry)) (now (qs .entry))) r ⌝ }
 {
-    same_answer(rules::same_rule(first, second))
+    same_answer(rules::same_rule(first, ps, second, qs))
 }
 
 // The answer of writing Lustre text.

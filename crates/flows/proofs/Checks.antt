@@ -8,11 +8,12 @@ use lib.ListN.{length, drop}
 use borrow.Author.Tests.{leb-true}
 use Rattle.limits.specs.Limits.{parameterCount}
 use Rattle.traces.specs.declared.Tick.{Tick}
+use Rattle.traces.specs.Parameters.{parametersFit}
 use Rattle.tables.specs.Table.{all, lengthFits, equationsFit, test, checked}
 use Rattle.tables.specs.declared.Checked.the-variants.{Passed}
 use Rattle.tables.proofs.Tests.{and-true}
 use Rattle.tables.proofs.Checks.{Fitting, passed-one, passed-table}
-use Rattle.flows.specs.Step.{parameterFits, cellsFit, stepTests, freshChecked, stepChecked}
+use Rattle.flows.specs.Step.{cellsFit, stepTests, freshChecked, stepChecked}
 
 pub fresh-passed : (velocities : ℕ) (t : List ℕ) (n : ℕ) (state : List ℕ) → freshChecked velocities t n state ≡ Passed
     → Fitting velocities t n × (n ≤ length state)
@@ -29,7 +30,7 @@ module _ (cap velocities : ℕ) (t : List ℕ) (n : ℕ) (state values : List �
       let p = passed-table velocities t n (drop 2 (stepTests cap velocities t n state values k)) e in
       let q = passed-one (leb n (length state) && leb n (length values)) _ 12 (p .1) in
       let l = and-true (leb n (length state)) _ (q .0) in
-      let m = passed-one (all (parameterFits cap k) parameterCount) _ 13 (q .1) in (
+      let m = passed-one (parametersFit cap (k .parameters)) _ 13 (q .1) in (
         p .0,
         leb-true n (length state) (l .0),
         leb-true n (length values) (l .1),
@@ -37,10 +38,10 @@ module _ (cap velocities : ℕ) (t : List ℕ) (n : ℕ) (state values : List �
       )
 
   -- What the table and the parameters alone decide.
-  pub step-admitted : (checked velocities t n ≡ Passed) × (all (parameterFits cap k) parameterCount ≡ true)
+  pub step-admitted : (checked velocities t n ≡ Passed) × (parametersFit cap (k .parameters) ≡ true)
   unfolding stepChecked checked
   step-admitted =
       let p = passed-one (lengthFits t n) _ 10 e in
       let q = passed-one (equationsFit velocities t n) _ 11 (p .1) in
       let r = passed-one (leb n (length state) && leb n (length values)) _ 12 (q .1) in
-      (rw (p .0, q .0), passed-one (all (parameterFits cap k) parameterCount) _ 13 (r .1) .0)
+      (rw (p .0, q .0), passed-one (parametersFit cap (k .parameters)) _ 13 (r .1) .0)

@@ -12,11 +12,12 @@ use lib.ListN.{length, getD, drop, replicate, length-append, length-replicate}
 use borrow.Author.Tests.{le-leb, lt-ltb}
 use Rattle.traces.specs.declared.Tick.{Tick}
 use Rattle.traces.specs.Trace.{Trace, traceOf, tickOf}
+use Rattle.traces.specs.Parameters.{parameterFits}
 use Rattle.lists.specs.Number.{numberAt}
 use Rattle.tables.specs.Table.{all, checked}
 use Rattle.limits.specs.Limits.{parameterCount}
 use Rattle.flows.specs.Flow.{flows, operandAt, freshState, nextState}
-use Rattle.flows.specs.Step.{cellsFit, parameterFits, freshChecked, stepChecked}
+use Rattle.flows.specs.Step.{cellsFit, freshChecked, stepChecked}
 use Rattle.flows.specs.Step.{AfterFresh, afterFresh, freshened, AfterStep, afterTick, steppedIf, stepped}
 use Rattle.flows.specs.Run.{Call, called, Taken, steps, fromFresh, answered, tickIf, ticks, EachTick}
 use Rattle.flows.specs.Run.{callChecked, admits, refusalIn, CallsDecide}

@@ -7,6 +7,7 @@ use Prim.Native.Nat.{ℕ, _-_}
 use lib.ListN.{replicate, drop}
 use Rattle.traces.specs.Trace.{tickOf}
 use Rattle.traces.specs.declared.Tick.{Tick}
+use Rattle.traces.specs.Parameters.{parameterFits}
 use Rattle.tables.specs.Table.{all, kindOf, shapeOf, sameSort, isFlow, operandFits, shapeFits, lengthFits}
 use Rattle.tables.specs.Table.{equationsFit, closes, checked}
 use Rattle.limits.specs.Limits.{parameterCount, standardCap, velocityCount}
@@ -15,7 +16,7 @@ use Rattle.tables.specs.Reply.{checkedReply}
 use Rattle.tables.specs.declared.Checked.{Checked}
 use Rattle.flows.specs.Flow.{increased, valueOf, flows, answerOf, memoriesSet, initial, inRange}
 use Rattle.tables.specs.Table.{isMemory}
-use Rattle.flows.specs.Step.{freshReply, stepReply, parameterFits}
+use Rattle.flows.specs.Step.{freshReply, stepReply}
 use Rattle.flows.specs.Step.{cellFits, freshChecked, stepChecked, freshened, afterStep, afterTick}
 use Rattle.flows.specs.Step.{stepped}
 use Rattle.flows.specs.Run.{Call, Taken, steps, answered}

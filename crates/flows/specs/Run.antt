@@ -5,6 +5,7 @@ use Prim.Native.Nat.{ℕ, suc}
 use lib.Dec.{leb}
 use lib.ListN.{length}
 use Rattle.traces.specs.declared.Tick.{Tick}
+use Rattle.traces.specs.Parameters.{withParameters}
 use Rattle.tables.specs.Table.{test, firstFailed}
 use Rattle.flows.specs.Step.{AfterFresh, freshened, AfterStep, parameterTest, velocityTest, stepped}
 use Rattle.tables.specs.declared.Checked.{Checked}
@@ -16,6 +17,10 @@ use Rattle.flows.specs.declared.Stepped.the-variants.{Verdict, Refused}
 pub record Call : Type 0 where
   pub tick : Tick
   pub values : List ℕ
+
+-- The call with these parameters in place of its own.
+abbrev pub callWith : List ℕ → Call → Call
+callWith ps x = record { tick = withParameters ps (x .tick); values = x .values }
 
 -- What a call does to a state.
 abbrev pub called : ℕ → ℕ → List ℕ → ℕ → List ℕ → Call → AfterStep

@@ -5,10 +5,9 @@ use Prim.Native.Nat.{ℕ}
 use lib.Dec.{leb, ltb}
 use lib.ListN.{length, drop}
 use Rattle.traces.specs.declared.Tick.{Tick}
-use Rattle.traces.specs.Trace.{parameterAt}
+use Rattle.traces.specs.Parameters.{parametersFit}
 use Rattle.lists.specs.Number.{numberAt}
 use Rattle.tables.specs.Table.{all, Kind, kindAt, sortOf}
-use Rattle.limits.specs.Limits.{parameterCount}
 use Rattle.tables.specs.Table.{Test, test, firstFailed, tableTests}
 use Rattle.flows.specs.Flow.{flows, answerOf, inRange, freshState, nextState}
 use Rattle.tables.specs.Table.{isMemory}
@@ -39,13 +38,9 @@ freshTests velocities t n state = tableTests velocities t n ++ (test 12 (leb n (
 abbrev pub roomTest : ℕ → List ℕ → List ℕ → Test
 roomTest n state values = test 12 (leb n (length state) && leb n (length values))
 
--- Parameter j of a tick is below the cap.
-unfoldable pub parameterFits : ℕ → Tick → ℕ → Bool
-parameterFits cap k j = ltb (parameterAt k j) cap
-
--- The test of refusal 13 (SPEC 7.13): every parameter is. Those that the clause admits are below `standardCap`.
+-- The test of refusal 13 (SPEC 7.13).
 abbrev pub parameterTest : ℕ → Tick → Test
-parameterTest cap k = test 13 (all (parameterFits cap k) parameterCount)
+parameterTest cap k = test 13 (parametersFit cap (k .parameters))
 
 -- The cell x of an equation of that kind is in its sort's range, if it is a memory's.
 unfoldable pub cellFits : ℕ → Kind → ℕ → Bool

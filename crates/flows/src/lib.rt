@@ -8,13 +8,14 @@ ghost use mathlib.Core.Bool.{_&&_, _||_, cond};
 ghost use mathlib.Core.List.{_++_};
 ghost use Prim.Native.Nat.{_+_, _*_, _≤_, _<_};
 ghost use lib.ListN.{length, drop};
-ghost use Rattle.limits.specs.Limits.{parameterCount, standardCap, velocityCount};
-ghost use Rattle.traces.specs.Trace.{truth, nonzero, parameterAt, bit};
+ghost use Rattle.limits.specs.Limits.{standardCap, velocityCount};
+ghost use Rattle.traces.specs.Trace.{truth, nonzero, bit};
+ghost use Rattle.traces.specs.Parameters.{parametersFit};
 ghost use Rattle.traces.specs.Compare.{opOf, compares};
 ghost use Rattle.lists.specs.Number.{numberAt};
-ghost use Rattle.tables.specs.Table.{all, kindOf, sortOf, equationAt, kindAt, closingCount};
+ghost use Rattle.tables.specs.Table.{kindOf, sortOf, equationAt, kindAt, closingCount};
 ghost use Rattle.flows.specs.Flow.{increased, valueOf, flows, answerOf, initial, inRange, freshState, nextState};
-ghost use Rattle.flows.specs.Step.{parameterFits, cellFits, cellsFit, freshChecked, stepChecked};
+ghost use Rattle.flows.specs.Step.{cellFits, cellsFit, freshChecked, stepChecked};
 ghost use Rattle.flows.specs.Step.{afterFresh, freshened, afterStep, afterTick, stepped};
 
 // What making a fresh state answers.
@@ -28,9 +29,6 @@ pub enum Stepped {
     Verdict(u32),
     Refused(u32),
 }
-
-// How many parameters a tick has.
-const PARAMETERS: u32 = limits::PARAMETERS as u32;
 
 // x op y, by the operator's number.
 fn compare(op: u32, x: u32, y: u32) -> bool
@@ -62,13 +60,6 @@ fn signal_at(signals: u64, j: u32) -> u32
     } else {
         0
     }
-}
-
-// Parameter j of a tick.
-fn parameter(tick: Tick, j: u32) -> u32
-    ensures { λ r. ⌜ r ≡ parameterAt tick j ⌝ }
-{
-    number_at(&tick.parameters, j)
 }
 
 // x and y.
@@ -203,18 +194,11 @@ fn reset(table: &[u32], n: usize, state: &mut [u32])
     }
 }
 
-// Whether every parameter is below the cap.
+// Whether every parameter of the tick is below the cap.
 fn parameters_fit(cap: u32, tick: Tick) -> bool
-    ensures { λ r. ⌜ r ≡ all (parameterFits cap tick) parameterCount ⌝ }
+    ensures { λ r. ⌜ r ≡ parametersFit cap (tick .parameters) ⌝ }
 {
-    let mut j = 0;
-    while j < PARAMETERS {
-        if cap <= parameter(tick, j) {
-            return false;
-        }
-        j += 1;
-    }
-    true
+    traces::parameters_fit(cap, &tick.parameters)
 }
 
 // Whether x is in the range of that sort.

@@ -4,7 +4,7 @@
 use mathlib.Core.Path.{_≡_, refl, sym, ap, _∙_}
 use mathlib.Core.Bool.{Bool, true, false, _&&_, _||_, cond, false≢true, and-eq-true-iff, or-true}
 use mathlib.Core.Logic.{_↔_, ⊎-elim}
-use Prim.Native.Nat.{ℕ, zero, suc, _+_, _-_, _≤_, _<_}
+use Prim.Native.Nat.{ℕ, zero, suc, _-_, _≤_, _<_}
 use native.Mathlib.Omega.{arith}
 use native.Mathlib.Nat.{le-refl, eq-or-lt-of-le}
 use native.Mathlib.Decide.{decLe, decLt}
@@ -15,15 +15,17 @@ use Rattle.traces.specs.Compare.{compares}
 use Rattle.traces.specs.declared.Op.{Op}
 use Rattle.traces.specs.declared.Op.the-variants.{AtMost as le, Below as lt, Equal as eq, Above as gt, AtLeast as ge}
 use Rattle.formulas.specs.Formula.{Num, Prop, Formula}
-use Rattle.formulas.specs.Formula.Num.{literal, parameter}
+use Rattle.formulas.specs.Formula.Num.{literal}
 use Rattle.formulas.specs.Formula.Test.{begin, end, point, held, kept}
 use Rattle.formulas.specs.Formula.Count.{sum, age}
 use Rattle.formulas.specs.Formula.Formula.{test, len, count, lag, neg, and, or, then}
 use Rattle.formulas.specs.Tree.{Tree, lead, upper}
 use Rattle.formulas.specs.Meaning.{value, each, tally, streak, lagged, at, meaning}
 use Rattle.formulas.specs.Laws.{InARow}
-use Rattle.formulas.proofs.Formulas.{raw}
+use Rattle.formulas.specs.Names.{numNames, namesParameter}
+use Rattle.formulas.proofs.Formulas.{rawP, raw}
 use Rattle.formulas.proofs.Laws.{in-a-row, lag-iff}
+use Rattle.formulas.proofs.Named.{Unchanging, named-left, named-right, value-same}
 
 -- ---- on a single tick
 
@@ -107,45 +109,47 @@ either : (a b a′ b′ : Bool) → (a ≡ true → a′ ≡ true) → (b ≡ tr
 either true b a′ b′ p q e = ap (λ (x : Bool). x || b′) (p refl)
 either false b a′ b′ p q e = ap (λ (x : Bool). a′ || x) (q e) ∙ or-true a′
 
-module _ (trace : Trace) (same : (i j : ℕ) → (trace i) .parameters ≡ (trace j) .parameters) where
-  -- n is the same at all ticks.
-  pub value-same : (n : Num) (i j : ℕ) → value n (trace i) ≡ value n (trace j)
-  value-same (literal n) i j = refl
-  value-same (parameter k) i j = rw (same i j)
-
+module _ (trace : Trace) where
   -- One tick more is one number more.
   later : (b e : ℕ) → b ≤ e → suc e - b ≡ suc (e - b)
   later b e h = omega arith
 
-  -- SPEC 3.9: a lead that is true on b to e + 1 is true on b to e.
-  pub lead-falls : (f : Formula) → lead (raw f) ≡ true → (b e : ℕ) → b ≤ e →
-      meaning trace f b (suc e) ≡ true → meaning trace f b e ≡ true
-  lead-falls (test begin p) l b e h m = m
-  lead-falls (test end p) l b e h m = absurd (false≢true l)
-  lead-falls (test point p) l b e h m = absurd (false≢true l)
-  lead-falls (test held p) l b e h m = absurd (false≢true l)
-  lead-falls (test kept p) l b e h m = each-less (at trace p) b (e - b) (rw (later b e h) at m)
-  lead-falls (len o n) l b e h m =
-      compares-less o (e - b) (suc e - b) (value n (trace e)) l (omega arith) (rw (value-same n (suc e) e) at m)
-  lead-falls (count sum p o n) l b e h m =
+  -- SPEC 3.9: a lead that is true on b to e + 1 is true on b to e, where the parameters that it names do not change.
+  pub lead-falls : (f : Formula) → Unchanging trace (namesParameter (raw f)) → lead (raw f) ≡ true →
+      (b e : ℕ) → b ≤ e → meaning trace f b (suc e) ≡ true → meaning trace f b e ≡ true
+  lead-falls (test begin p) same l b e h m = m
+  lead-falls (test end p) same l b e h m = absurd (false≢true l)
+  lead-falls (test point p) same l b e h m = absurd (false≢true l)
+  lead-falls (test held p) same l b e h m = absurd (false≢true l)
+  lead-falls (test kept p) same l b e h m = each-less (at trace p) b (e - b) (rw (later b e h) at m)
+  lead-falls (len o n) same l b e h m =
+      let unchanged = value-same trace n same (suc e) e in
+      compares-less o (e - b) (suc e - b) (value n (trace e)) l (omega arith) (rw unchanged at m)
+  lead-falls (count sum p o n) same l b e h m =
+      let unchanged = value-same trace n (named-right (namesParameter (rawP p)) _ same) (suc e) e in
       compares-less o (tally (at trace p) b (e - b)) (tally (at trace p) b (suc (e - b))) (value n (trace e)) l
-      (tally-more (at trace p) b (e - b)) (rw (later b e h, value-same n (suc e) e) at m)
-  lead-falls (count age p o n) l b e h m = absurd (false≢true l)
-  lead-falls (lag p n q) l b e h m =
+      (tally-more (at trace p) b (e - b)) (rw (later b e h, unchanged) at m)
+  lead-falls (count age p o n) same l b e h m = absurd (false≢true l)
+  lead-falls (lag p n q) same l b e h m =
+      let others = named-right (namesParameter (rawP p)) _ same in
+      let unchanged = value-same trace n (named-left (numNames n) (namesParameter (rawP q)) others) (suc e) e in
       let longer = lag-iff (at trace p) (value n (trace (suc e))) (at trace q) b (suc e) .0 m in
       lag-iff (at trace p) (value n (trace e)) (at trace q) b e .1
-      (λ i j l m u far. longer i j l m (omega arith) (omega (arith, value-same n (suc e) e)))
-  lead-falls (neg f) l b e h m = absurd (false≢true l)
-  lead-falls (and f g) l b e h m =
+      (λ i j l m u far. longer i j l m (omega arith) (omega (arith, unchanged)))
+  lead-falls (neg f) same l b e h m = absurd (false≢true l)
+  lead-falls (and f g) same l b e h m =
       let k = and-eq-true-iff (lead (raw f)) (lead (raw g)) .0 l in
       let x = and-eq-true-iff (meaning trace f b (suc e)) (meaning trace g b (suc e)) .0 m in
-      and-eq-true-iff (meaning trace f b e) (meaning trace g b e) .1
-      (lead-falls f (k .0) b e h (x .0), lead-falls g (k .1) b e h (x .1))
-  lead-falls (or f g) l b e h m =
+      and-eq-true-iff (meaning trace f b e) (meaning trace g b e) .1 (
+        lead-falls f (named-left _ _ same) (k .0) b e h (x .0),
+        lead-falls g (named-right (namesParameter (raw f)) _ same) (k .1) b e h (x .1),
+      )
+  lead-falls (or f g) same l b e h m =
       let k = and-eq-true-iff (lead (raw f)) (lead (raw g)) .0 l in
       either (meaning trace f b (suc e)) (meaning trace g b (suc e)) (meaning trace f b e) (meaning trace g b e)
-      (lead-falls f (k .0) b e h) (lead-falls g (k .1) b e h) m
-  lead-falls (then f g) l b e h m = absurd (false≢true l)
+      (lead-falls f (named-left _ _ same) (k .0) b e h)
+      (lead-falls g (named-right (namesParameter (raw f)) _ same) (k .1) b e h) m
+  lead-falls (then f g) same l b e h m = absurd (false≢true l)
 
 -- ---- `lag`
 

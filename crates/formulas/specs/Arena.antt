@@ -1,7 +1,9 @@
 -- A tree as numbers: records of four, operands before what joins them. Reading a rule writes it, compiling reads it.
 -- Each constructor has a kind of its own, so that the numbers determine the tree. Definitions only.
+use mathlib.Core.Bool.{Bool, _&&_}
 use mathlib.Core.List.{List, [], _∷_, _++_}
 use Prim.Native.Nat.{ℕ, _+_}
+use lib.Dec.{leb, eqb}
 use Rattle.traces.specs.Trace.{truth}
 use Rattle.traces.specs.Compare.{opNumber}
 use Rattle.traces.specs.declared.Op.the-variants.{Below as lt}
@@ -96,6 +98,11 @@ numKind (parameter n) = PARAMETER
 abbrev pub numValue : Num → ℕ
 numValue (literal n) = n
 numValue (parameter n) = n
+
+-- Whether a record of that kind, whose number after the comparison is b, has a parameter as its last number: a `len`'s,
+-- a count's or a lag's alone has an n (between them stands `RUN`, whose numbers are 0).
+abbrev pub recordNames : ℕ → ℕ → Bool
+recordNames k b = leb LEN k && (leb k FINE && eqb b PARAMETER)
 
 -- One record.
 abbrev pub row : ℕ → ℕ → ℕ → ℕ → List ℕ

@@ -4,6 +4,7 @@ pub mod Meaning
 pub mod Laws
 pub mod Tree
 pub mod Bounds
+pub mod Names
 pub mod Arena
 pub mod Raw
 pub mod Trials

@@ -2,5 +2,7 @@
 pub mod Choice
 pub mod Buffers
 pub mod Same
+pub mod All
+pub mod Fours
 pub mod Lines
 pub mod Decimals

@@ -3,4 +3,5 @@ pub mod Demand
 pub mod Widest
 pub mod Reached
 pub mod SameRule
+pub mod Own
 pub mod Runs

@@ -9,6 +9,7 @@ use Rattle.limits.specs.Limits.{standardCap, velocityCount}
 use Rattle.limits.specs.Context.{standardContext}
 use Rattle.lists.specs.Text.{bytes}
 use Rattle.traces.specs.declared.Tick.{Tick}
+use Rattle.traces.specs.Parameters.{parameterFits}
 use Rattle.formulas.specs.Raw.{raw}
 use Rattle.formulas.specs.Tree.{formulaOf}
 use Rattle.formulas.specs.Trials.{Trial, trials, ticksIn}
@@ -16,7 +17,7 @@ use Rattle.formulas.proofs.Trials.{through}
 use Rattle.tables.specs.Table.{Equation, kindOf, shapeOf, sameSort, isFlow, operandFits, shapeFits, lengthFits}
 use Rattle.tables.specs.Table.{equationsFit, closes, all, checked, isMemory}
 use Rattle.flows.specs.Flow.{increased, valueOf, flows, answerOf, memoriesSet, initial, inRange}
-use Rattle.flows.specs.Step.{freshened, freshChecked, stepped, stepChecked, afterTick, parameterFits, cellFits}
+use Rattle.flows.specs.Step.{freshened, freshChecked, stepped, stepChecked, afterTick, cellFits}
 use Rattle.flows.specs.Run.{Call, steps, fromFresh, answered}
 use Rattle.flows.specs.declared.Stepped.{Stepped}
 use Rattle.flows.specs.declared.Stepped.the-variants.{Verdict}

@@ -22,7 +22,6 @@ use Rattle.tables.specs.Table.{Equation, all}
 use Rattle.limits.specs.Limits.{parameterCount, standardCap, textLimit, equationLimit, tableRoom}
 use Rattle.limits.specs.declared.Context.{Context}
 use Rattle.flows.specs.Step.{AfterStep, freshened, stepped, stepChecked, steppedIf, afterTick as tickAfter}
-use Rattle.flows.specs.Step.{parameterFits}
 use Rattle.flows.specs.Run.{Call, Taken, steps, answered, callChecked}
 use Rattle.flows.proofs.Expected.{admitted as admittedTicks, expected}
 use Rattle.tables.specs.declared.Checked.{Checked}
@@ -47,6 +46,7 @@ use Rattle.cards.proofs.Ticks.{ticked}
 use Rattle.cards.specs.Says.{stageAt}
 use Rattle.cards.specs.declared.Phase.the-variants as P
 use Rattle.traces.specs.Trace.{tickOf}
+use Rattle.traces.specs.Parameters.{parameterFits, parametersFit}
 use Rattle.player.specs.Card.{worldIn, watchOf, Effect, owed}
 use Rattle.player.specs.Output.{outputBytes}
 use Rattle.player.specs.Shows.{TickLines, Closes, verdictLines}
@@ -92,8 +92,8 @@ module _ (cap velocities : ℕ) (t : List ℕ) (n : ℕ) where
         → callChecked cap velocities n v k ≡ Passed
     unfolding callChecked parameterFits
     admitted v k h e u =
-        let fit : all (parameterFits cap k) parameterCount ≡ true =
-        all-of (parameterFits cap k) parameterCount (λ i l. lt-ltb (getD (k .parameters) i 0) cap (rw e (low i))) in
+        let fit : parametersFit cap (k .parameters) ≡ true =
+        all-of (parameterFits cap (k .parameters)) parameterCount (λ i l. lt-ltb (getD (k .parameters) i 0) cap (rw e (low i))) in
         rw (le-leb _ _ h, fit, lt-ltb _ _ u)
 
     -- So all of these calls are: their ticks are ks, and a verdict is expected of each.

@@ -23,7 +23,14 @@ use Rattle.rules.specs.Reading.HasOutcome.{is-rule}
 use Rattle.rules.specs.Computed.{ruleOf}
 use Rattle.rules.specs.Contract.{answerOf}
 use Rattle.rules.proofs.Theorems.{has-outcome, computed, one-outcome, numbered, accepted, has-formula}
-use Rattle.rules.proofs.SameRule.{one-answer, same-tree, not-refused}
+use Rattle.rules.specs.Computed.{comparison}
+use Rattle.rules.specs.Same.{Within, SameValues}
+use Rattle.rules.specs.Same.HasSide.{within}
+use Rattle.rules.specs.Same.SameAnswer.{one-rule as yes}
+use Rattle.rules.proofs.Sides.{side-rule}
+use Rattle.rules.proofs.Sameness.{same-answer}
+use Rattle.rules.proofs.SameRule.{one-answer, same-tree, not-refused, yes-rule, reflexive, symmetric, transitive}
+use Rattle.rules.proofs.SameRule.{same-meaning}
 use Rattle.tables.specs.Table.{kindOf, checked}
 use Rattle.tables.specs.declared.Checked.the-variants.{Passed, Refused as Failed}
 use Rattle.tables.proofs.Checks.{failed-passed}
@@ -35,7 +42,7 @@ use Rattle.observers.specs.Demand.{Compiles}
 use Rattle.observers.specs.Demand.Compiles.{not-read, no-room, observed}
 use Rattle.observers.specs.declared.Compiled.{Compiled}
 use Rattle.observers.specs.declared.Compiled.the-variants.{Equations, Refused}
-use Rattle.observers.proofs.SameRule.{refused-equations}
+use Rattle.observers.proofs.SameRule.{refused-equations, same-answers}
 use Rattle.packing.specs.Laws.{Packs, PackAnswer}
 use Rattle.packing.specs.Laws.PackAnswer.{not-checked, no-room as no-second, packed}
 use Rattle.packing.specs.declared.Packed.{Packed}
@@ -45,7 +52,8 @@ use Rattle.packing.proofs.Again.{refused-packed, again, behind}
 use Rattle.lustre.proofs.Theorems as lustre
 use Rattle.player.specs.Card.{printed}
 use Rattle.player.proofs.Shown.{shown, one-output}
-use Rattle.promises.specs.Promises.{Reading, Meaning, Whether, Comparing, Compiling, RoundTrips, Promises}
+use Rattle.promises.specs.Promises.{Reading, Meaning, Whether, Comparing, Compiling, SameRule, SameRules}
+use Rattle.promises.specs.Promises.{RoundTrips, Promises}
 
 reading : (context : Context) → Reading context
 reading context =
@@ -59,7 +67,33 @@ reading context =
           h .answer
           ∙ ap answerOf (one-outcome context text (h .outcome) (k .outcome) (h .has) (k .has))
           ∙ sym (k .answer);
-      one-comparison = λ a b r r′ h k. one-answer h k;
+    }
+
+-- Where two texts are the same rule, one tree is read of both, and what is asked of the parameters holds.
+one-rule : {context : Context} {a ps b qs : List ℕ} → SameRule context a ps b qs
+    → (t : Tree) × HasOutcome context a (rule t) × HasOutcome context b (rule t) × Within ps × Within qs
+    × SameValues t ps qs
+one-rule h =
+    let s = yes-rule h refl in
+    let first = side-rule (s .first) in
+    let second = side-rule (s .second) in
+    (s .tree, first .0, second .0, first .1, second .1, s .values)
+
+same-rules : (context : Context) → SameRules context
+same-rules context =
+    record {
+      some-answer = λ a ps b qs. (comparison context a ps b qs, same-answer context a ps b qs _ refl);
+      one-answer = λ a ps b qs r r′ h k. one-answer h k;
+      exactly = λ a ps b qs. (
+        one-rule,
+        λ (t, h, k, w, w′, v). yes (within h w) (within k w′) v,
+      );
+      reflexive = reflexive context;
+      symmetric = symmetric context;
+      transitive = transitive context;
+      same-verdict = λ a ps b qs h t u e k f g is is′ trace i.
+          same-meaning context a ps b qs h t u e k f g is is′ trace 0 i .1;
+      same-answers = λ h c k. same-answers context _ _ _ _ h _ _ _ _ _ c k;
     }
 
 -- A truth value as a number.
@@ -210,6 +244,7 @@ kept =
         few-memories = λ c h rest. remembering-few c h rest;
         observes = λ c h is rest. observed-rule c refl h is rest;
       };
+      same-rules = same-rules;
       packing = λ velocities. record {
         refuses = refused-table;
         no-room = short-second;

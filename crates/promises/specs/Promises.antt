@@ -6,7 +6,7 @@
 -- Definitions only; proofs/Kept.antt proves all of it.
 --
 --   read_rule      Told           rules/specs/Contract.antt         a text and the answer
---   same_rule      SameAnswer     rules/specs/Same.antt             two texts and the answer
+--   same_rule      SameAnswer     rules/specs/Same.antt             two texts with their parameters, and the answer
 --   compile_rule   Compiles       observers/specs/Demand.antt       a text, the answer, the table before and after
 --   fresh_state    freshened      flows/specs/Step.antt             all of it as one equation
 --   step           stepped        flows/specs/Step.antt             all of it as one equation
@@ -24,6 +24,7 @@ use lib.ListN.{length, take, drop}
 use Rattle.limits.specs.Limits.{standardCap, literalCount, tableRoom, ruleEquations}
 use Rattle.limits.specs.declared.Context.{Context}
 use Rattle.traces.specs.Trace.{Trace, parameterAt}
+use Rattle.traces.specs.Parameters.{runWith}
 use Rattle.traces.specs.Compare.{opOf, compares, Compared}
 use Rattle.traces.specs.declared.Op.the-variants.{AtMost, Below, Equal, Above, AtLeast}
 use Rattle.traces.specs.declared.Tick.{Tick}
@@ -34,13 +35,15 @@ use Rattle.formulas.specs.Laws.{Means}
 use Rattle.rules.specs.Reading.{Admitted, Outcome, HasOutcome}
 use Rattle.rules.specs.Reading.Outcome.{rule, refused}
 use Rattle.rules.specs.Contract.{Told}
-use Rattle.rules.specs.Same.{SameAnswer}
+use Rattle.rules.specs.Same.{Within, SameValues, SameAnswer}
 use Rattle.rules.specs.declared.Read.{Read}
 use Rattle.rules.specs.declared.Same.{Same}
+use Rattle.rules.specs.declared.Same.the-variants.{Yes}
 use Rattle.tables.specs.Table.{Equation, kindOf, checked}
 use Rattle.tables.specs.declared.Checked.the-variants.{Passed, Refused as Failed}
 use Rattle.flows.specs.Flow.{valueOf}
 use Rattle.flows.specs.Lustre.{RunsAsLustre}
+use Rattle.flows.specs.Run.{Call, callWith, fromFresh, answered}
 use Rattle.agreement.specs.Agreement.{Closing, ExactMemories, FewMemories, Observes}
 use Rattle.observers.specs.Demand.{Compiles}
 use Rattle.observers.specs.declared.Compiled.{Compiled}
@@ -67,9 +70,8 @@ pub record Reading (context : Context) : Type 0 where
   pub numbered : (text : List ℕ) (k : ℕ) → HasOutcome context text (refused k) → (1 ≤ k) × (k ≤ 8)
   -- What is read has a formula, and so a meaning.
   pub formula : (text : List ℕ) (t : Tree) → HasOutcome context text (rule t) → (f : Formula) × (formulaOf t ≡ some f)
-  -- The contracts of reading and comparing settle the answers (SPEC 12.4).
+  -- The contract of reading settles the answer (SPEC 12.4).
   pub one-answer : (text : List ℕ) (r r′ : Read) → Told context text r → Told context text r′ → r ≡ r′
-  pub one-comparison : (a b : List ℕ) (r r′ : Same) → SameAnswer context a b r → SameAnswer context a b r′ → r ≡ r′
 
 -- The interval meaning has the clauses SPEC 4.1 to SPEC 4.11, each as a law, and what has these laws is the meaning.
 pub record Meaning (trace : Trace) : Type 1 where
@@ -131,6 +133,41 @@ pub record Compiling (context : Context) : Type 0 where
       → Compiles context text before (Equations n) after → HasOutcome context text (rule t) → formulaOf t ≡ some f
       → (rest : List ℕ) → Observes standardCap (context .velocities) (take (4 * n) after ++ rest) n f
 
+-- SPEC 8.3: a with the parameters ps and b with the parameters qs are the same rule.
+abbrev pub SameRule : Context → List ℕ → List ℕ → List ℕ → List ℕ → Type 0
+SameRule context a ps b qs = SameAnswer context a ps b qs Yes
+
+-- Comparing two texts, each with its parameters.
+pub record SameRules (context : Context) : Type 0 where
+  -- SPEC 12.1 (demand 1): any two have an answer, and one (SPEC 12.4).
+  pub some-answer : (a ps b qs : List ℕ) → (r : Same) × SameAnswer context a ps b qs r
+  pub one-answer : (a ps b qs : List ℕ) (r r′ : Same) → SameAnswer context a ps b qs r → SameAnswer context a ps b qs r′
+      → r ≡ r′
+  -- It is yes exactly if both are rules with one tree, the parameters are admitted, and those that the tree names have
+  -- the same values.
+  pub exactly : (a ps b qs : List ℕ)
+      → SameRule context a ps b qs
+      ↔ ((t : Tree) × HasOutcome context a (rule t) × HasOutcome context b (rule t) × Within ps × Within qs
+      × SameValues t ps qs)
+  -- To be the same rule is an equivalence on rules with admitted parameters.
+  pub reflexive : (a ps : List ℕ) (t : Tree) → HasOutcome context a (rule t) → Within ps → SameRule context a ps a ps
+  pub symmetric : (a ps b qs : List ℕ) → SameRule context a ps b qs → SameRule context b qs a ps
+  pub transitive : (a ps b qs c rs : List ℕ) → SameRule context a ps b qs → SameRule context b qs c rs
+      → SameRule context a ps c rs
+  -- At every tick of every trace both have the same verdict, each with its own parameters.
+  pub same-verdict : (a ps b qs : List ℕ) → SameRule context a ps b qs → (t u : Tree) → HasOutcome context a (rule t)
+      → HasOutcome context b (rule u) → (f g : Formula) → formulaOf t ≡ some f → formulaOf u ≡ some g
+      → (trace : Trace) (e : ℕ) → verdict (runWith ps trace) f e ≡ verdict (runWith qs trace) g e
+  -- Two tables of as many equations, compiled of the one and of the other: over every list of calls from the fresh
+  -- state, refused ones included, the steps answer the same, each side with its own parameters. That `compile_rule`
+  -- leaves the same equations of both is `same-tables` (observers, proofs/SameRule.antt).
+  pub same-answers : {a ps b qs before before′ t u : List ℕ} {n : ℕ} → SameRule context a ps b qs
+      → Compiles context a before (Equations n) t → Compiles context b before′ (Equations n) u
+      → (rest rest′ old old′ : List ℕ) → n ≤ length old → n ≤ length old′ → (calls : List Call)
+      → let velocities = context .velocities in
+      answered (fromFresh standardCap velocities (take (4 * n) t ++ rest) n old (map (callWith ps) calls))
+      ≡ answered (fromFresh standardCap velocities (take (4 * n) u ++ rest′) n old′ (map (callWith qs) calls))
+
 -- SPEC 16.1 (packing). A table with a refusal of 10 or 11 gets that, one that passes with too short a second table 9
 -- (SPEC 7.9), and both leave the second table as it was. Else the n′ equations at the front of the second table,
 -- whatever stands after them, are the given table's, packed.
@@ -187,6 +224,7 @@ pub record Promises : Type 1 where
   pub comparing : Comparing
   pub running : (velocities : ℕ) → Running velocities
   pub compiling : (context : Context) → Compiling context
+  pub same-rules : (context : Context) → SameRules context
   pub packing : (velocities : ℕ) → Packing velocities
   pub round-trips : (velocities : ℕ) → velocities ≤ literalCount → RoundTrips velocities
   pub cards : Cards

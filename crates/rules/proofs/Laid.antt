@@ -16,7 +16,7 @@ use Rattle.formulas.specs.Arena.{flat}
 use Rattle.rules.specs.Reading.{Outcome}
 use Rattle.rules.specs.Reading.Outcome.{refused, rule}
 use Rattle.rules.specs.Contract.{answerOf}
-use Rattle.rules.specs.Computed.{ruleOf}
+use Rattle.rules.specs.Computed.{ruleOf, sideOf}
 use Rattle.rules.specs.Laid.{Readable, Laid, recordsOf, recordsRefusal}
 use Rattle.rules.specs.declared.Read.the-variants.{Rule, Refused}
 use Rattle.rules.specs.declared.Records.{Records}
@@ -41,6 +41,12 @@ module _ {context : Context} (e : context ≡ standardContext) where
       → Laid (ruleOf context text) before r after → Laid (ruleOf standardContext text) before r after
   standard-laid text {before} {r} {after} h =
       subst (λ (x : Context). Laid (ruleOf x text) before r after) e h
+
+  pub standard-side : (ps text : List ℕ) {before : List ℕ} {r : Records} {after : List ℕ}
+      → Laid (sideOf ps (ruleOf context text)) before r after
+      → Laid (sideOf ps (ruleOf standardContext text)) before r after
+  standard-side ps text {before} {r} {after} h =
+      subst (λ (x : Context). Laid (sideOf ps (ruleOf x text)) before r after) e h
 
 -- An answer with records is not one with a refusal.
 no-records : {n k m : ℕ} → No-records m ≡ Tree-records n k → ⊥

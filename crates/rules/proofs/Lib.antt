@@ -4,6 +4,8 @@ pub mod Theorems
 pub mod SameRule
 pub mod Laid
 pub mod Sameness
+pub mod Sides
+mod Values
 mod Decided
 mod Passes
 mod Outcomes

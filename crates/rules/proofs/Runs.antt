@@ -66,8 +66,8 @@ pub further-runs : (i : ℕ) → i < 45 → RowHolds (getD furtherTrials i blank
 further-runs = holds furtherTrials further-read further-counted further-remember further-meant
 
 -- SPEC 4.11: with n = 0 and with n = 1 a `lag` is not the same rule.
-pub lag-differs :
-    sameOf (ruleOf standardContext (bytes "lag[s0,0,s1]")) (ruleOf standardContext (bytes "lag[s0,1,s1]")) ≡ No
+pub lag-differs : (ps qs : List ℕ)
+    → sameOf ps qs (ruleOf standardContext (bytes "lag[s0,0,s1]")) (ruleOf standardContext (bytes "lag[s0,1,s1]")) ≡ No
 unfolding ruleOf splitOf words wordOf runOf run classOf keywordOf keywordAmong numberOf isDigit digitsAfter numeral
     treeOf read parse isOp isSignal isNum isVelocity isBit isTest isCount hasWord deep counted operatorCount
-lag-differs = refl
+lag-differs ps qs = refl

@@ -1,23 +1,32 @@
--- What it is to be the same rule (SPEC 8.3): it is settled for any two texts, an equivalence on readable texts, and
--- such texts have the same meaning on every interval. Assumes nothing.
-use mathlib.Core.Path.{_≡_, refl, sym, ap, _∙_, subst}
+-- What it is to be the same rule (SPEC 8.3): it is settled for any two texts with their parameters, an equivalence on
+-- those that are rules, and such rules have the same meaning on every interval and the same verdict at every tick of
+-- every trace, each with its own parameters. Assumes nothing.
+use mathlib.Core.Bool.{true}
+use mathlib.Core.Path.{_≡_, refl, sym, ap, _∙_, subst, subst₂}
 use mathlib.Core.List.{List}
 use mathlib.Core.Option.{some}
 use Prim.Native.Nat.{ℕ}
 use native.Mathlib.Omega.{arith}
 use Rattle.limits.specs.declared.Context.{Context}
 use Rattle.traces.specs.Trace.{Trace}
+use Rattle.traces.specs.Parameters.{runWith}
 use Rattle.formulas.specs.Formula.{Formula}
+use Rattle.formulas.specs.Names.{namesParameter}
+use Rattle.formulas.specs.Raw.{raw}
 use Rattle.formulas.specs.Tree.{Tree, formulaOf}
 use Rattle.formulas.specs.Meaning.{meaning, verdict}
+use Rattle.formulas.proofs.Alike.{SameNamed, meaning-alike, verdict-alike}
+use Rattle.formulas.proofs.Formulas.{formula-raw}
 use Rattle.rules.specs.Reading.{HasOutcome}
 use Rattle.rules.specs.Reading.Outcome.{refused, rule}
-use Rattle.rules.specs.Same.{SameAnswer}
-use Rattle.rules.specs.Same.SameAnswer.{first-refused, second-refused, one-tree, two-trees}
+use Rattle.rules.specs.Same.{Within, HasSide, SameValues, SameAnswer}
+use Rattle.rules.specs.Same.HasSide.{within}
+use Rattle.rules.specs.Same.SameAnswer.{first-refused, second-refused, one-rule, two-trees, two-values}
 use Rattle.rules.specs.declared.Same.{Same}
 use Rattle.rules.specs.declared.Same.the-variants.{Yes, No, Refused}
 use Rattle.rules.proofs.Decided.{refused-rule}
 use Rattle.rules.proofs.Theorems.{one-outcome}
+use Rattle.rules.proofs.Sides.{one-side, side-rule}
 use Rattle.rules.proofs.Sameness.{computed-answer}
 
 -- The other answers are not yes.
@@ -27,15 +36,14 @@ refused-yes q = let z : _≡_ {A = ℕ} 0 1 = cc in omega arith
 no-yes : No ≡ Yes → ⊥
 no-yes q = let z : _≡_ {A = ℕ} 0 1 = cc in omega arith
 
-module _ {context : Context} where
-  -- SPEC 8.3: where the answer is yes the texts have one tree, and the other way round (`tree-yes`).
-  pub yes-tree : {a b : List ℕ} {r : Same} → SameAnswer context a b r → r ≡ Yes
-      → (t : Tree) × HasOutcome context a (rule t) × HasOutcome context b (rule t)
-  yes-tree (first-refused e) q = absurd (refused-yes q)
-  yes-tree (second-refused e f) q = absurd (refused-yes q)
-  yes-tree (one-tree {t} e f) q = (t, e, f)
-  yes-tree (two-trees e f n) q = absurd (no-yes q)
+-- Both sides have one tree, and the parameters that it names the same values.
+pub record OneRule (context : Context) (a ps b qs : List ℕ) : Type 0 where
+  pub tree : Tree
+  pub first : HasSide context a ps (rule tree)
+  pub second : HasSide context b qs (rule tree)
+  pub values : SameValues tree ps qs
 
+module _ {context : Context} where
   -- A text that is a rule is not refused, and has one tree.
   pub not-refused : {a : List ℕ} {t : Tree} {n : ℕ} → HasOutcome context a (rule t) → HasOutcome context a (refused n)
       → ⊥
@@ -44,47 +52,75 @@ module _ {context : Context} where
   pub same-tree : {a : List ℕ} {t u : Tree} → HasOutcome context a (rule t) → HasOutcome context a (rule u) → t ≡ u
   same-tree {a} {t} {u} h k = let e : rule t ≡ rule u = one-outcome context a _ _ h k in cc
 
-  pub tree-yes : {a b : List ℕ} {r : Same} (t : Tree) → HasOutcome context a (rule t) → HasOutcome context b (rule t)
-      → SameAnswer context a b r → r ≡ Yes
-  tree-yes t p q (first-refused e) = absurd (not-refused p e)
-  tree-yes t p q (second-refused e f) = absurd (not-refused q f)
-  tree-yes t p q (one-tree e f) = refl
-  tree-yes t p q (two-trees e f n) = absurd (n (same-tree e p ∙ same-tree q f))
+  -- SPEC 8.3: where the answer is yes both sides are one rule, and the other way round (`rule-yes`).
+  pub yes-rule : {a ps b qs : List ℕ} {r : Same} → SameAnswer context a ps b qs r → r ≡ Yes → OneRule context a ps b qs
+  yes-rule (first-refused h) q = absurd (refused-yes q)
+  yes-rule (second-refused h k) q = absurd (refused-yes q)
+  yes-rule (one-rule {t} h k v) q = record { tree = t; first = h; second = k; values = v }
+  yes-rule (two-trees h k n) q = absurd (no-yes q)
+  yes-rule (two-values j h k n v) q = absurd (no-yes q)
 
-  -- Two texts have one answer.
-  pub one-answer : {a b : List ℕ} {r r′ : Same} → SameAnswer context a b r → SameAnswer context a b r′ → r ≡ r′
-  one-answer {a} {b} h k = computed-answer context a b h ∙ sym (computed-answer context a b k)
+  -- Two texts with their parameters have one answer.
+  pub one-answer : {a ps b qs : List ℕ} {r r′ : Same} → SameAnswer context a ps b qs r → SameAnswer context a ps b qs r′
+      → r ≡ r′
+  one-answer {a} {ps} {b} {qs} h k = computed-answer context a ps b qs h ∙ sym (computed-answer context a ps b qs k)
 
--- ---- an equivalence on texts that are rules
+  pub rule-yes : {a ps b qs : List ℕ} {r : Same} → OneRule context a ps b qs → SameAnswer context a ps b qs r → r ≡ Yes
+  rule-yes h k = one-answer k (one-rule (h .first) (h .second) (h .values))
 
-abbrev pub SameRule : Context → List ℕ → List ℕ → Type 0
-SameRule context a b = SameAnswer context a b Yes
+-- ---- an equivalence on texts that are rules, with parameters that are admitted
+
+abbrev pub SameRule : Context → List ℕ → List ℕ → List ℕ → List ℕ → Type 0
+SameRule context a ps b qs = SameAnswer context a ps b qs Yes
 
 module _ (context : Context) where
-  pub reflexive : (a : List ℕ) (t : Tree) → HasOutcome context a (rule t) → SameRule context a a
-  reflexive a t e = one-tree e e
+  pub reflexive : (a ps : List ℕ) (t : Tree) → HasOutcome context a (rule t) → Within ps → SameRule context a ps a ps
+  reflexive a ps t h w = one-rule (within h w) (within h w) (λ j n. refl)
 
-  pub symmetric : (a b : List ℕ) → SameRule context a b → SameRule context b a
-  symmetric a b h = let s = yes-tree h refl in one-tree (s .2) (s .1)
+  pub symmetric : (a ps b qs : List ℕ) → SameRule context a ps b qs → SameRule context b qs a ps
+  symmetric a ps b qs h =
+      let s = yes-rule h refl in
+      one-rule (s .second) (s .first) (λ j n. sym (s .values j n))
 
-  pub transitive : (a b c : List ℕ) → SameRule context a b → SameRule context b c → SameRule context a c
-  transitive a b c h k =
-      let s = yes-tree h refl in
-      let u = yes-tree k refl in
-      one-tree (s .1) (subst (λ (t : Tree). HasOutcome context c (rule t)) (sym (same-tree (s .2) (u .1))) (u .2))
+  pub transitive : (a ps b qs c rs : List ℕ) → SameRule context a ps b qs → SameRule context b qs c rs
+      → SameRule context a ps c rs
+  transitive a ps b qs c rs h k =
+      let s = yes-rule h refl in
+      let u = yes-rule k refl in
+      let trees : u .tree ≡ s .tree = same-tree (side-rule (u .first) .0) (side-rule (s .second) .0) in
+      let third = subst (λ (t : Tree). HasSide context c rs (rule t)) trees (u .second) in
+      one-rule (s .first) third (λ j n. s .values j n ∙ u .values j (rw trees n))
 
   -- ---- one meaning
 
-  module _ (a b : List ℕ) (h : SameRule context a b) (t u : Tree) (e : HasOutcome context a (rule t))
+  module _ (a ps b qs : List ℕ) (h : SameRule context a ps b qs) (t u : Tree) (e : HasOutcome context a (rule t))
       (k : HasOutcome context b (rule u)) where
-    -- Texts that are the same rule have one formula,
-    pub same-formula : formulaOf t ≡ formulaOf u
-    same-formula = let s = yes-tree h refl in ap formulaOf (same-tree e (s .1) ∙ same-tree (s .2) k)
+    abbrev s : OneRule context a ps b qs
+    s = yes-rule h refl
 
-    -- and so one meaning on every interval and one verdict at every tick.
+    -- The two texts have one tree, so one formula,
+    pub same-formula : formulaOf t ≡ formulaOf u
+    same-formula = ap formulaOf (same-tree e (side-rule (s .first) .0) ∙ same-tree (side-rule (s .second) .0) k)
+
+    -- whose named parameters have the same values on both sides,
+    named-values : (f : Formula) → formulaOf t ≡ some f → (trace : Trace)
+        → SameNamed (runWith ps trace) (runWith qs trace) (namesParameter (raw f))
+    named-values f p trace j n i =
+        let trees : raw f ≡ s .tree = sym (formula-raw t f p) ∙ same-tree e (side-rule (s .first) .0) in
+        s .values j (rw (← trees) n)
+
+    -- and so one meaning on every interval and one verdict at every tick, each with its own parameters.
     pub same-meaning : (f g : Formula) → formulaOf t ≡ some f → formulaOf u ≡ some g → (trace : Trace) (i j : ℕ)
-        → (meaning trace f i j ≡ meaning trace g i j) × (verdict trace f j ≡ verdict trace g j)
+        → (meaning (runWith ps trace) f i j ≡ meaning (runWith qs trace) g i j)
+        × (verdict (runWith ps trace) f j ≡ verdict (runWith qs trace) g j)
     same-meaning f g p q trace i j =
         let both = same-formula in
         let same : f ≡ g = cc in
-        (ap (λ (x : Formula). meaning trace x i j) same, ap (λ (x : Formula). verdict trace x j) same)
+        let named = named-values f p trace in
+        let own : Trace = runWith ps trace in
+        let other : Trace = runWith qs trace in (
+          meaning-alike own other (λ k. refl) (λ k. refl) f named i j
+              ∙ ap (λ (x : Formula). meaning other x i j) same,
+          verdict-alike own other (λ k. refl) (λ k. refl) (λ k. refl) f named j
+              ∙ ap (λ (x : Formula). verdict other x j) same,
+        )

@@ -9,11 +9,12 @@ ghost use lib.Dec.{eqb};
 ghost use lib.ListN.{length};
 ghost use Rattle.limits.specs.Limits.{wordLimit, arenaLimit};
 ghost use Rattle.limits.specs.Context.{standardContext};
+ghost use Rattle.formulas.specs.Arena.{recordNames};
 ghost use Rattle.grammar.specs.Fragment.{beyond};
 ghost use Rattle.words.specs.Word.{CHOP, EXISTS};
 ghost use Rattle.words.specs.Split.Out.{made};
 ghost use Rattle.rules.specs.Limits.{bracketLimit, opened, deep, counted, beyondLimits};
-ghost use Rattle.rules.specs.Computed.{ruleOf, ofWords, sameOf};
+ghost use Rattle.rules.specs.Computed.{ruleOf, ofWords, sideOf, valueAgrees, valuesAgree, comparison};
 ghost use Rattle.rules.specs.Same.{SameAnswer};
 ghost use Rattle.rules.specs.Contract.{answerOf, Told};
 ghost use Rattle.rules.specs.Laid.{Readable, Laid, splitRefusal, recordsRefusal};
@@ -197,24 +198,103 @@ pub fn read_rule(text: &[u8]) -> Read
     Read::Rule(nodes)
 }
 
-// Same rule (SPEC 8.3): the refusal of the first text, or else of the second; or else whether they have one tree.
-pub fn same_rule(first: &[u8], second: &[u8]) -> Same
-    ensures { λ r. ⌜ r
-        ≡ sameOf (ruleOf standardContext (now (first .entry))) (ruleOf standardContext (now (second .entry))) ⌝ }
-    ensures { λ r. ⌜ SameAnswer standardContext (now (first .entry)) (now (second .entry)) r ⌝ }
+// One side of a comparison: refusals 1 to 8 of the text, then 13 of its parameters, or the tree's records in the arena.
+fn read_side(
+    context: Context,
+    text: &[u8],
+    parameters: &[u32; limits::PARAMETERS],
+    arena: &mut [u32],
+) -> Records
+    requires { ⌜ Readable context (now arena) ⌝ }
+    ensures { λ r. ⌜ Laid (sideOf (now (parameters .entry)) (ruleOf context (now (text .entry)))) (now (arena .entry)) r
+        (now (arena .exit)) ⌝ }
+{
+    let records = read_tree(context, text, arena);
+    let Records::Rule(n, nodes) = records else {
+        return Records::Refused(records_refusal(records));
+    };
+    if !traces::parameters_fit(limits::LITERALS, parameters) {
+        return Records::Refused(13);
+    }
+    Records::Rule(n, nodes)
+}
+
+// Whether a record of that kind, whose number after the comparison is b, names a parameter.
+fn names_parameter(kind: u32, b: u32) -> bool
+    ensures { λ r. ⌜ r ≡ recordNames kind b ⌝ }
+{
+    if kind < formulas::LEN {
+        return false;
+    }
+    if formulas::FINE < kind {
+        return false;
+    }
+    b == formulas::PARAMETER
+}
+
+// Whether the parameter that a record names, if it names one, has the same value on both sides.
+fn value_agrees(
+    kind: u32,
+    b: u32,
+    c: u32,
+    ps: &[u32; limits::PARAMETERS],
+    qs: &[u32; limits::PARAMETERS],
+) -> bool
+    ensures { λ r. ⌜ r ≡ valueAgrees (now (ps .entry)) (now (qs .entry)) kind b c ⌝ }
+{
+    if !names_parameter(kind, b) {
+        return true;
+    }
+    let j = c as usize;
+    lists::number_at(ps, j) == lists::number_at(qs, j)
+}
+
+// The same of each record.
+fn values_agree(
+    records: &[u32],
+    ps: &[u32; limits::PARAMETERS],
+    qs: &[u32; limits::PARAMETERS],
+) -> bool
+    ensures { λ r. ⌜ r ≡ valuesAgree (now (ps .entry)) (now (qs .entry)) (now (records .entry)) ⌝ }
+{
+    let mut i = 0;
+    while i + 4 <= records.len() {
+        if !value_agrees(records[i], records[i + 2], records[i + 3], ps, qs) {
+            return false;
+        }
+        i += 4;
+    }
+    true
+}
+
+// Same rule (SPEC 8.3): the refusal of the first text or else 13 of its parameters, or else the second's; or else
+// whether the texts have one tree and the parameters that it names the same values.
+pub fn same_rule(
+    first: &[u8],
+    ps: &[u32; limits::PARAMETERS],
+    second: &[u8],
+    qs: &[u32; limits::PARAMETERS],
+) -> Same
+    ensures { λ r. ⌜ r ≡ comparison standardContext (now (first .entry)) (now (ps .entry))
+        (now (second .entry)) (now (qs .entry)) ⌝ }
+    ensures { λ r. ⌜ SameAnswer standardContext (now (first .entry)) (now (ps .entry))
+        (now (second .entry)) (now (qs .entry)) r ⌝ }
 {
     let context = limits::standard();
     let mut arena = [0u32; limits::ARENA];
-    let records = read_tree(context, first, &mut arena);
+    let records = read_side(context, first, ps, &mut arena);
     let Records::Rule(n, _) = records else {
         return Same::Refused(records_refusal(records));
     };
     let mut other = [0u32; limits::ARENA];
-    let others = read_tree(context, second, &mut other);
+    let others = read_side(context, second, qs, &mut other);
     let Records::Rule(m, _) = others else {
         return Same::Refused(records_refusal(others));
     };
-    if lists::same_numbers(&arena[..n], &other[..m]) {
+    if !lists::same_numbers(&arena[..n], &other[..m]) {
+        return Same::No;
+    }
+    if values_agree(&arena[..n], ps, qs) {
         return Same::Yes;
     }
     Same::No

@@ -1,29 +1,80 @@
-// Reads pairs of lines of standard input as two rule texts and prints whether they are the same rule (SPEC 8.3), which
-// brackets and spaces do not change (SPEC 3.7). The lines of `stdin` and `stdout` are written by hand from the
-// specification.
+// Reads pairs of lines of standard input as two rules and prints whether they are the same rule (SPEC 8.3). A line has
+// the eight parameters as decimal numbers, a space after each, and then the rule text. Brackets and spaces of a text do
+// not count (SPEC 3.7), nor does a parameter that the tree does not name (SPEC 3.11); the parameters can be refused
+// (SPEC 7.13). The lines of `stdin` and `stdout` are written by hand from the specification.
 use libc::STDIN_FILENO;
 use libc::STDOUT_FILENO;
+use lists::Decimal;
 use rules::Same;
+ghost use Prim.Native.Nat.{_≤_};
+ghost use lib.ListN.{length};
 
-// Prints the answer for two texts, and the texts.
-fn show(first: &[u8], second: &[u8]) {
-    match rules::same_rule(first, second) {
-        Same::Yes => {
-            io::write_all(STDOUT_FILENO, b"yes");
+// The highest number that a line can have: also those that are refused can be given.
+const HIGHEST: u32 = 4294967295;
+
+fn say(text: &[u8]) {
+    io::write_all(STDOUT_FILENO, text);
+}
+
+// Says that a line does not begin with eight numbers, which no line of `stdout` says: there is no text behind them.
+fn say_broken(line: &[u8]) -> usize
+    ensures { λ r. ⌜ r ≤ length (now (line .entry)) ⌝ }
+{
+    say(b"no eight numbers: ");
+    line.len()
+}
+
+// Sets the parameters to the eight numbers that a line begins with: the place of the text behind them.
+fn read_parameters(line: &[u8], parameters: &mut [u32; limits::PARAMETERS]) -> usize
+    ensures { λ r. ⌜ r ≤ length (now (line .entry)) ⌝ }
+{
+    let mut at = 0;
+    let mut i = 0;
+    while i < limits::PARAMETERS {
+        let Decimal::Is { value, next } = lists::read_decimal(line, at, HIGHEST) else {
+            return say_broken(line);
+        };
+        if line.len() <= next {
+            return say_broken(line);
         }
-        Same::No => {
-            io::write_all(STDOUT_FILENO, b"no");
+        if line[next] != b' ' {
+            return say_broken(line);
         }
+        parameters[i] = value;
+        at = next + 1;
+        i += 1;
+    }
+    at
+}
+
+fn say_same(same: Same) {
+    match same {
+        Same::Yes => say(b"yes"),
+        Same::No => say(b"no"),
         Same::Refused(n) => {
-            io::write_all(STDOUT_FILENO, b"refused=");
+            say(b"refused=");
             io::print_decimal(STDOUT_FILENO, n as u64);
         }
     }
-    io::write_all(STDOUT_FILENO, b": ");
-    io::write_all(STDOUT_FILENO, first);
-    io::write_all(STDOUT_FILENO, b" / ");
-    io::write_all(STDOUT_FILENO, second);
-    io::write_all(STDOUT_FILENO, b"\n");
+}
+
+// Prints the answer for two lines, and the lines.
+fn show(first: &[u8], second: &[u8]) {
+    let mut first_parameters = [0u32; limits::PARAMETERS];
+    let first_text = read_parameters(first, &mut first_parameters);
+    let mut second_parameters = [0u32; limits::PARAMETERS];
+    let second_text = read_parameters(second, &mut second_parameters);
+    say_same(rules::same_rule(
+        &first[first_text..],
+        &first_parameters,
+        &second[second_text..],
+        &second_parameters,
+    ));
+    say(b": ");
+    say(first);
+    say(b" / ");
+    say(second);
+    say(b"\n");
 }
 
 // Shows each pair of lines.

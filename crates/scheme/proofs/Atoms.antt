@@ -5,7 +5,6 @@ use mathlib.Core.List.{[], _∷_}
 use mathlib.Core.Path.{_≡_, sym, ap, _∙_}
 use Prim.Native.Nat.{ℕ, zero, suc, _<_, min}
 use native.Mathlib.Nat.{min-zero}
-use borrow.Author.Tests.{ltb-true}
 use Rattle.traces.specs.Trace.{Trace, parameterAt}
 use Rattle.traces.specs.Compare.{opNumber, compares}
 use Rattle.traces.specs.declared.Op.{Op}
@@ -13,10 +12,8 @@ use Rattle.traces.proofs.Laws.{op-number}
 use Rattle.formulas.specs.Formula.{Num}
 use Rattle.formulas.specs.Formula.Num.{literal, parameter}
 use Rattle.formulas.specs.Meaning.{value, each, tally, streak}
-use Rattle.formulas.specs.Bounds.{numBound}
 use Rattle.formulas.specs.Arena.{numKind, numValue}
 use Rattle.tables.specs.Table.{kindOf}
-use Rattle.limits.specs.Limits.{parameterCount}
 use Rattle.scheme.specs.Scheme.{_⊕_, comparisonOf}
 use Rattle.tables.specs.Table.{equation}
 use Rattle.scheme.specs.Emit.{begin-es, point-es, kept-es, held-es, len-es, sum-es, run-es}
@@ -117,15 +114,11 @@ module _ (cap : ℕ) (trace : Trace) (flow : ℕ → ℕ → ℕ) where
         rw (counted, more, negated (suc (b ⊕ d)), since .1, memory, len-is o op x h b d (since .0))
         (increased-held cap d true)
 
--- The comparison of a held count, where the parameters are below the cap.
-module _ (cap velocities : ℕ) (trace : Trace) (flow : ℕ → ℕ → ℕ) where
-  pub compare-is : ((k j : ℕ) → j < parameterCount → parameterAt (trace k) j < cap) → (i a : ℕ) (op : Op) (x : Num)
-      → numBound cap velocities x ≡ true → Stand cap trace flow i
-      (equation (comparisonOf (numKind x)) a (opNumber op) (numValue x) ∷ [])
-      → (k c : ℕ) → flow k a ≡ min cap c → on flow i k ≡ compares op c (value x (trace k))
+  -- The comparison of a held count with an x that is below the cap.
+  pub compare-is : (i a : ℕ) (op : Op) (x : Num)
+      → Stand cap trace flow i (equation (comparisonOf (numKind x)) a (opNumber op) (numValue x) ∷ [])
+      → (k c : ℕ) → value x (trace k) < cap → flow k a ≡ min cap c → on flow i k ≡ compares op c (value x (trace k))
   unfolding kindOf
-  compare-is small i a op (literal n) bound h k c e =
-      rw (h .0 k, op-number, e) (compares-held cap op c n (ltb-true n cap bound))
-  compare-is small i a op (parameter j) bound h k c e =
-      let below = small k j (ltb-true j parameterCount bound) in
-      rw (h .0 k, op-number, e) (compares-held cap op c (parameterAt (trace k) j) below)
+  compare-is i a op (literal n) h k c small e = rw (h .0 k, op-number, e) (compares-held cap op c n small)
+  compare-is i a op (parameter j) h k c small e =
+      rw (h .0 k, op-number, e) (compares-held cap op c (parameterAt (trace k) j) small)

@@ -1,26 +1,28 @@
 -- The equations of a proposition give what it says at each tick; those of a formula give, from the latest start of
--- their start flow on, the formula's meaning. The equations of the velocity tests stand at a place of their own.
--- Assumes nothing.
-use mathlib.Core.Bool.{Bool, true, not, _&&_, _||_, or-true, and-eq-true-iff}
+-- their start flow on, the formula's meaning, if each parameter that it names has one value at all ticks, below the
+-- cap. The equations of the velocity tests stand at a place of their own. Assumes nothing.
+use mathlib.Core.Bool.{Bool, true, not, _&&_, _||_, and-eq-true-iff}
 use mathlib.Core.List.{List, _++_}
 use mathlib.Core.Path.{_≡_, refl, ap, ap₂, _∙_}
 use Prim.Native.Nat.{ℕ, suc, _<_}
 use native.Mathlib.Omega.{arith}
 use borrow.Author.Tests.{eq-eqb}
-use Rattle.traces.specs.Trace.{Trace, signalAt, parameterAt}
+use Rattle.traces.specs.Trace.{Trace, signalAt}
+use Rattle.traces.specs.declared.Op.{Op}
 use Rattle.traces.proofs.Laws.{nonzero-truth, op-number}
-use Rattle.formulas.specs.Formula.{Num, Prop, Formula}
+use Rattle.formulas.specs.Formula.{Num, Count, Prop, Formula}
 use Rattle.formulas.specs.Formula.Prop.{constant, signal, velocity, negP, andP, orP}
 use Rattle.formulas.specs.Formula.Test.{begin, end, point, held, kept}
 use Rattle.formulas.specs.Formula.Count.{sum, age}
 use Rattle.formulas.specs.Formula.Formula.{test, len, count, lag, neg, and, or, then}
-use Rattle.formulas.specs.Meaning.{holds, at, tally, streak, meaning}
+use Rattle.formulas.specs.Meaning.{holds, value, at, tally, streak, meaning}
 use Rattle.formulas.specs.Tree.{lead, leads}
 use Rattle.formulas.specs.Bounds.{bounded, numBound}
+use Rattle.formulas.specs.Names.{numNames, namesParameter}
 use Rattle.formulas.specs.Raw.{rawP, raw}
-use Rattle.formulas.proofs.Meaning.{value-same, lead-falls}
+use Rattle.formulas.proofs.Named.{Unchanging, Steady, named-left, named-right, value-same, value-small}
+use Rattle.formulas.proofs.Meaning.{lead-falls}
 use Rattle.tables.specs.Table.{Equation, kindOf}
-use Rattle.limits.specs.Limits.{parameterCount}
 use Rattle.scheme.specs.Scheme.{_⊕_}
 use Rattle.scheme.specs.Emit.{Block, placeAfter, testsP, testsOf, nextTestP, nextTest, emitP, emit}
 use Rattle.scheme.specs.Emit.{namedByP, namedBy, lead-end-es, then-es}
@@ -61,13 +63,6 @@ module _ (cap velocities : ℕ) (trace : Trace) (flow : ℕ → ℕ → ℕ) whe
     -- The flow of each named signal is the signal.
     abbrev pub Signals : (ℕ → Bool) → Type 0
     Signals named = (j : ℕ) → named j ≡ true → (k : ℕ) → on flow (flowOf j) k ≡ signalAt (trace k) j
-
-    -- What either of two names, both together name.
-    named-left : (x y : ℕ → Bool) → Signals (λ j. x j || y j) → Signals x
-    named-left x y h j e = h j (rw e)
-
-    named-right : (x y : ℕ → Bool) → Signals (λ j. x j || y j) → Signals y
-    named-right x y h j e = h j (rw e (or-true (x j)))
 
     -- The equations of a proposition, where they stand from place o on and those of its tests from place t on, give
     -- what it says.
@@ -112,10 +107,13 @@ module _ (cap velocities : ℕ) (trace : Trace) (flow : ℕ → ℕ → ℕ) whe
     -- ---- what is given of a formula, and of its parts
 
     -- Of equations es that stand from place o on, with the start flow s and its negation n: the formula's leads are
-    -- leads, its numbers are bounded, the signals that it names are there, and so are its tests, from place t on.
-    pub record Given (leading bounds : Bool) (named : ℕ → Bool) (s n t o : ℕ) (tests es : List Equation) : Type 0 where
+    -- leads, its numbers are bounded, the parameters that it names have one value each, below the cap, the signals that
+    -- it names are there, and so are its tests, from place t on.
+    pub record Given (leading bounds : Bool) (parameters named : ℕ → Bool) (s n t o : ℕ) (tests es : List Equation)
+        : Type 0 where
       pub led : leading ≡ true
       pub bound : bounds ≡ true
+      pub steady : (j : ℕ) → parameters j ≡ true → Steady cap trace j
       pub signals : Signals named
       pub negated : (k : ℕ) → on flow n k ≡ not (on flow s k)
       pub tested : Stands t tests
@@ -123,13 +121,14 @@ module _ (cap velocities : ℕ) (trace : Trace) (flow : ℕ → ℕ → ℕ) whe
 
     abbrev pub GivenOf : Formula → ℕ → ℕ → ℕ → ℕ → Type 0
     GivenOf f s n t o =
-        Given (leads (raw f)) (bounded cap velocities (raw f)) (namedBy f) s n t o (testsOf f)
+        Given (leads (raw f)) (bounded cap velocities (raw f)) (namesParameter (raw f)) (namedBy f) s n t o (testsOf f)
         (emit flowOf f s n t o .es)
 
     -- An atom's proposition, and the rows that follow its equations.
-    with-prop : {leading bounds : Bool} {s n t o : ℕ} (p : Prop) (rows : ℕ → ℕ → List Equation) →
+    with-prop : {leading bounds : Bool} {parameters : ℕ → Bool} {s n t o : ℕ} (p : Prop)
+        (rows : ℕ → ℕ → List Equation) →
         let x : Block = emitP flowOf p t o in
-        Given leading bounds (namedByP p) s n t o (testsP p) (x .es ++ rows (placeAfter o (x .es)) (x .out))
+        Given leading bounds parameters (namedByP p) s n t o (testsP p) (x .es ++ rows (placeAfter o (x .es)) (x .out))
         → ((k : ℕ) → on flow (x .out) k ≡ at trace p k) × Stands (placeAfter o (x .es))
         (rows (placeAfter o (x .es)) (x .out))
     with-prop {t = t} {o = o} p rows given =
@@ -138,9 +137,17 @@ module _ (cap velocities : ℕ) (trace : Trace) (flow : ℕ → ℕ → ℕ) whe
           right (x .es) _ o (given .stands),
         )
 
-    -- A `lag`: its P and its Q, and the rows after each of them, the last ones in two parts.
+    -- What a `sum` or an `age` is compared with is below the cap.
+    count-small : (c : Count) (p : Prop) (op : Op) (x : Num) {s n t o : ℕ} → GivenOf (count c p op x) s n t o
+        → (k : ℕ) → value x (trace k) < cap
+    count-small c p op x given =
+        value-small trace cap velocities x (and-eq-true-iff (bounded cap velocities (rawP p)) _ .0 (given .bound) .1)
+        (named-right (namesParameter (rawP p)) (numNames x) (given .steady))
+
+    -- A `lag`: its n, its P and its Q, and the rows after each of them, the last ones in two parts.
     record LagParts (p q : Prop) (x : Num) (s n o′ o″ p-flow q-flow : ℕ) : Type 0 where
-      bound : numBound cap velocities x ≡ true
+      same : (i j : ℕ) → value x (trace i) ≡ value x (trace j)
+      small : (k : ℕ) → value x (trace k) < cap
       says-p : (k : ℕ) → on flow p-flow k ≡ at trace p k
       says-q : (k : ℕ) → on flow q-flow k ≡ at trace q k
       run : Stands o′ (run-es n o′ p-flow)
@@ -166,8 +173,12 @@ module _ (cap velocities : ℕ) (trace : Trace) (flow : ℕ → ℕ → ℕ) whe
         let first = left (testsP p) (testsP q) t (given .tested) in
         let second = right (testsP p) (testsP q) t (given .tested) in
         let bounds = and-eq-true-iff (bounded cap velocities (rawP p)) _ .0 (given .bound) .1 in
+        let bound = and-eq-true-iff (numBound cap velocities x) (bounded cap velocities (rawP q)) .0 bounds .0 in
+        let others = named-right (namesParameter (rawP p)) _ (given .steady) in
+        let steady = named-left (numNames x) (namesParameter (rawP q)) others in
         record {
-          bound = and-eq-true-iff (numBound cap velocities x) (bounded cap velocities (rawP q)) .0 bounds .0;
+          same = value-same trace x (λ j e. steady j e .same);
+          small = value-small trace cap velocities x bound steady;
           says-p = prop-is p t o (named-left (namedByP p) (namedByP q) (given .signals)) first (parts .0);
           says-q = prop-is q t′ (o′ ⊕ 4) (named-right (namedByP p) (namedByP q) (given .signals)) second (last .0);
           run = parts .1;
@@ -176,13 +187,14 @@ module _ (cap velocities : ℕ) (trace : Trace) (flow : ℕ → ℕ → ℕ) whe
         }
 
     -- The formula under a `!`.
-    under-not : {leading bounds : Bool} {named : ℕ → Bool} {s n t o : ℕ} {tests : List Equation}
-        (xs ys : List Equation) → Given leading bounds named s n t o tests (xs ++ ys)
-        → Given leading bounds named s n t o tests xs
+    under-not : {leading bounds : Bool} {parameters named : ℕ → Bool} {s n t o : ℕ} {tests : List Equation}
+        (xs ys : List Equation) → Given leading bounds parameters named s n t o tests (xs ++ ys)
+        → Given leading bounds parameters named s n t o tests xs
     under-not {o = o} xs ys given =
         record {
           led = given .led;
           bound = given .bound;
+          steady = given .steady;
           signals = given .signals;
           negated = given .negated;
           tested = given .tested;
@@ -195,7 +207,8 @@ module _ (cap velocities : ℕ) (trace : Trace) (flow : ℕ → ℕ → ℕ) whe
         let o′ : ℕ = placeAfter o (x .es) in
         let y : Block = emit flowOf g s n (nextTest t f) o′ in
         Given (leads (raw f) && leads (raw g)) (bounded cap velocities (raw f) && bounded cap velocities (raw g))
-        (λ j. namedBy f j || namedBy g j) s n t o (testsOf f ++ testsOf g) (x .es ++ (y .es ++ row))
+        (λ j. namesParameter (raw f) j || namesParameter (raw g) j) (λ j. namedBy f j || namedBy g j) s n t o
+        (testsOf f ++ testsOf g) (x .es ++ (y .es ++ row))
         → GivenOf f s n t o × GivenOf g s n (nextTest t f) o′ × Stands (placeAfter o′ (y .es)) row
     both f g {s} {n} {t} {o} row given =
         let x : Block = emit flowOf f s n t o in
@@ -207,6 +220,7 @@ module _ (cap velocities : ℕ) (trace : Trace) (flow : ℕ → ℕ → ℕ) whe
           record {
             led = led .0;
             bound = bound .0;
+            steady = named-left (namesParameter (raw f)) (namesParameter (raw g)) (given .steady);
             signals = named-left (namedBy f) (namedBy g) (given .signals);
             negated = given .negated;
             tested = left (testsOf f) (testsOf g) t (given .tested);
@@ -215,6 +229,7 @@ module _ (cap velocities : ℕ) (trace : Trace) (flow : ℕ → ℕ → ℕ) whe
           record {
             led = led .1;
             bound = bound .1;
+            steady = named-right (namesParameter (raw f)) (namesParameter (raw g)) (given .steady);
             signals = named-right (namedBy f) (namedBy g) (given .signals);
             negated = given .negated;
             tested = right (testsOf f) (testsOf g) t (given .tested);
@@ -254,6 +269,7 @@ module _ (cap velocities : ℕ) (trace : Trace) (flow : ℕ → ℕ → ℕ) whe
           first = record {
             led = led .0;
             bound = bound .0;
+            steady = named-left (namesParameter (raw l)) (namesParameter (raw f)) (given .steady);
             signals = named-left (namedBy l) (namedBy f) (given .signals);
             negated = given .negated;
             tested = left (testsOf l) (testsOf f) t (given .tested);
@@ -263,6 +279,7 @@ module _ (cap velocities : ℕ) (trace : Trace) (flow : ℕ → ℕ → ℕ) whe
           second = record {
             led = led .1;
             bound = bound .1;
+            steady = named-right (namesParameter (raw l)) (namesParameter (raw f)) (given .steady);
             signals = named-right (namedBy l) (namedBy f) (given .signals);
             negated =
                 second-negated cap trace flow s n (given .negated) o′ o″ (x .out) (y .out) (parts .1) rest-stands;
@@ -272,88 +289,83 @@ module _ (cap velocities : ℕ) (trace : Trace) (flow : ℕ → ℕ → ℕ) whe
           rest = rest-stands;
         }
 
-  -- ---- formulas
+    -- ---- formulas
 
-  -- The parameters are the same at all ticks, and below the cap.
-  module _ (same : (i j : ℕ) → (trace i) .parameters ≡ (trace j) .parameters)
-      (small : (k j : ℕ) → j < parameterCount → parameterAt (trace k) j < cap) (flowOf : ℕ → ℕ) where
-    pub agrees : (f : Formula) (s n t o : ℕ) → GivenOf flowOf f s n t o
+    pub agrees : (f : Formula) (s n t o : ℕ) → GivenOf f s n t o
         → Agrees trace flow s (emit flowOf f s n t o .out) f
     unfolding kindOf
     agrees (test begin p) s n t o given =
         let x : Block = emitP flowOf p t o in
-        let (says, rows) = with-prop flowOf p (begin-es s n) given in
+        let (says, rows) = with-prop p (begin-es s n) given in
         begin-is cap trace flow s n (given .negated) (placeAfter o (x .es)) (x .out) (at trace p) says rows
     agrees (test end p) s n t o given = λ b d since.
-        prop-is flowOf p t o (given .signals) (given .tested) (given .stands) (b ⊕ d)
+        prop-is p t o (given .signals) (given .tested) (given .stands) (b ⊕ d)
     agrees (test point p) s n t o given = λ b d since.
         let x : Block = emitP flowOf p t o in
-        let (says, rows) = with-prop flowOf p (point-es s) given in
+        let (says, rows) = with-prop p (point-es s) given in
         rw (eq-longer b d)
         (point-is cap trace flow s n (given .negated) (placeAfter o (x .es)) (x .out) (at trace p) says rows b d since)
     agrees (test held p) s n t o given = λ b d since.
         let x : Block = emitP flowOf p t o in
-        let (says, rows) = with-prop flowOf p (held-es s n) given in
+        let (says, rows) = with-prop p (held-es s n) given in
         rw (lt-longer b d, span b d)
         (held-is cap trace flow s n (given .negated) (placeAfter o (x .es)) (x .out) (at trace p) says rows b d since)
     agrees (test kept p) s n t o given = λ b d since.
         let x : Block = emitP flowOf p t o in
-        let (says, rows) = with-prop flowOf p (kept-es s) given in
+        let (says, rows) = with-prop p (kept-es s) given in
         rw (span b d)
         (kept-is cap trace flow s n (given .negated) (placeAfter o (x .es)) (x .out) (at trace p) says rows b d since)
     agrees (len op x) s n t o given = λ b d since.
         let rows = given .stands in
         let counted = len-is cap trace flow s n (given .negated) o op x rows b d since in
+        let small = value-small trace cap velocities x (given .bound) (given .steady) (b ⊕ d) in
         rw (span b d)
-        (compare-is cap velocities trace flow small (o ⊕ 3) (o ⊕ 2) op x (given .bound) (rows .1 .1 .1) (b ⊕ d) d
-        counted)
+        (compare-is cap trace flow (o ⊕ 3) (o ⊕ 2) op x (rows .1 .1 .1) (b ⊕ d) d small counted)
     agrees (count sum p op x) s n t o given = λ b d since.
         let y : Block = emitP flowOf p t o in
         let o′ : ℕ = placeAfter o (y .es) in
-        let (says, rows) = with-prop flowOf p (sum-es n op x) given in
+        let (says, rows) = with-prop p (sum-es n op x) given in
         let counted = sum-is cap trace flow s n (given .negated) o′ (y .out) (at trace p) says op x rows b d since in
-        let bound = and-eq-true-iff (bounded cap velocities (rawP p)) _ .0 (given .bound) .1 in
         rw (span b d)
-        (compare-is cap velocities trace flow small (o′ ⊕ 3) (o′ ⊕ 1) op x bound (rows .1 .1 .1) (b ⊕ d)
-        (tally (at trace p) b d) counted)
+        (compare-is cap trace flow (o′ ⊕ 3) (o′ ⊕ 1) op x (rows .1 .1 .1) (b ⊕ d) (tally (at trace p) b d)
+        (count-small sum p op x given (b ⊕ d)) counted)
     agrees (count age p op x) s n t o given = λ b d since.
         let y : Block = emitP flowOf p t o in
         let o′ : ℕ = placeAfter o (y .es) in
-        let (says, rows) = with-prop flowOf p (age-es n op x) given in
+        let (says, rows) = with-prop p (age-es n op x) given in
         let run : Stands o′ (run-es n o′ (y .out)) = (rows .0, (rows .1 .0, (rows .1 .1 .0, (rows .1 .1 .1 .0, tt)))) in
         let counted = run-is cap trace flow s n (given .negated) o′ (y .out) (at trace p) says run b d since in
-        let bound = and-eq-true-iff (bounded cap velocities (rawP p)) _ .0 (given .bound) .1 in
         rw (span b d)
-        (compare-is cap velocities trace flow small (o′ ⊕ 4) (o′ ⊕ 3) op x bound (rows .1 .1 .1 .1) (b ⊕ d)
-        (streak (at trace p) (b ⊕ d) d) counted)
+        (compare-is cap trace flow (o′ ⊕ 4) (o′ ⊕ 3) op x (rows .1 .1 .1 .1) (b ⊕ d) (streak (at trace p) (b ⊕ d) d)
+        (count-small age p op x given (b ⊕ d)) counted)
     agrees (lag p x q) s n t o given = λ b d since.
         let y : Block = emitP flowOf p t o in
         let o′ : ℕ = placeAfter o (y .es) in
         let z : Block = emitP flowOf q (nextTestP t p) (o′ ⊕ 4) in
         let o″ : ℕ = placeAfter (o′ ⊕ 4) (z .es) in
-        let parts = lag-parts flowOf p x q given in
-        lag-is cap velocities trace flow s n (given .negated) small x (value-same trace same x) (parts .bound)
-        o′ (y .out) (at trace p) (parts .says-p) (parts .run) o″ (z .out) (at trace q) (parts .says-q) (parts .fine)
-        (parts .always) b d since
+        let parts = lag-parts p x q given in
+        lag-is cap trace flow s n (given .negated) x (parts .same) (parts .small) o′ (y .out) (at trace p)
+        (parts .says-p) (parts .run) o″ (z .out) (at trace q) (parts .says-q) (parts .fine) (parts .always) b d since
     agrees (neg f) s n t o given = λ b d since.
         let x : Block = emit flowOf f s n t o in
         let row = right (x .es) _ o (given .stands) in
-        row .0 (b ⊕ d) ∙ ap not (agrees f s n t o (under-not flowOf (x .es) _ given) b d since)
+        row .0 (b ⊕ d) ∙ ap not (agrees f s n t o (under-not (x .es) _ given) b d since)
     agrees (and f g) s n t o given = λ b d since.
-        let (first, second, row) = both flowOf f g _ given in
+        let (first, second, row) = both f g _ given in
         row .0 (b ⊕ d) ∙ ap₂ _&&_ (agrees f s n t o first b d since) (agrees g s n _ _ second b d since)
     agrees (or f g) s n t o given = λ b d since.
-        let (first, second, row) = both flowOf f g _ given in
+        let (first, second, row) = both f g _ given in
         row .0 (b ⊕ d) ∙ ap₂ _||_ (agrees f s n t o first b d since) (agrees g s n _ _ second b d since)
     agrees (then l f) s n t o given = λ b d since.
         let x : Block = emit flowOf l s n t o in
         let o′ : ℕ = placeAfter o (x .es) in
         let y : Block = emit flowOf f (o′ ⊕ 3) (o′ ⊕ 4) (nextTest t l) (o′ ⊕ 5) in
-        let parts = then-parts flowOf l f given in
+        let parts = then-parts l f given in
         let first = agrees l s n t o (parts .first) in
         let second = agrees f (o′ ⊕ 3) (o′ ⊕ 4) (nextTest t l) (o′ ⊕ 5) (parts .second) in
+        let same : Unchanging trace (namesParameter (raw l)) = λ j e. parts .first .steady j e .same in
         let falls : (d : ℕ) → meaning trace l b (suc (b ⊕ d)) ≡ true → meaning trace l b (b ⊕ d) ≡ true =
-        λ d. lead-falls trace same l (parts .is-lead) b (b ⊕ d) (rw ⊕-add (omega arith)) in
+        λ d. lead-falls trace l same (parts .is-lead) b (b ⊕ d) (rw ⊕-add (omega arith)) in
         rw (span b d)
         (then-is cap trace flow s n (given .negated) o′ (placeAfter (o′ ⊕ 5) (y .es)) (x .out) (y .out)
         (parts .ending) (parts .rest) (meaning trace l) (meaning trace f) b falls (first b) second d since)

@@ -4,6 +4,7 @@ use mathlib.Core.List.{List, [], _∷_}
 use Prim.Native.Nat.{ℕ, zero, suc, _+_, _*_, _-_}
 use lib.Dec.{leb, ltb, eqb}
 use lib.ListN.{length, getD}
+unfoldable pub use Rattle.lists.specs.All.{all}
 use Rattle.lists.specs.Number.{numberAt}
 use Rattle.limits.specs.Limits.{signalCount, truthCount, comparisonCount, literalCount, parameterCount, equationLimit}
 use Rattle.tables.specs.declared.Sort.{Sort}
@@ -13,11 +14,6 @@ use Rattle.tables.specs.declared.Operand.the-variants.{Unused, Earlier, 
 use Rattle.tables.specs.declared.Shape.{Shape}
 use Rattle.tables.specs.declared.Checked.{Checked}
 use Rattle.tables.specs.declared.Checked.the-variants.{Passed, Refused}
-
--- The test holds of each number below k.
-unfoldable pub all : (ℕ → Bool) → ℕ → Bool
-all f zero = true
-all f (suc k) = all f k && f k
 
 -- SPEC 5.1: the numbers of an equation.
 pub record Equation : Type 0 where

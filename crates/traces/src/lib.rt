@@ -5,6 +5,7 @@ ghost use mathlib.Core.Logic.{_↔_};
 ghost use Prim.Native.Nat.{_≤_, _<_};
 ghost use Rattle.limits.specs.Limits.{comparisonCount};
 ghost use Rattle.traces.specs.Trace.{tickOf};
+ghost use Rattle.traces.specs.Parameters.{parametersFit};
 ghost use Rattle.traces.specs.Compare.{opOf, opNumber, compares, Compared};
 
 // SPEC 1.3: the numbers of `<=`, `<`, `=`, `>`, `>=`.
@@ -55,6 +56,20 @@ pub fn tick_of(
         velocity,
         parameters,
     }
+}
+
+// Whether every parameter is below the cap (SPEC 7.13): the one place where parameters are admitted.
+pub fn parameters_fit(cap: u32, parameters: &[u32; limits::PARAMETERS]) -> bool
+    ensures { λ r. ⌜ r ≡ parametersFit cap (now (parameters .entry)) ⌝ }
+{
+    let mut j = 0;
+    while j < limits::PARAMETERS {
+        if cap <= parameters[j] {
+            return false;
+        }
+        j += 1;
+    }
+    true
 }
 
 // The comparison of that number (SPEC 1.3). A number above 4 is that of no comparison, and a table with an equation

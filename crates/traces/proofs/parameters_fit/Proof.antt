@@ -1,23 +1,23 @@
--- `flows::parameters_fit` meets its contract. The invariant: the first j parameters are below the cap. Assumes nothing.
+-- `traces::parameters_fit` meets its contract. The invariant: the first j parameters are below the cap. Assumes nothing.
 use mathlib.Core.Path.{_≡_, sym}
 use mathlib.Core.Bool.{true}
 use Prim.Native.Nat.{_≤_, _-_}
 use native.Mathlib.Omega.{arith}
 use borrow.Author.Needs.{needs}
-use Rattle.limits.specs.Limits.{parameterCount}
-use Rattle.traces.specs.Trace.{parameterAt}
-use Rattle.tables.specs.Table.{all}
-use Rattle.flows.specs.Step.{parameterFits}
-use Rattle.tables.proofs.Tests.{all-none, all-more, all-stop}
 use borrow.Author.Tests.{lt-ltb, le-ltb}
-use Rattle.flows.proofs.parameters_fit.Statement.{statement}
-use Rattle.flows.proofs.parameters_fit.Tie as tie
+use lib.ListN.{getD}
+use Rattle.limits.specs.Limits.{parameterCount}
+use Rattle.lists.specs.All.{all}
+use Rattle.lists.proofs.All.{all-none, all-more, all-stop}
+use Rattle.traces.specs.Parameters.{parameterFits}
+use Rattle.traces.proofs.parameters_fit.Statement.{statement}
+use Rattle.traces.proofs.parameters_fit.Tie as tie
 
 abbrev Inv-loop : tie.InvT-loop
-Inv-loop cap tick j₀ j = (j ≤ parameterCount) × (all (parameterFits cap tick) j ≡ true)
+Inv-loop cap parameters j₀ j = (j ≤ parameterCount) × (all (parameterFits cap parameters) j ≡ true)
 
 abbrev μ-loop : tie.MeasureT-loop
-μ-loop cap tick j₀ j = parameterCount - j
+μ-loop cap parameters j₀ j = parameterCount - j
 
 loop-holds : tie.Need-loop-holds Inv-loop μ-loop
 loop-holds c = (omega arith, all-none _)
@@ -27,8 +27,8 @@ unfolding parameterFits
 one-unfit c =
     let args = c .before .before .before .before .args in
     let j = c .before .before .before .loop .j in
-    sym (all-stop (parameterFits (args .cap) (args .tick)) j parameterCount (omega arith)
-    (le-ltb (parameterAt (args .tick) j) (args .cap) (omega (arith, c .before .parameter .ensures))))
+    sym (all-stop (parameterFits (args .cap) (args .parameters .now)) j parameterCount (omega arith)
+    (le-ltb (getD (args .parameters .now) j 0) (args .cap) (omega arith)))
 
 loop-again : tie.Need-loop-again Inv-loop μ-loop
 unfolding parameterFits
@@ -37,8 +37,7 @@ loop-again c =
     let loop = c .before .before .before .loop in
     let j = loop .j in (
       omega arith,
-      all-more _ j (loop .inv .1)
-          (lt-ltb (parameterAt (args .tick) j) (args .cap) (omega (arith, c .before .parameter .ensures))),
+      all-more _ j (loop .inv .1) (lt-ltb (getD (args .parameters .now) j 0) (args .cap) (omega arith)),
     )
 
 all-fit : tie.Need-returns-2 Inv-loop μ-loop
@@ -51,7 +50,8 @@ parameters-fit-spec =
     Inv-loop
     μ-loop
     loop-holds
-    (λ c κs. search needs)
+    (λ c. omega arith)
+    (λ c. omega arith)
     one-unfit
     (λ c. omega arith)
     (λ c. omega arith)
