@@ -135,21 +135,49 @@ pub enum Atom {
 
 pub const ATOMS: [Atom; 4] = [Atom::Len, Atom::Sum, Atom::Age, Atom::Lag];
 
-/// SPEC 3.11: the parameters that a rule names, each with what it stands in, in the order of the text.
-pub fn named(r: &Rule) -> Vec<(Atom, u32)> {
-    let by = |atom, n: &Num| match n {
-        Num::Literal(_) => Vec::new(),
-        Num::Parameter(j) => vec![(atom, *j)],
-    };
+/// The n of each `len`, `sum`, `age` and `lag` of a rule, with what it stands in, in the order of the text.
+fn numbers(r: &Rule) -> Vec<(Atom, Num)> {
     match r {
         Rule::Test(..) => Vec::new(),
-        Rule::Len(_, n) => by(Atom::Len, n),
-        Rule::Sum(_, _, n) => by(Atom::Sum, n),
-        Rule::Age(_, _, n) => by(Atom::Age, n),
-        Rule::Lag(_, n, _) => by(Atom::Lag, n),
-        Rule::Not(f) | Rule::Exists(_, f) => named(f),
-        Rule::And(f, g) | Rule::Or(f, g) | Rule::Then(f, g) | Rule::Chop(f, g) => [named(f), named(g)].concat(),
+        Rule::Len(_, n) => vec![(Atom::Len, *n)],
+        Rule::Sum(_, _, n) => vec![(Atom::Sum, *n)],
+        Rule::Age(_, _, n) => vec![(Atom::Age, *n)],
+        Rule::Lag(_, n, _) => vec![(Atom::Lag, *n)],
+        Rule::Not(f) | Rule::Exists(_, f) => numbers(f),
+        Rule::And(f, g) | Rule::Or(f, g) | Rule::Then(f, g) | Rule::Chop(f, g) => [numbers(f), numbers(g)].concat(),
     }
+}
+
+/// SPEC 3.11: the parameters that a rule names, each with what it stands in, in the order of the text.
+pub fn named(r: &Rule) -> Vec<(Atom, u32)> {
+    let by = |(atom, n)| match n {
+        Num::Literal(_) => None,
+        Num::Parameter(j) => Some((atom, j)),
+    };
+    numbers(r).into_iter().filter_map(by).collect()
+}
+
+/// What could be taken for a parameter, although it names none (SPEC 3.11).
+#[derive(Clone, Copy, PartialEq, Eq, PartialOrd, Ord, Debug)]
+pub enum Lookalike {
+    /// A literal that is the parameter's number, in an atom or in a velocity test.
+    Literal(Atom),
+    Velocity,
+    /// The literal 1 of a velocity test, for k0: a compiler's record may have it where 1 in another says "parameter",
+    /// with 0 behind it.
+    VelocityOne,
+}
+
+/// What of a rule could be taken for a parameter, each with the parameter, which the rule may name elsewhere.
+pub fn lookalikes(r: &Rule) -> Vec<(Lookalike, u32)> {
+    let of_number = |(atom, n)| match n {
+        Num::Literal(n) => Some((Lookalike::Literal(atom), n)),
+        Num::Parameter(_) => None,
+    };
+    let of_test = |(_, n)| [Some((Lookalike::Velocity, n)), (n == 1).then_some((Lookalike::VelocityOne, 0))];
+    let numbers = numbers(r).into_iter().filter_map(of_number);
+    let tests = velocity_tests(r).into_iter().flat_map(of_test).flatten();
+    numbers.chain(tests).filter(|(_, j)| *j < 8).collect()
 }
 
 /// The n of a `lag`: 0 and 1, which mean the same; a few ticks, or more than the random runs have; a parameter.

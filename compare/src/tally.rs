@@ -3,7 +3,7 @@
 use crate::card::{Edition, End, Place, Why, Wrong, EDITIONS, WRONG_VELOCITIES};
 use crate::cases::packing::Origin;
 use crate::rule::meaning::IDLE;
-use crate::rule::{Around, Atom, Delay, Limit, Op, Root, AROUND, ATOMS, DELAYS, OPS, TESTS};
+use crate::rule::{Around, Atom, Delay, Limit, Lookalike, Op, Root, AROUND, ATOMS, DELAYS, OPS, TESTS};
 use crate::table::lustre::WRONG_ENDS;
 use crate::table::packing::{Effect, EFFECTS};
 use crate::table::{Flaw, CLOSING, KINDS};
@@ -35,6 +35,9 @@ pub enum Outcome {
     SameHigh(Given, usize, bool),
     /// Whether two rules are the same.
     Same(Sameness),
+    /// Two rules that are the same, with two values of a parameter that they do not name, but that this could be taken
+    /// for.
+    SameDespite(Lookalike),
     /// The verdict of two texts that are the same rule, and whether all their parameters have equal values.
     SameVerdict(bool, u32),
     FreshState(u32),
@@ -220,68 +223,123 @@ fn is_within(share: &Share) -> bool {
     within
 }
 
-/// Each outcome that has to come up, and how often at the least in a run of the gate.
-fn wanted() -> Vec<(Outcome, u64)> {
-    let mut all = Vec::new();
-    let mut want = |least: u64, outcomes: &mut dyn Iterator<Item = Outcome>| all.extend(outcomes.map(|o| (o, least)));
-    want(500, &mut (0..=8).map(Outcome::Read));
-    want(500, &mut (0..=8).map(Outcome::ReadLag));
-    want(500, &mut (0..=8).map(Outcome::ReadVelocity));
-    want(100, &mut [0, 2, 6].into_iter().map(Outcome::VelocityTooHigh));
-    want(500, &mut (0..=9).map(Outcome::Compile));
-    want(100, &mut [Limit::Bytes, Limit::Words, Limit::Brackets, Limit::Operators].into_iter().map(Outcome::AtLimit));
-    want(500, &mut std::iter::once(Outcome::AtLimit(Limit::Velocity)));
-    want(100, &mut (1..=8).flat_map(|r| [Given::FirstText, Given::SecondText].map(|g| Outcome::SameRefused(g, r))));
-    want(5000, &mut HIGH.into_iter().map(|given| Outcome::SameRefused(given, 13)));
-    want(30, &mut same_orders());
-    want(100, &mut (0..8).flat_map(|j| HIGH.map(|g| [true, false].map(|n| Outcome::SameHigh(g, j, n)))).flatten());
-    want(5000, &mut [Sameness::Equal, Sameness::Unnamed].into_iter().map(Outcome::Same));
-    want(2000, &mut [true, false].into_iter().map(|equal| Outcome::Same(Sameness::Trees(equal))));
-    want(50, &mut ATOMS.into_iter().flat_map(|a| (0..8).map(move |j| Outcome::Same(Sameness::Value(a, j)))));
-    want(500, &mut std::iter::once(Outcome::Same(Sameness::Values)));
-    want(5000, &mut (0..3).flat_map(|verdict| [true, false].map(|equal| Outcome::SameVerdict(equal, verdict))));
-    want(2000, &mut [0, 10, 11, 12].into_iter().map(Outcome::FreshState));
-    want(2000, &mut [0, 10, 11, 12, 13, 14, 19].into_iter().map(Outcome::Step));
-    want(20_000, &mut [0, 12, 13, 19].into_iter().map(Outcome::RuleStep));
-    want(10_000, &mut std::iter::once(Outcome::RefusedStart));
-    want(300, &mut roots().into_iter().flat_map(|r| [Outcome::Verdict(r, 0), Outcome::Verdict(r, 1)]));
-    want(10, &mut roots().into_iter().map(|r| Outcome::Verdict(r, IDLE)));
-    want(1000, &mut std::iter::once(Outcome::NeverStarted));
-    want(1000, &mut (0..3).map(Outcome::OtherParameters));
-    want(200, &mut AROUND.into_iter().flat_map(|a| DELAYS.map(|d| Outcome::Lag(a, d))));
-    want(20_000, &mut OPS.iter().flat_map(|(op, _)| WAYS.map(|way| Outcome::Tested(*op, way))));
-    want(5000, &mut std::iter::once(Outcome::RepeatedTest));
-    want(50_000, &mut (0..3).map(Outcome::TableAnswer));
-    want(2000, &mut (0..3).flat_map(|from| (0..3).map(move |to| Outcome::TableTurn(from, to))));
-    want(2000, &mut flows());
-    want(2000, &mut comparisons());
-    want(500, &mut std::iter::once(Outcome::AtCap));
-    want(5, &mut [Outcome::LargestTable, Outcome::LargestText].into_iter());
-    want(500, &mut (0..=KINDS).map(|k| Outcome::Flawed(Flaw::Equation(k))));
-    want(500, &mut [Flaw::Size].into_iter().chain(CLOSING).map(Outcome::Flawed));
-    want(100, &mut CLOSING.into_iter().map(Outcome::WriteFlawed));
-    want(100, &mut (0..WRONG_ENDS).map(Outcome::WrongEnd));
-    want(500, &mut std::iter::once(Outcome::TextOfOne));
-    want(500, &mut [0, 10, 11, 15].into_iter().map(Outcome::WriteLustre));
-    want(500, &mut [0, 9, 16].into_iter().map(Outcome::ReadLustre));
-    want(200, &mut (0..10).map(|k| Outcome::Line(k, 0)));
-    want(200, &mut (0..5).flat_map(|op| [10, 11, 12].map(|k| Outcome::Line(k, op))));
-    want(500, &mut [0, 9, 10, 11].into_iter().map(Outcome::Pack));
-    want(100, &mut [Flaw::Size].into_iter().chain(CLOSING).map(Outcome::PackFlawed));
-    want(50, &mut (0..=KINDS).map(|k| Outcome::PackFlawed(Flaw::Equation(k))));
-    want(500, &mut EFFECTS.into_iter().map(|e| Outcome::Packed(Origin::ByHand, e)));
-    want(500, &mut EFFECTS[..5].iter().map(|e| Outcome::Packed(Origin::Compiled, *e)));
-    want(2, &mut [true, false].into_iter().map(Outcome::LargestPacked));
-    want(500, &mut (2..5).map(Outcome::SmallestPacked));
-    want(500, &mut (0..KINDS).map(Outcome::Merged));
-    want(50, &mut constants());
-    want(50_000, &mut (0..3).map(Outcome::PackedAnswer));
-    want(50, &mut orders());
-    want(5, &mut card_ends());
-    want(2000, &mut card_verdicts([0, 1].into_iter()));
-    want(200, &mut card_verdicts(std::iter::once(IDLE)));
-    want(5, &mut EDITIONS.into_iter().flat_map(|e| [true, false].map(|refused| Outcome::LongCard(e, refused))));
-    all
+/// Outcomes, each with how often it has to come up at the least in a run of the gate.
+type Wanted = Vec<(Outcome, u64)>;
+
+fn want(least: u64, outcomes: impl IntoIterator<Item = Outcome>) -> Wanted {
+    outcomes.into_iter().map(|outcome| (outcome, least)).collect()
+}
+
+/// All that have to come up.
+fn wanted() -> Wanted {
+    let orders = want(50, orders());
+    [of_texts(), of_same_rule(), of_rules(), of_tables(), of_lustre(), of_packing(), of_cards(), orders].concat()
+}
+
+/// Reading and compiling.
+fn of_texts() -> Wanted {
+    [
+        want(500, (0..=8).map(Outcome::Read)),
+        want(500, (0..=8).map(Outcome::ReadLag)),
+        want(500, (0..=8).map(Outcome::ReadVelocity)),
+        want(100, [0, 2, 6].map(Outcome::VelocityTooHigh)),
+        want(500, (0..=9).map(Outcome::Compile)),
+        want(100, [Limit::Bytes, Limit::Words, Limit::Brackets, Limit::Operators].map(Outcome::AtLimit)),
+        want(500, [Outcome::AtLimit(Limit::Velocity)]),
+    ]
+    .concat()
+}
+
+fn of_same_rule() -> Wanted {
+    let texts = [Given::FirstText, Given::SecondText];
+    [
+        want(100, (1..=8).flat_map(|r| texts.map(|given| Outcome::SameRefused(given, r)))),
+        want(5000, HIGH.map(|given| Outcome::SameRefused(given, 13))),
+        want(30, same_orders()),
+        want(100, (0..8).flat_map(|j| HIGH.map(|g| [true, false].map(|n| Outcome::SameHigh(g, j, n)))).flatten()),
+        want(5000, [Sameness::Equal, Sameness::Unnamed].map(Outcome::Same)),
+        want(1000, ATOMS.map(|atom| Outcome::SameDespite(Lookalike::Literal(atom)))),
+        want(1000, [Lookalike::Velocity, Lookalike::VelocityOne].map(Outcome::SameDespite)),
+        want(2000, [true, false].map(|equal| Outcome::Same(Sameness::Trees(equal)))),
+        want(50, ATOMS.into_iter().flat_map(|a| (0..8).map(move |j| Outcome::Same(Sameness::Value(a, j))))),
+        want(500, [Outcome::Same(Sameness::Values)]),
+        want(5000, (0..3).flat_map(|verdict| [true, false].map(|equal| Outcome::SameVerdict(equal, verdict)))),
+    ]
+    .concat()
+}
+
+/// Rules with their ticks.
+fn of_rules() -> Wanted {
+    [
+        want(20_000, [0, 12, 13, 19].map(Outcome::RuleStep)),
+        want(10_000, [Outcome::RefusedStart]),
+        want(300, roots().into_iter().flat_map(|r| [Outcome::Verdict(r, 0), Outcome::Verdict(r, 1)])),
+        want(10, roots().into_iter().map(|r| Outcome::Verdict(r, IDLE))),
+        want(1000, [Outcome::NeverStarted]),
+        want(1000, (0..3).map(Outcome::OtherParameters)),
+        want(200, AROUND.into_iter().flat_map(|a| DELAYS.map(|d| Outcome::Lag(a, d)))),
+        want(20_000, OPS.iter().flat_map(|(op, _)| WAYS.map(|way| Outcome::Tested(*op, way)))),
+        want(5000, [Outcome::RepeatedTest]),
+    ]
+    .concat()
+}
+
+/// Fresh states and steps of random tables.
+fn of_tables() -> Wanted {
+    [
+        want(2000, [0, 10, 11, 12].map(Outcome::FreshState)),
+        want(2000, [0, 10, 11, 12, 13, 14, 19].map(Outcome::Step)),
+        want(50_000, (0..3).map(Outcome::TableAnswer)),
+        want(2000, (0..3).flat_map(|from| (0..3).map(move |to| Outcome::TableTurn(from, to)))),
+        want(2000, flows()),
+        want(2000, comparisons()),
+        want(500, [Outcome::AtCap]),
+        want(5, [Outcome::LargestTable]),
+        want(500, (0..=KINDS).map(|k| Outcome::Flawed(Flaw::Equation(k)))),
+        want(500, [Flaw::Size].into_iter().chain(CLOSING).map(Outcome::Flawed)),
+    ]
+    .concat()
+}
+
+/// Writing and reading Lustre texts.
+fn of_lustre() -> Wanted {
+    [
+        want(5, [Outcome::LargestText]),
+        want(100, CLOSING.map(Outcome::WriteFlawed)),
+        want(100, (0..WRONG_ENDS).map(Outcome::WrongEnd)),
+        want(500, [Outcome::TextOfOne]),
+        want(500, [0, 10, 11, 15].map(Outcome::WriteLustre)),
+        want(500, [0, 9, 16].map(Outcome::ReadLustre)),
+        want(200, (0..10).map(|k| Outcome::Line(k, 0))),
+        want(200, (0..5).flat_map(|op| [10, 11, 12].map(|k| Outcome::Line(k, op)))),
+    ]
+    .concat()
+}
+
+fn of_packing() -> Wanted {
+    [
+        want(500, [0, 9, 10, 11].map(Outcome::Pack)),
+        want(100, [Flaw::Size].into_iter().chain(CLOSING).map(Outcome::PackFlawed)),
+        want(50, (0..=KINDS).map(|k| Outcome::PackFlawed(Flaw::Equation(k)))),
+        want(500, EFFECTS.map(|e| Outcome::Packed(Origin::ByHand, e))),
+        want(500, EFFECTS[..5].iter().map(|e| Outcome::Packed(Origin::Compiled, *e))),
+        want(2, [true, false].map(Outcome::LargestPacked)),
+        want(500, (2..5).map(Outcome::SmallestPacked)),
+        want(500, (0..KINDS).map(Outcome::Merged)),
+        want(50, constants()),
+        want(50_000, (0..3).map(Outcome::PackedAnswer)),
+    ]
+    .concat()
+}
+
+fn of_cards() -> Wanted {
+    [
+        want(5, card_ends()),
+        want(2000, card_verdicts([0, 1].into_iter())),
+        want(200, card_verdicts(std::iter::once(IDLE))),
+        want(5, EDITIONS.into_iter().flat_map(|e| [true, false].map(|refused| Outcome::LongCard(e, refused)))),
+    ]
+    .concat()
 }
 
 fn roots() -> Vec<Root> {

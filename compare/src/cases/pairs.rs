@@ -6,8 +6,9 @@ use crate::archive::{self, Answer, Side, Tick};
 use crate::random::Random;
 use crate::rule::make::{random_parameters, random_rule, random_ticks};
 use crate::rule::meaning::Moment;
-use crate::rule::{self, scramble::random_text, Rule};
+use crate::rule::{self, scramble::random_text, Lookalike, Rule};
 use crate::tally::{Given, Outcome, Sameness};
+use std::collections::BTreeSet;
 
 /// The highest value of a parameter.
 const LAST_VALUE: u32 = 999_999;
@@ -93,21 +94,29 @@ impl Pair {
         }
         all
     }
+    /// Whether parameter j has two values.
+    fn differ(&self, j: u32) -> bool {
+        self.sides[0].parameters[j as usize] != self.sides[1].parameters[j as usize]
+    }
     /// Whether the two rules are the same, and why (SPEC 8.3), where nothing is refused.
     fn sameness(&self) -> Sameness {
         let [first, second] = self.sides.each_ref().map(|side| side.parameters);
-        let differ = |j: u32| first[j as usize] != second[j as usize];
         if self.rules[0] != self.rules[1] {
             return Sameness::Trees(first == second);
         }
         let named = self.rules[0].as_ref().map(rule::named).unwrap_or_default();
-        let apart: Vec<_> = named.into_iter().filter(|(_, j)| differ(*j)).collect();
+        let apart: Vec<_> = named.into_iter().filter(|(_, j)| self.differ(*j)).collect();
         match apart[..] {
             [] if first == second => Sameness::Equal,
             [] => Sameness::Unnamed,
             [(atom, j)] => Sameness::Value(atom, j),
             _ => Sameness::Values,
         }
+    }
+    /// What of the first rule could be taken for a parameter that has two values.
+    fn lookalikes(&self) -> BTreeSet<Lookalike> {
+        let all = self.rules[0].as_ref().map(rule::lookalikes).unwrap_or_default();
+        all.into_iter().filter(|(_, j)| self.differ(*j)).map(|(lookalike, _)| lookalike).collect()
     }
     fn name(&self, number: u64) -> String {
         let [first, second] = self.sides.each_ref().map(|side| format!("{} {:?}", show(&side.text), side.parameters));
@@ -176,6 +185,9 @@ pub fn same_case(run: &mut Run, number: u64) {
     let yes = matches!(sameness, Sameness::Equal | Sameness::Unnamed);
     same(answer, Answer::given(u32::from(yes)), case);
     run.tally.add(Outcome::Same(sameness));
+    if sameness == Sameness::Unnamed {
+        run.tally.extend(pair.lookalikes().into_iter().map(Outcome::SameDespite));
+    }
     if yes {
         check_run(run, &pair, sameness, case);
     }

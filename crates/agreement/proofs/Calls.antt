@@ -9,7 +9,6 @@ use lib.ListN.{length, getD}
 use borrow.Author.Tests.{ltb-true}
 use Rattle.traces.specs.declared.Tick.{Tick}
 use Rattle.traces.specs.Parameters.{parameterFits, parametersFit}
-use Rattle.tables.specs.Table.{all}
 use Rattle.limits.specs.Limits.{parameterCount}
 use Rattle.flows.specs.Run.{callChecked}
 use Rattle.tables.specs.declared.Checked.the-variants.{Passed, Refused as Failed}

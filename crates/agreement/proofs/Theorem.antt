@@ -65,7 +65,8 @@ observes cap velocities low f led bound size junk =
     formed = passes cap velocities low signalCount few f led bound (below cap velocities f bound) junk short
 
 -- The agreement of its answers with the meaning asks less: that each parameter that f names has one value at all ticks.
--- Others may change from tick to tick. Past the last tick the trace is as d.
+-- Others may change from tick to tick. Past the last tick the trace is as d, whose named parameters have these values
+-- too.
 pub agrees-named : (cap velocities : ℕ) → cap ≤ literalCount → (f : Formula) → leads (raw f) ≡ true
     → bounded cap velocities (raw f) ≡ true → length (flat (raw f)) ≤ arenaLimit → (junk : List ℕ)
     → let t : List ℕ = numbersOf (observer f) ++ junk in

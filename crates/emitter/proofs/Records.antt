@@ -3,14 +3,12 @@
 use mathlib.Core.Bool.{Bool, true, false, cond}
 use mathlib.Core.List.{List, [], _∷_, _++_}
 use mathlib.Core.Path.{_≡_, refl, sym, ap, _∙_}
-use Prim.Native.Nat.{ℕ, suc, _+_, _*_, _≤_, _<_}
-use native.Mathlib.Numerals.{add-one, add-two, add-three, add-four}
+use Prim.Native.Nat.{ℕ, _+_, _*_, _≤_, _<_}
+use native.Mathlib.Numerals.{add-one}
 use native.Mathlib.Omega.{arith}
 use borrow.Author.Tests.{ne-eqb, le-leb, lt-leb}
 use lib.Dec.{eqb}
-use lib.ListN.{set, drop, length, length-drop}
-use lib.Seq.{drop-cons}
-use Rattle.lists.specs.Number.{numberAt}
+use lib.ListN.{set, drop, length}
 use Rattle.lists.proofs.Fours.{four, short}
 use Rattle.formulas.specs.Arena.{SIGNAL, VELOCITY}
 use Rattle.tables.specs.Kind as tables

@@ -6,10 +6,9 @@ use Prim.Native.Nat.{ℕ, _≤_}
 use lib.Dec.{leb}
 use lib.ListN.{length, drop}
 use borrow.Author.Tests.{leb-true}
-use Rattle.limits.specs.Limits.{parameterCount}
 use Rattle.traces.specs.declared.Tick.{Tick}
 use Rattle.traces.specs.Parameters.{parametersFit}
-use Rattle.tables.specs.Table.{all, lengthFits, equationsFit, test, checked}
+use Rattle.tables.specs.Table.{lengthFits, equationsFit, test, checked}
 use Rattle.tables.specs.declared.Checked.the-variants.{Passed}
 use Rattle.tables.proofs.Tests.{and-true}
 use Rattle.tables.proofs.Checks.{Fitting, passed-one, passed-table}

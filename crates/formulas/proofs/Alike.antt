@@ -6,7 +6,7 @@ use mathlib.Core.Path.{_≡_, refl, ap, ap₂, _∙_, fun-ext}
 use Prim.Native.Nat.{ℕ, zero, suc, _-_}
 use lib.Dec.{eqb, ltb}
 use borrow.Author.Tests.{eq-eqb}
-use Rattle.traces.specs.Trace.{Trace, parameterAt, bit, nonzero, starts}
+use Rattle.traces.specs.Trace.{Trace, parameterAt, bit, nonzero}
 use Rattle.traces.specs.Compare.{compares}
 use Rattle.formulas.specs.Formula.{Num, Prop, Formula}
 use Rattle.formulas.specs.Formula.Num.{literal, parameter}

@@ -7,3 +7,4 @@ pub mod Words
 mod Lists
 mod Fragment
 mod Numbers
+mod Names

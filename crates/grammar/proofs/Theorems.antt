@@ -1,23 +1,25 @@
 -- What is shown of the grammar. `Rule ws t` (specs/Grammar.antt) is that of SPEC 3.1: the words ws are a rule with the
 -- tree t. `treeOf` (specs/Parse.antt) is what the parse functions compute. They are the same; and it is shown that
--- words have one tree at most, how large it is, when it has a meaning, and which numbers it names. Assumes nothing.
+-- words have one tree at most, how large it is, when it has a meaning, and which numbers and parameters it names.
+-- Assumes nothing.
 use mathlib.Core.Path.{_≡_, refl, sym, ap, _∙_}
 use mathlib.Core.Bool.{Bool, true, false, cond}
 use mathlib.Core.List.{List}
 use mathlib.Core.Option.{none, some, Option·none-ne-some}
-use Prim.Native.Nat.{ℕ, _-_, _*_, _≤_, _<_}
+use Prim.Native.Nat.{ℕ, _+_, _-_, _*_, _≤_, _<_}
 use native.Mathlib.Omega.{arith}
 use lib.Dec.{eqb}
 use lib.ListN.{length}
 use borrow.Author.Tests.{eqb-true, eq-eqb}
-use Rattle.limits.specs.Limits.{literalCount}
+use Rattle.limits.specs.Limits.{literalCount, parameterCount}
 use Rattle.formulas.specs.Formula.{Formula}
 use Rattle.formulas.specs.Tree.{Tree, nodes, formulaOf}
 use Rattle.formulas.specs.Arena.{flat}
 use Rattle.formulas.specs.Bounds.{bounded}
-use Rattle.words.specs.Word.{VELOCITY, lastWord, isVelocity}
+use Rattle.formulas.specs.Names.{namesParameter}
+use Rattle.words.specs.Word.{PARAMETER, VELOCITY, lastWord, isVelocity}
 use Rattle.grammar.specs.Grammar.{Rule}
-use Rattle.grammar.specs.Fragment.{beyond}
+use Rattle.grammar.specs.Fragment.{hasWord, beyond}
 use Rattle.grammar.specs.Parse.{Result, word, ended, read, treeOf}
 use Rattle.grammar.specs.Parse.Result.{no-rule, ok}
 use Rattle.grammar.specs.Parse.Goal.{goF}
@@ -26,6 +28,7 @@ use Rattle.grammar.proofs.Complete.{finds, found, one-tree}
 use Rattle.grammar.proofs.Lists.{derived, placed}
 use Rattle.grammar.proofs.Fragment
 use Rattle.grammar.proofs.Numbers.{numbers}
+use Rattle.grammar.proofs.Names.{hits-names}
 
 module _ (ws : List ℕ) (t : Tree) where
   -- The tree that the parser gives is one that the grammar has,
@@ -70,6 +73,10 @@ module _ (ws : List ℕ) (t : Tree) where
       ((i : ℕ) → isVelocity (word ws i) ≡ true → word ws i - VELOCITY < velocities) →
       bounded literalCount velocities t ≡ true
   rule-numbers velocities g h v = numbers velocities h v (placed ws t g)
+
+  -- Its tree names a parameter (SPEC 3.11) exactly if the parameter's word (SPEC 2.6) stands among its words.
+  pub rule-names : Rule ws t → (j : ℕ) → j < parameterCount → namesParameter t j ≡ hasWord (PARAMETER + j) ws
+  rule-names g j known = sym (hits-names j known g)
 
 -- Where the parser gives no tree, the words are no rule.
 pub no-tree : (ws : List ℕ) → treeOf ws ≡ none → (t : Tree) → Rule ws t → ⊥

@@ -1,8 +1,8 @@
 -- Two lists of calls that differ in their parameters alone, which are admitted in both: the same calls are refused, and
 -- their ticks differ in the parameters alone. Assumes nothing.
-use mathlib.Core.Bool.{Bool, true}
+use mathlib.Core.Bool.{true}
 use mathlib.Core.List.{List, [], _∷_, map}
-use mathlib.Core.Path.{_≡_, refl, sym, ap, fun-ext, _∙_}
+use mathlib.Core.Path.{_≡_, refl, ap, fun-ext, _∙_}
 use Prim.Native.Nat.{ℕ, zero, suc}
 use Rattle.traces.specs.declared.Tick.{Tick}
 use Rattle.traces.specs.Trace.{Trace}
@@ -71,7 +71,9 @@ module _ (cap velocities n : ℕ) where
     pub second-trace : (xs : List Call) →
         let ks : List Tick = admitted cap velocities n (map (callWith ps) xs) in
         traceOfTicks qs (admitted cap velocities n (map (callWith qs) xs)) ≡ runWith qs (traceOfTicks ps ks)
-    second-trace xs = ap (traceOfTicks qs) (admitted-alike xs) ∙ fun-ext (with-trace (admitted cap velocities n (map (callWith ps) xs)))
+    second-trace xs =
+        let ks : List Tick = admitted cap velocities n (map (callWith ps) xs) in
+        ap (traceOfTicks qs) (admitted-alike xs) ∙ fun-ext (with-trace ks)
 
     -- The answers, by the verdicts at the ticks.
     pub expected-alike : (v w : ℕ → ℕ) → ((i : ℕ) → v i ≡ w i) → (k : ℕ) (xs : List Call)

@@ -3,7 +3,7 @@
 use mathlib.Core.Bool.{true}
 use mathlib.Core.List.{List, _++_, map}
 use mathlib.Core.Option.{Option, some}
-use mathlib.Core.Path.{_≡_, refl, sym, ap, ap₂, fun-ext, _∙_, subst}
+use mathlib.Core.Path.{_≡_, refl, sym, ap, _∙_, subst}
 use Prim.Native.Nat.{ℕ, _*_, _≤_}
 use native.Mathlib.Omega.{arith}
 use lib.ListN.{length, take, drop}
@@ -15,7 +15,7 @@ use Rattle.limits.specs.Limits.{standardCap, tableRoom, ruleEquations}
 use Rattle.limits.specs.declared.Context.{Context}
 use Rattle.traces.specs.Trace.{Trace}
 use Rattle.tables.specs.Table.{Equation}
-use Rattle.traces.specs.Parameters.{parametersFit, runWith}
+use Rattle.traces.specs.Parameters.{parametersFit}
 use Rattle.flows.specs.Run.{Call, callWith, fromFresh, answered}
 use Rattle.flows.proofs.Expected.{admitted}
 use Rattle.agreement.specs.Agreement.{traceOfTicks, Observes}
@@ -27,7 +27,8 @@ use Rattle.rules.specs.Reading.{HasOutcome}
 use Rattle.rules.specs.Reading.Outcome.{rule}
 use Rattle.rules.proofs.Theorems.{computed}
 use Rattle.rules.proofs.Sides.{side-rule, within-fits}
-use Rattle.rules.proofs.SameRule.{SameRule, yes-rule, same-formula, same-meaning}
+use Rattle.rules.proofs.SameRule.{yes-rule, same-formula, same-meaning}
+use Rattle.rules.specs.Same.{SameRule}
 use Rattle.observers.specs.Compile.{AfterCompile, afterCompile, stored, compiled}
 use Rattle.observers.specs.Demand.{Compiles}
 use Rattle.observers.specs.Demand.Compiles.{not-read, no-room, observed}
@@ -161,3 +162,17 @@ module _ (context : Context) where
         answers-are (x .observes rest) old room (map (callWith ps) calls) ps (own standardCap velocities n ps calls)
         ∙ expected-alike standardCap velocities n ps qs (fit .0) (fit .1) _ _ (one-verdict x y calls) 0 calls
         ∙ sym (answers-are (y .observes rest′) old′ room′ others qs (own standardCap velocities n qs calls))
+
+    -- So of what compiling leaves of the one text and of the other.
+    pub same-runs : (before before′ : List ℕ) (n m : ℕ) (t u : List ℕ)
+        → afterCompile (Equations n) t ≡ compiled context a before → Compiles context a before (Equations n) t
+        → afterCompile (Equations m) u ≡ compiled context b before′ → Compiles context b before′ (Equations m) u
+        → (rest rest′ old old′ : List ℕ) → n ≤ length old → m ≤ length old′ → (calls : List Call)
+        → answered (fromFresh standardCap velocities (take (4 * n) t ++ rest) n old (map (callWith ps) calls))
+        ≡ answered (fromFresh standardCap velocities (take (4 * m) u ++ rest′) m old′ (map (callWith qs) calls))
+    same-runs before before′ n m t u c h c′ h′ rest rest′ old old′ room room′ calls =
+        let numbers : n ≡ m = same-tables before before′ n m t u c h c′ h′ .0 in
+        let second = subst (λ (k : ℕ). Compiles context b before′ (Equations k) u) (sym numbers) h′ in
+        same-answers before before′ n t u h second rest rest′ old old′ room (omega arith) calls
+        ∙ ap (λ (k : ℕ). answered (fromFresh standardCap velocities (take (4 * k) u ++ rest′) k old′
+        (map (callWith qs) calls))) numbers

@@ -18,7 +18,7 @@ use Rattle.words.specs.Split.Out.{made}
 use Rattle.formulas.specs.Formula.{Formula}
 use Rattle.formulas.specs.Meaning.{verdict}
 use Rattle.formulas.specs.Tree.{Tree, formulaOf}
-use Rattle.tables.specs.Table.{Equation, all}
+use Rattle.tables.specs.Table.{Equation}
 use Rattle.limits.specs.Limits.{parameterCount, standardCap, textLimit, equationLimit, tableRoom}
 use Rattle.limits.specs.declared.Context.{Context}
 use Rattle.flows.specs.Step.{AfterStep, freshened, stepped, stepChecked, steppedIf, afterTick as tickAfter}
@@ -93,7 +93,8 @@ module _ (cap velocities : ℕ) (t : List ℕ) (n : ℕ) where
     unfolding callChecked parameterFits
     admitted v k h e u =
         let fit : parametersFit cap (k .parameters) ≡ true =
-        all-of (parameterFits cap (k .parameters)) parameterCount (λ i l. lt-ltb (getD (k .parameters) i 0) cap (rw e (low i))) in
+        all-of (parameterFits cap (k .parameters)) parameterCount
+        (λ i l. lt-ltb (getD (k .parameters) i 0) cap (rw e (low i))) in
         rw (le-leb _ _ h, fit, lt-ltb _ _ u)
 
     -- So all of these calls are: their ticks are ks, and a verdict is expected of each.

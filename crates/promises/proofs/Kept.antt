@@ -17,6 +17,7 @@ use Rattle.formulas.specs.Formula.{Formula}
 use Rattle.formulas.specs.Tree.{Tree, formulaOf}
 use Rattle.formulas.proofs.Laws.{means}
 use Rattle.formulas.proofs.Only.{only-verdict}
+use Rattle.grammar.proofs.Theorems.{rule-names}
 use Rattle.rules.specs.Reading.{Outcome, HasOutcome}
 use Rattle.rules.specs.Reading.Outcome.{rule, refused}
 use Rattle.rules.specs.Reading.HasOutcome.{is-rule}
@@ -24,13 +25,13 @@ use Rattle.rules.specs.Computed.{ruleOf}
 use Rattle.rules.specs.Contract.{answerOf}
 use Rattle.rules.proofs.Theorems.{has-outcome, computed, one-outcome, numbered, accepted, has-formula}
 use Rattle.rules.specs.Computed.{comparison}
-use Rattle.rules.specs.Same.{Within, SameValues}
+use Rattle.rules.specs.Same.{Within, SameValues, SameRule}
 use Rattle.rules.specs.Same.HasSide.{within}
 use Rattle.rules.specs.Same.SameAnswer.{one-rule as yes}
 use Rattle.rules.proofs.Sides.{side-rule}
 use Rattle.rules.proofs.Sameness.{same-answer}
 use Rattle.rules.proofs.SameRule.{one-answer, same-tree, not-refused, yes-rule, reflexive, symmetric, transitive}
-use Rattle.rules.proofs.SameRule.{same-meaning}
+use Rattle.rules.proofs.SameRule.{same-meaning, numbered-answer}
 use Rattle.tables.specs.Table.{kindOf, checked}
 use Rattle.tables.specs.declared.Checked.the-variants.{Passed, Refused as Failed}
 use Rattle.tables.proofs.Checks.{failed-passed}
@@ -52,7 +53,7 @@ use Rattle.packing.proofs.Again.{refused-packed, again, behind}
 use Rattle.lustre.proofs.Theorems as lustre
 use Rattle.player.specs.Card.{printed}
 use Rattle.player.proofs.Shown.{shown, one-output}
-use Rattle.promises.specs.Promises.{Reading, Meaning, Whether, Comparing, Compiling, SameRule, SameRules}
+use Rattle.promises.specs.Promises.{Reading, Meaning, Whether, Comparing, Compiling, SameRules}
 use Rattle.promises.specs.Promises.{RoundTrips, Promises}
 
 reading : (context : Context) → Reading context
@@ -63,6 +64,7 @@ reading context =
       one-outcome = λ text x y. one-outcome context text x y;
       numbered = numbered context;
       formula = λ text t h. has-formula context text t (computed context text h);
+      names = λ text t a. rule-names (a .ws) t (a .grammar);
       one-answer = λ text r r′ h k.
           h .answer
           ∙ ap answerOf (one-outcome context text (h .outcome) (k .outcome) (h .has) (k .has))
@@ -84,6 +86,7 @@ same-rules context =
     record {
       some-answer = λ a ps b qs. (comparison context a ps b qs, same-answer context a ps b qs _ refl);
       one-answer = λ a ps b qs r r′ h k. one-answer h k;
+      numbered = λ a ps b qs k h. numbered-answer context h refl;
       exactly = λ a ps b qs. (
         one-rule,
         λ (t, h, k, w, w′, v). yes (within h w) (within k w′) v,

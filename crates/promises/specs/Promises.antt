@@ -16,12 +16,12 @@
 --   towerwatch     Shows          player/specs/Shows.antt           a card and what is printed
 use mathlib.Core.Bool.{true}
 use mathlib.Core.List.{List, [], _∷_, _++_, map}
-use mathlib.Core.Logic.{_↔_}
+use mathlib.Core.Logic.{_↔_, _⊎_}
 use mathlib.Core.Option.{some}
 use mathlib.Core.Path.{_≡_}
-use Prim.Native.Nat.{ℕ, _*_, _≤_, _<_}
+use Prim.Native.Nat.{ℕ, _+_, _*_, _≤_, _<_}
 use lib.ListN.{length, take, drop}
-use Rattle.limits.specs.Limits.{standardCap, literalCount, tableRoom, ruleEquations}
+use Rattle.limits.specs.Limits.{standardCap, literalCount, parameterCount, tableRoom, ruleEquations}
 use Rattle.limits.specs.declared.Context.{Context}
 use Rattle.traces.specs.Trace.{Trace, parameterAt}
 use Rattle.traces.specs.Parameters.{runWith}
@@ -31,14 +31,17 @@ use Rattle.traces.specs.declared.Tick.{Tick}
 use Rattle.formulas.specs.Formula.{Formula, Prop}
 use Rattle.formulas.specs.Tree.{Tree, formulaOf}
 use Rattle.formulas.specs.Meaning.{at, meaning, verdict}
+use Rattle.formulas.specs.Names.{namesParameter}
 use Rattle.formulas.specs.Laws.{Means}
+use Rattle.words.specs.Word.{PARAMETER}
+use Rattle.grammar.specs.Fragment.{hasWord}
 use Rattle.rules.specs.Reading.{Admitted, Outcome, HasOutcome}
 use Rattle.rules.specs.Reading.Outcome.{rule, refused}
 use Rattle.rules.specs.Contract.{Told}
-use Rattle.rules.specs.Same.{Within, SameValues, SameAnswer}
+use Rattle.rules.specs.Same.{Within, SameValues, SameAnswer, SameRule}
 use Rattle.rules.specs.declared.Read.{Read}
 use Rattle.rules.specs.declared.Same.{Same}
-use Rattle.rules.specs.declared.Same.the-variants.{Yes}
+use Rattle.rules.specs.declared.Same.the-variants.{Refused as NotCompared}
 use Rattle.tables.specs.Table.{Equation, kindOf, checked}
 use Rattle.tables.specs.declared.Checked.the-variants.{Passed, Refused as Failed}
 use Rattle.flows.specs.Flow.{valueOf}
@@ -70,6 +73,9 @@ pub record Reading (context : Context) : Type 0 where
   pub numbered : (text : List ℕ) (k : ℕ) → HasOutcome context text (refused k) → (1 ≤ k) × (k ≤ 8)
   -- What is read has a formula, and so a meaning.
   pub formula : (text : List ℕ) (t : Tree) → HasOutcome context text (rule t) → (f : Formula) × (formulaOf t ≡ some f)
+  -- SPEC 3.11: its tree names the parameters whose words (SPEC 2.6) stand in the text, and no others.
+  pub names : (text : List ℕ) (t : Tree) (a : Admitted context text t) (j : ℕ) → j < parameterCount
+      → namesParameter t j ≡ hasWord (PARAMETER + j) (a .ws)
   -- The contract of reading settles the answer (SPEC 12.4).
   pub one-answer : (text : List ℕ) (r r′ : Read) → Told context text r → Told context text r′ → r ≡ r′
 
@@ -133,16 +139,15 @@ pub record Compiling (context : Context) : Type 0 where
       → Compiles context text before (Equations n) after → HasOutcome context text (rule t) → formulaOf t ≡ some f
       → (rest : List ℕ) → Observes standardCap (context .velocities) (take (4 * n) after ++ rest) n f
 
--- SPEC 8.3: a with the parameters ps and b with the parameters qs are the same rule.
-abbrev pub SameRule : Context → List ℕ → List ℕ → List ℕ → List ℕ → Type 0
-SameRule context a ps b qs = SameAnswer context a ps b qs Yes
-
--- Comparing two texts, each with its parameters.
+-- SPEC 8.3: comparing two texts, each with its parameters.
 pub record SameRules (context : Context) : Type 0 where
   -- SPEC 12.1 (demand 1): any two have an answer, and one (SPEC 12.4).
   pub some-answer : (a ps b qs : List ℕ) → (r : Same) × SameAnswer context a ps b qs r
   pub one-answer : (a ps b qs : List ℕ) (r r′ : Same) → SameAnswer context a ps b qs r → SameAnswer context a ps b qs r′
       → r ≡ r′
+  -- A refusal is 1 to 8, or 13, so that 0 can stand for none.
+  pub numbered : (a ps b qs : List ℕ) (k : ℕ) → SameAnswer context a ps b qs (NotCompared k)
+      → ((1 ≤ k) × (k ≤ 8)) ⊎ (k ≡ 13)
   -- It is yes exactly if both are rules with one tree, the parameters are admitted, and those that the tree names have
   -- the same values.
   pub exactly : (a ps b qs : List ℕ)
@@ -159,8 +164,8 @@ pub record SameRules (context : Context) : Type 0 where
       → HasOutcome context b (rule u) → (f g : Formula) → formulaOf t ≡ some f → formulaOf u ≡ some g
       → (trace : Trace) (e : ℕ) → verdict (runWith ps trace) f e ≡ verdict (runWith qs trace) g e
   -- Two tables of as many equations, compiled of the one and of the other: over every list of calls from the fresh
-  -- state, refused ones included, the steps answer the same, each side with its own parameters. That `compile_rule`
-  -- leaves the same equations of both is `same-tables` (observers, proofs/SameRule.antt).
+  -- state, refused ones (by 12 or 19) included, the steps answer the same, each side with its own parameters. That
+  -- `compile_rule` leaves the same equations of both is `same-tables` (observers, proofs/SameRule.antt).
   pub same-answers : {a ps b qs before before′ t u : List ℕ} {n : ℕ} → SameRule context a ps b qs
       → Compiles context a before (Equations n) t → Compiles context b before′ (Equations n) u
       → (rest rest′ old old′ : List ℕ) → n ≤ length old → n ≤ length old′ → (calls : List Call)

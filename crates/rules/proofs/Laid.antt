@@ -49,7 +49,7 @@ module _ {context : Context} (e : context ≡ standardContext) where
       subst (λ (x : Context). Laid (sideOf ps (ruleOf x text)) before r after) e h
 
 -- An answer with records is not one with a refusal.
-no-records : {n k m : ℕ} → No-records m ≡ Tree-records n k → ⊥
+pub no-records : {n k m : ℕ} → No-records m ≡ Tree-records n k → ⊥
 no-records q = let z : _≡_ {A = ℕ} 0 1 = cc in omega arith
 
 -- The tree behind n numbers of records and a node count k.

@@ -1,11 +1,11 @@
 -- What it is to be the same rule (SPEC 8.3): it is settled for any two texts with their parameters, an equivalence on
 -- those that are rules, and such rules have the same meaning on every interval and the same verdict at every tick of
 -- every trace, each with its own parameters. Assumes nothing.
-use mathlib.Core.Bool.{true}
-use mathlib.Core.Path.{_≡_, refl, sym, ap, _∙_, subst, subst₂}
+use mathlib.Core.Logic.{_⊎_, inl, inr}
+use mathlib.Core.Path.{_≡_, refl, sym, ap, _∙_, subst}
 use mathlib.Core.List.{List}
 use mathlib.Core.Option.{some}
-use Prim.Native.Nat.{ℕ}
+use Prim.Native.Nat.{ℕ, _≤_}
 use native.Mathlib.Omega.{arith}
 use Rattle.limits.specs.declared.Context.{Context}
 use Rattle.traces.specs.Trace.{Trace}
@@ -17,21 +17,24 @@ use Rattle.formulas.specs.Tree.{Tree, formulaOf}
 use Rattle.formulas.specs.Meaning.{meaning, verdict}
 use Rattle.formulas.proofs.Alike.{SameNamed, meaning-alike, verdict-alike}
 use Rattle.formulas.proofs.Formulas.{formula-raw}
-use Rattle.rules.specs.Reading.{HasOutcome}
+use Rattle.rules.specs.Reading.{Outcome, HasOutcome}
 use Rattle.rules.specs.Reading.Outcome.{refused, rule}
-use Rattle.rules.specs.Same.{Within, HasSide, SameValues, SameAnswer}
-use Rattle.rules.specs.Same.HasSide.{within}
+use Rattle.rules.specs.Same.{Within, HasSide, SameValues, SameAnswer, SameRule}
+use Rattle.rules.specs.Same.HasSide.{text-refused, above, within}
 use Rattle.rules.specs.Same.SameAnswer.{first-refused, second-refused, one-rule, two-trees, two-values}
 use Rattle.rules.specs.declared.Same.{Same}
 use Rattle.rules.specs.declared.Same.the-variants.{Yes, No, Refused}
 use Rattle.rules.proofs.Decided.{refused-rule}
-use Rattle.rules.proofs.Theorems.{one-outcome}
-use Rattle.rules.proofs.Sides.{one-side, side-rule}
+use Rattle.rules.proofs.Theorems.{one-outcome, numbered}
+use Rattle.rules.proofs.Sides.{side-rule}
 use Rattle.rules.proofs.Sameness.{computed-answer}
 
 -- The other answers are not yes.
 refused-yes : {n : ℕ} → Refused n ≡ Yes → ⊥
 refused-yes q = let z : _≡_ {A = ℕ} 0 1 = cc in omega arith
+
+refused-no : {n : ℕ} → Refused n ≡ No → ⊥
+refused-no q = let z : _≡_ {A = ℕ} 0 1 = cc in omega arith
 
 no-yes : No ≡ Yes → ⊥
 no-yes q = let z : _≡_ {A = ℕ} 0 1 = cc in omega arith
@@ -52,7 +55,7 @@ module _ {context : Context} where
   pub same-tree : {a : List ℕ} {t u : Tree} → HasOutcome context a (rule t) → HasOutcome context a (rule u) → t ≡ u
   same-tree {a} {t} {u} h k = let e : rule t ≡ rule u = one-outcome context a _ _ h k in cc
 
-  -- SPEC 8.3: where the answer is yes both sides are one rule, and the other way round (`rule-yes`).
+  -- SPEC 8.3: where the answer is yes both sides are one rule.
   pub yes-rule : {a ps b qs : List ℕ} {r : Same} → SameAnswer context a ps b qs r → r ≡ Yes → OneRule context a ps b qs
   yes-rule (first-refused h) q = absurd (refused-yes q)
   yes-rule (second-refused h k) q = absurd (refused-yes q)
@@ -65,13 +68,29 @@ module _ {context : Context} where
       → r ≡ r′
   one-answer {a} {ps} {b} {qs} h k = computed-answer context a ps b qs h ∙ sym (computed-answer context a ps b qs k)
 
-  pub rule-yes : {a ps b qs : List ℕ} {r : Same} → OneRule context a ps b qs → SameAnswer context a ps b qs r → r ≡ Yes
-  rule-yes h k = one-answer k (one-rule (h .first) (h .second) (h .values))
+-- ---- refusals
+
+-- A refusal is 1 to 8, or 13, so that 0 can stand for none.
+abbrev Numbered : ℕ → Type 0
+Numbered k = ((1 ≤ k) × (k ≤ 8)) ⊎ (k ≡ 13)
+
+module _ (context : Context) where
+  side-numbered : {a ps : List ℕ} {x : Outcome} {k : ℕ} → HasSide context a ps x → x ≡ refused k → Numbered k
+  side-numbered {a} {k = k} (text-refused {n} h) q =
+      let same : n ≡ k = cc in
+      inl (numbered context a k (subst (λ (m : ℕ). HasOutcome context a (refused m)) same h))
+  side-numbered (above h high) q = inr (cc)
+  side-numbered (within h w) q = absurd (refused-rule (sym q))
+
+  pub numbered-answer : {a ps b qs : List ℕ} {r : Same} {k : ℕ} → SameAnswer context a ps b qs r → r ≡ Refused k
+      → Numbered k
+  numbered-answer {k = k} (first-refused {n} h) q = let same : n ≡ k = cc in side-numbered h (ap refused same)
+  numbered-answer {k = k} (second-refused {n = n} h h′) q = let same : n ≡ k = cc in side-numbered h′ (ap refused same)
+  numbered-answer (one-rule h h′ v) q = absurd (refused-yes (sym q))
+  numbered-answer (two-trees h h′ n) q = absurd (refused-no (sym q))
+  numbered-answer (two-values j h h′ n v) q = absurd (refused-no (sym q))
 
 -- ---- an equivalence on texts that are rules, with parameters that are admitted
-
-abbrev pub SameRule : Context → List ℕ → List ℕ → List ℕ → List ℕ → Type 0
-SameRule context a ps b qs = SameAnswer context a ps b qs Yes
 
 module _ (context : Context) where
   pub reflexive : (a ps : List ℕ) (t : Tree) → HasOutcome context a (rule t) → Within ps → SameRule context a ps a ps

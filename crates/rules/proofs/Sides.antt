@@ -3,9 +3,8 @@
 use mathlib.Core.Bool.{Bool, true, false, cond}
 use mathlib.Core.List.{List}
 use mathlib.Core.Path.{_≡_, refl, sym, ap, _∙_}
-use Prim.Native.Nat.{ℕ, _≤_, _<_}
+use Prim.Native.Nat.{ℕ}
 use native.Mathlib.Omega.{arith}
-use lib.Dec.{ltb}
 use borrow.Author.Tests.{ltb-true, ltb-false, lt-ltb, le-ltb}
 use Rattle.limits.specs.Limits.{literalCount, parameterCount}
 use Rattle.limits.specs.declared.Context.{Context}
@@ -16,8 +15,11 @@ use Rattle.formulas.specs.Tree.{Tree}
 use Rattle.rules.specs.Reading.{Outcome, HasOutcome}
 use Rattle.rules.specs.Reading.Outcome.{refused, rule}
 use Rattle.rules.specs.Computed.{ruleOf, sideOf}
+use Rattle.rules.specs.Laid.{recordsOf}
+use Rattle.rules.specs.declared.Records.the-variants.{Refused as No-records}
 use Rattle.rules.specs.Same.{Above, Within, HasSide}
 use Rattle.rules.specs.Same.HasSide.{text-refused, above, within}
+use Rattle.rules.proofs.Laid.{no-records}
 use Rattle.rules.proofs.Theorems.{has-outcome, computed}
 
 module _ (ps : List ℕ) where
@@ -46,10 +48,12 @@ module _ (ps : List ℕ) where
   above-unfit (j, h, high) =
       all-stop (parameterFits literalCount ps) j parameterCount h (le-ltb (numberAt ps j) literalCount (omega arith))
 
-  -- So of an outcome.
-  pub side-refused : {o : Outcome} {n : ℕ} → o ≡ refused n → sideOf ps o ≡ refused n
-  side-refused e = ap (sideOf ps) e
+  -- So of an outcome: a text that is refused stays so,
+  pub side-refused : (o : Outcome) {k : ℕ} → recordsOf o ≡ No-records k → sideOf ps o ≡ o
+  side-refused (refused n) e = refl
+  side-refused (rule t) e = absurd (no-records (sym e))
 
+  -- and of a rule the parameters decide.
   pub side-unfit : {o : Outcome} {t : Tree} → o ≡ rule t → parametersFit literalCount ps ≡ false
       → sideOf ps o ≡ refused 13
   side-unfit {t = t} e unfit = ap (sideOf ps) e ∙ ap (λ (b : Bool). cond b (rule t) (refused 13)) unfit
@@ -74,12 +78,9 @@ module _ (ps : List ℕ) where
 
     -- and nothing else.
     pub side-computed : {x : Outcome} → HasSide context text ps x → sideOf ps (ruleOf context text) ≡ x
-    side-computed (text-refused h) = side-refused (computed context text h)
+    side-computed (text-refused h) = ap (sideOf ps) (computed context text h)
     side-computed (above h a) = side-unfit (computed context text h) (above-unfit a)
     side-computed (within h w) = side-fit (ruleOf context text) (within-fits w) ∙ computed context text h
-
-    pub one-side : {x y : Outcome} → HasSide context text ps x → HasSide context text ps y → x ≡ y
-    one-side h k = sym (side-computed h) ∙ side-computed k
 
 -- A side that is a rule: its text is one, and its parameters are within the limit.
 pub side-rule : {context : Context} {text ps : List ℕ} {t : Tree} → HasSide context text ps (rule t)

@@ -28,7 +28,7 @@ pub data HasSide (context : Context) (text ps : List ℕ) : Outcome → Type 0 w
   above : {t : Tree} → HasOutcome context text (rule t) → Above ps → HasSide context text ps (refused 13)
   within : {t : Tree} → HasOutcome context text (rule t) → Within ps → HasSide context text ps (rule t)
 
--- Each parameter that the tree names (SPEC 3.11) has one value on both sides.
+-- Each parameter that the tree names (SPEC 3.11) has the same value on both sides.
 abbrev pub SameValues : Tree → List ℕ → List ℕ → Type 0
 SameValues t ps qs = (j : ℕ) → namesParameter t j ≡ true → numberAt ps j ≡ numberAt qs j
 
@@ -46,6 +46,10 @@ pub data SameAnswer (context : Context) (first ps second qs : List ℕ) : Same �
       → SameAnswer context first ps second qs No
   two-values : {t : Tree} (j : ℕ) → HasSide context first ps (rule t) → HasSide context second qs (rule t)
       → namesParameter t j ≡ true → (numberAt ps j ≡ numberAt qs j → ⊥) → SameAnswer context first ps second qs No
+
+-- They are the same rule.
+abbrev pub SameRule : Context → List ℕ → List ℕ → List ℕ → List ℕ → Type 0
+SameRule context first ps second qs = SameAnswer context first ps second qs Yes
 
 -- 1 for yes and 0 for no.
 abbrev pub sameReply : Same → Reply

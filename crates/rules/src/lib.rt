@@ -210,13 +210,13 @@ fn read_side(
         (now (arena .exit)) ⌝ }
 {
     let records = read_tree(context, text, arena);
-    let Records::Rule(n, nodes) = records else {
-        return Records::Refused(records_refusal(records));
+    let Records::Rule(_, _) = records else {
+        return records;
     };
     if !traces::parameters_fit(limits::LITERALS, parameters) {
         return Records::Refused(13);
     }
-    Records::Rule(n, nodes)
+    records
 }
 
 // Whether a record of that kind, whose number after the comparison is b, names a parameter.

@@ -9,13 +9,14 @@ use Rattle.lists.specs.Number.{numberAt}
 use Rattle.traces.specs.Trace.{Trace, tickOf}
 use Rattle.traces.specs.declared.Tick.{Tick}
 
--- Parameter j is below the cap.
+-- Parameter j is below the limit.
 unfoldable pub parameterFits : ℕ → List ℕ → ℕ → Bool
-parameterFits cap ps j = ltb (numberAt ps j) cap
+parameterFits limit ps j = ltb (numberAt ps j) limit
 
--- SPEC 7.13: every parameter is, be it named by a rule or not. Those that the clause admits are below `standardCap`.
+-- SPEC 7.13: every parameter is, be it named by a rule or not. The limit is a million: for a step its cap, for same rule
+-- the number of literals.
 abbrev pub parametersFit : ℕ → List ℕ → Bool
-parametersFit cap ps = all (parameterFits cap ps) parameterCount
+parametersFit limit ps = all (parameterFits limit ps) parameterCount
 
 -- The tick with these parameters in place of its own, and the trace.
 abbrev pub withParameters : List ℕ → Tick → Tick

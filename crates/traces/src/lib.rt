@@ -58,13 +58,13 @@ pub fn tick_of(
     }
 }
 
-// Whether every parameter is below the cap (SPEC 7.13): the one place where parameters are admitted.
-pub fn parameters_fit(cap: u32, parameters: &[u32; limits::PARAMETERS]) -> bool
-    ensures { λ r. ⌜ r ≡ parametersFit cap (now (parameters .entry)) ⌝ }
+// Whether every parameter is below the limit: the one place that decides on refusal 13 (SPEC 7.13).
+pub fn parameters_fit(limit: u32, parameters: &[u32; limits::PARAMETERS]) -> bool
+    ensures { λ r. ⌜ r ≡ parametersFit limit (now (parameters .entry)) ⌝ }
 {
     let mut j = 0;
     while j < limits::PARAMETERS {
-        if cap <= parameters[j] {
+        if limit <= parameters[j] {
             return false;
         }
         j += 1;

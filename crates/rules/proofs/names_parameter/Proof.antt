@@ -1,7 +1,4 @@
 -- `rules::names_parameter` meets its contract: the two tests are those of `recordNames`. Assumes nothing.
-use mathlib.Core.Bool.{Bool, _&&_}
-use mathlib.Core.Path.{_≡_}
-use native.Mathlib.Omega.{arith}
 use borrow.Author.Tests.{le-leb, lt-leb}
 use Rattle.rules.proofs.names_parameter.Statement.{statement}
 use Rattle.rules.proofs.names_parameter.Tie as tie

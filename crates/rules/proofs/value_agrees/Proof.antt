@@ -1,6 +1,5 @@
 -- `rules::value_agrees` meets its contract: a record that names no parameter agrees, one that names it by the two
 -- values. Assumes nothing.
-use mathlib.Core.Path.{_≡_}
 use borrow.Author.Needs.{needs}
 use borrow.Author.Tests.{not-true, not-false}
 use Rattle.rules.proofs.value_agrees.Statement.{statement}

@@ -1,9 +1,9 @@
--- `traces::parameters_fit` meets its contract. The invariant: the first j parameters are below the cap. Assumes nothing.
+-- `traces::parameters_fit` meets its contract. The invariant: the first j parameters are below the limit.
+-- Assumes nothing.
 use mathlib.Core.Path.{_≡_, sym}
 use mathlib.Core.Bool.{true}
 use Prim.Native.Nat.{_≤_, _-_}
 use native.Mathlib.Omega.{arith}
-use borrow.Author.Needs.{needs}
 use borrow.Author.Tests.{lt-ltb, le-ltb}
 use lib.ListN.{getD}
 use Rattle.limits.specs.Limits.{parameterCount}
@@ -14,10 +14,10 @@ use Rattle.traces.proofs.parameters_fit.Statement.{statement}
 use Rattle.traces.proofs.parameters_fit.Tie as tie
 
 abbrev Inv-loop : tie.InvT-loop
-Inv-loop cap parameters j₀ j = (j ≤ parameterCount) × (all (parameterFits cap parameters) j ≡ true)
+Inv-loop limit parameters j₀ j = (j ≤ parameterCount) × (all (parameterFits limit parameters) j ≡ true)
 
 abbrev μ-loop : tie.MeasureT-loop
-μ-loop cap parameters j₀ j = parameterCount - j
+μ-loop limit parameters j₀ j = parameterCount - j
 
 loop-holds : tie.Need-loop-holds Inv-loop μ-loop
 loop-holds c = (omega arith, all-none _)
@@ -27,8 +27,8 @@ unfolding parameterFits
 one-unfit c =
     let args = c .before .before .before .before .args in
     let j = c .before .before .before .loop .j in
-    sym (all-stop (parameterFits (args .cap) (args .parameters .now)) j parameterCount (omega arith)
-    (le-ltb (getD (args .parameters .now) j 0) (args .cap) (omega arith)))
+    sym (all-stop (parameterFits (args .limit) (args .parameters .now)) j parameterCount (omega arith)
+    (le-ltb (getD (args .parameters .now) j 0) (args .limit) (omega arith)))
 
 loop-again : tie.Need-loop-again Inv-loop μ-loop
 unfolding parameterFits
@@ -37,7 +37,7 @@ loop-again c =
     let loop = c .before .before .before .loop in
     let j = loop .j in (
       omega arith,
-      all-more _ j (loop .inv .1) (lt-ltb (getD (args .parameters .now) j 0) (args .cap) (omega arith)),
+      all-more _ j (loop .inv .1) (lt-ltb (getD (args .parameters .now) j 0) (args .limit) (omega arith)),
     )
 
 all-fit : tie.Need-returns-2 Inv-loop μ-loop
