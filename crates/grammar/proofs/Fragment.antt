@@ -11,9 +11,9 @@ use Rattle.formulas.specs.Formula.{Prop, Formula}
 use Rattle.formulas.specs.Tree.{Tree, map, map₂, propOf, formulaOf}
 use Rattle.formulas.specs.Tree.Tree.{constant, signal, velocity, neg, and, or, then, chop, exists, test, len, count}
 use Rattle.formulas.specs.Tree.Tree.{lag}
-use Rattle.words.specs.Word.{ROUND-END, AND, OR, LE, GE, BEGIN, KEPT, SUM, AGE}
+use Rattle.words.specs.Word.{ROUND-END, AND, OR}
 use Rattle.words.specs.Word.{THEN, CHOP, EXISTS}
-use Rattle.words.specs.Word.{isOp, isSignal, isNum, isVelocity, isBit, isTest, isCount}
+use Rattle.words.specs.Word.{isNum}
 use Rattle.grammar.specs.Grammar.{Symbol, Derives, Rule}
 use Rattle.grammar.specs.Grammar.{bitWord, signalWord, velocityWord, opWord, numWord, testWord, countWord}
 use Rattle.grammar.specs.Grammar.Symbol.{F, D, C, U, B}
@@ -21,7 +21,8 @@ use Rattle.grammar.specs.Grammar.Derives.{F-one, F-then, F-chop, D-one, 
 use Rattle.grammar.specs.Grammar.Derives.{U-not, U-exists, U-round, U-constant, U-signal, U-velocity}
 use Rattle.grammar.specs.Grammar.Derives.{U-test, U-len, U-count, U-lag, B-between}
 use Rattle.grammar.specs.Fragment.{hasWord, beyond}
-use Rattle.grammar.proofs.Position.{within-high, num-pos, bit-pos, signal-pos, velocity-pos}
+use Rattle.grammar.proofs.Position.{num-pos}
+use Rattle.grammar.proofs.Hits.{hits, hits-append, own, Clear, clear}
 
 -- ---- words
 
@@ -29,12 +30,8 @@ use Rattle.grammar.proofs.Position.{within-high, num-pos, bit-pos, sign
 abbrev hit : ℕ → Bool
 hit w = eqb w CHOP || eqb w EXISTS
 
-abbrev hits : List ℕ → Bool
-hits [] = false
-hits (w ∷ s) = hit w || hits s
-
 -- That is how `beyond` looks at them.
-beyond-hits : (s : List ℕ) → beyond s ≡ hits s
+beyond-hits : (s : List ℕ) → beyond s ≡ hits hit s
 unfolding hasWord
 beyond-hits [] = refl
 beyond-hits (w ∷ s) =
@@ -46,11 +43,6 @@ beyond-hits (w ∷ s) =
     swap false true false d = refl
     swap false false c d = refl
 
--- Of two parts, either.
-hits-append : (s u : List ℕ) → hits (s ++ u) ≡ hits s || hits u
-hits-append [] u = refl
-hits-append (w ∷ s) u = ap (λ (x : Bool). hit w || x) (hits-append s u) ∙ sym (or-assoc (hit w) (hits s) (hits u))
-
 -- Words below `chop` or above `exists` are neither,
 low : (w : ℕ) → w < CHOP → hit w ≡ false
 low w h = simp (ne-eqb w CHOP (λ e. omega arith), ne-eqb w EXISTS (λ e. omega arith))
@@ -59,29 +51,11 @@ high : (w : ℕ) → EXISTS < w → hit w ≡ false
 high w h = simp (ne-eqb w CHOP (λ e. omega arith), ne-eqb w EXISTS (λ e. omega arith))
 
 -- and so neither are the words of a class.
-op-hit : (w : ℕ) → isOp w ≡ true → hit w ≡ false
-unfolding isOp
-op-hit w h = low w (omega (arith, within-high LE GE w h))
-
-test-hit : (w : ℕ) → isTest w ≡ true → hit w ≡ false
-unfolding isTest
-test-hit w h = low w (omega (arith, within-high BEGIN KEPT w h))
-
-count-hit : (w : ℕ) → isCount w ≡ true → hit w ≡ false
-unfolding isCount
-count-hit w h = low w (omega (arith, within-high SUM AGE w h))
+none-hit : Clear hit
+none-hit = clear hit low (λ w h. high w (omega arith))
 
 num-hit : (w : ℕ) → isNum w ≡ true → hit w ≡ false
 num-hit w h = high w (omega (arith, num-pos w h))
-
-signal-hit : (w : ℕ) → isSignal w ≡ true → hit w ≡ false
-signal-hit w h = high w (omega (arith, signal-pos w h))
-
-velocity-hit : (w : ℕ) → isVelocity w ≡ true → hit w ≡ false
-velocity-hit w h = high w (omega (arith, velocity-pos w h))
-
-bit-hit : (w : ℕ) → isBit w ≡ true → hit w ≡ false
-bit-hit w h = high w (omega (arith, bit-pos w h))
 
 -- ---- trees
 
@@ -101,38 +75,30 @@ outside (len o n) = false
 outside (count k p o n) = outside p
 outside (lag p n q) = outside p || outside q
 
--- A symbol that has them itself: a B, where one of its two words is one of them.
-abbrev own : Symbol → Bool
-own F = false
-own D = false
-own C = false
-own U = false
-own (B before after) = hit before || hit after
-
 -- Words have them exactly if their symbol or their tree has them.
-hits-outside : {l : Bool} {c : Symbol} {s : List ℕ} {t : Tree} → Derives l c s t → hits s ≡ own c || outside t
+hits-outside : {l : Bool} {c : Symbol} {s : List ℕ} {t : Tree} → Derives l c s t → hits hit s ≡ own hit c || outside t
 hits-outside (F-one g) = hits-outside g
-hits-outside (F-then {s} {u} g h) = hits-append s (THEN ∷ u) ∙ ap₂ _||_ (hits-outside g) (hits-outside h)
-hits-outside (F-chop {s} {u} g h) = hits-append s (CHOP ∷ u) ∙ or-true (hits s)
+hits-outside (F-then {s} {u} g h) = hits-append hit s (THEN ∷ u) ∙ ap₂ _||_ (hits-outside g) (hits-outside h)
+hits-outside (F-chop {s} {u} g h) = hits-append hit s (CHOP ∷ u) ∙ or-true (hits hit s)
 hits-outside (D-one g) = hits-outside g
-hits-outside (D-or {s = s} {u = u} g h) = hits-append s (OR ∷ u) ∙ ap₂ _||_ (hits-outside g) (hits-outside h)
+hits-outside (D-or {s = s} {u = u} g h) = hits-append hit s (OR ∷ u) ∙ ap₂ _||_ (hits-outside g) (hits-outside h)
 hits-outside (C-one g) = hits-outside g
-hits-outside (C-and {s = s} {u = u} g h) = hits-append s (AND ∷ u) ∙ ap₂ _||_ (hits-outside g) (hits-outside h)
+hits-outside (C-and {s = s} {u = u} g h) = hits-append hit s (AND ∷ u) ∙ ap₂ _||_ (hits-outside g) (hits-outside h)
 hits-outside (U-not g) = hits-outside g
 hits-outside (U-exists h g) = refl
-hits-outside (U-round {s = s} g) = hits-append s (ROUND-END ∷ []) ∙ or-false (hits s) ∙ hits-outside g
-hits-outside (U-constant {w} h) = or-false (hit w) ∙ bit-hit w h
-hits-outside (U-signal {w} h) = or-false (hit w) ∙ signal-hit w h
-hits-outside (U-velocity {o} {n} h m) = ap₂ _||_ (op-hit o h) (or-false (hit n) ∙ velocity-hit n m)
-hits-outside (U-test {k} {s} h g) = ap₂ _||_ (test-hit k h) (hits-outside g)
-hits-outside (U-len {o} {n} h m) = ap₂ _||_ (op-hit o h) (or-false (hit n) ∙ num-hit n m)
+hits-outside (U-round {s = s} g) = hits-append hit s (ROUND-END ∷ []) ∙ or-false (hits hit s) ∙ hits-outside g
+hits-outside (U-constant {w} h) = or-false (hit w) ∙ none-hit .bit w h
+hits-outside (U-signal {w} h) = or-false (hit w) ∙ none-hit .signal w h
+hits-outside (U-velocity {o} {n} h m) = ap₂ _||_ (none-hit .op o h) (or-false (hit n) ∙ none-hit .velocity n m)
+hits-outside (U-test {k} {s} h g) = ap₂ _||_ (none-hit .test k h) (hits-outside g)
+hits-outside (U-len {o} {n} h m) = ap₂ _||_ (none-hit .op o h) (or-false (hit n) ∙ num-hit n m)
 hits-outside (U-count {k} {s} o n h g p q) =
-    let e : hits (o ∷ n ∷ []) ≡ false = ap₂ _||_ (op-hit o p) (or-false (hit n) ∙ num-hit n q) in
-    ap₂ _||_ (count-hit k h) (hits-append s (o ∷ n ∷ []) ∙ ap₂ _||_ (hits-outside g) e ∙ or-false _)
+    let e : hits hit (o ∷ n ∷ []) ≡ false = ap₂ _||_ (none-hit .op o p) (or-false (hit n) ∙ num-hit n q) in
+    ap₂ _||_ (none-hit .count k h) (hits-append hit s (o ∷ n ∷ []) ∙ ap₂ _||_ (hits-outside g) e ∙ or-false _)
 hits-outside (U-lag {s} {u} n g p h) =
-    hits-append s (n ∷ u) ∙ ap₂ _||_ (hits-outside g) (ap₂ _||_ (num-hit n p) (hits-outside h))
+    hits-append hit s (n ∷ u) ∙ ap₂ _||_ (hits-outside g) (ap₂ _||_ (num-hit n p) (hits-outside h))
 hits-outside (B-between {p = p} before after g) =
-    simp (hits-append, hits-outside g, or-false, or-comm (outside p) (hit after), or-assoc)
+    simp (hits-append hit, hits-outside g, or-false, or-comm (outside p) (hit after), or-assoc)
 
 -- What a tree without them is: inside square brackets a proposition, outside a formula.
 abbrev Sense : Bool → Tree → Type 0

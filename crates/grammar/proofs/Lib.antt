@@ -5,6 +5,7 @@ pub mod Sound
 pub mod Complete
 pub mod Words
 mod Lists
+mod Hits
 mod Fragment
 mod Numbers
 mod Names

@@ -28,7 +28,7 @@ use Rattle.grammar.proofs.Complete.{finds, found, one-tree}
 use Rattle.grammar.proofs.Lists.{derived, placed}
 use Rattle.grammar.proofs.Fragment
 use Rattle.grammar.proofs.Numbers.{numbers}
-use Rattle.grammar.proofs.Names.{hits-names}
+use Rattle.grammar.proofs.Names.{names-words}
 
 module _ (ws : List ℕ) (t : Tree) where
   -- The tree that the parser gives is one that the grammar has,
@@ -76,7 +76,7 @@ module _ (ws : List ℕ) (t : Tree) where
 
   -- Its tree names a parameter (SPEC 3.11) exactly if the parameter's word (SPEC 2.6) stands among its words.
   pub rule-names : Rule ws t → (j : ℕ) → j < parameterCount → namesParameter t j ≡ hasWord (PARAMETER + j) ws
-  rule-names g j known = sym (hits-names j known g)
+  rule-names g j known = names-words j known ws t g
 
 -- Where the parser gives no tree, the words are no rule.
 pub no-tree : (ws : List ℕ) → treeOf ws ≡ none → (t : Tree) → Rule ws t → ⊥
