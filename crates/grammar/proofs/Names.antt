@@ -60,7 +60,8 @@ module _ (j : ℕ) (known : j < parameterCount) where
   -- ---- derivations
 
   -- Two parts with a word between them that is none.
-  joined : (s u : List ℕ) (w : ℕ) {x y : Bool} → w < PARAMETER → hits hit s ≡ x → hits hit u ≡ y → hits hit (s ++ w ∷ u) ≡ x || y
+  joined : (s u : List ℕ) (w : ℕ) {x y : Bool} → w < PARAMETER → hits hit s ≡ x → hits hit u ≡ y
+      → hits hit (s ++ w ∷ u) ≡ x || y
   joined s u w h e f = hits-append hit s (w ∷ u) ∙ ap₂ _||_ e (ap (λ (b : Bool). b || hits hit u) (low w h) ∙ f)
 
   -- After a word that is none.
@@ -72,7 +73,8 @@ module _ (j : ℕ) (known : j < parameterCount) where
   between before after {x} h k = ap₂ (λ (b c : Bool). (b || c) || x) (low before h) (low after k)
 
   -- Words have it exactly if their symbol has it or their tree names it.
-  hits-names : {l : Bool} {c : Symbol} {s : List ℕ} {t : Tree} → Derives l c s t → hits hit s ≡ own hit c || namesParameter t j
+  hits-names : {l : Bool} {c : Symbol} {s : List ℕ} {t : Tree} → Derives l c s t
+      → hits hit s ≡ own hit c || namesParameter t j
   hits-names (F-one g) = hits-names g
   hits-names (F-then {s} {u} g h) = joined s u THEN (omega arith) (hits-names g) (hits-names h)
   hits-names (F-chop {s} {u} g h) = joined s u CHOP (omega arith) (hits-names g) (hits-names h)

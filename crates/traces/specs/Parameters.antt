@@ -13,8 +13,8 @@ use Rattle.traces.specs.declared.Tick.{Tick}
 unfoldable pub parameterFits : ℕ → List ℕ → ℕ → Bool
 parameterFits limit ps j = ltb (numberAt ps j) limit
 
--- SPEC 7.13: every parameter is, be it named by a rule or not. The limit is a million: for a step its cap, for same rule
--- the number of literals.
+-- SPEC 7.13: every parameter is, be it named by a rule or not. The limit is a million: for a step its cap, for same
+-- rule the number of literals.
 abbrev pub parametersFit : ℕ → List ℕ → Bool
 parametersFit limit ps = all (parameterFits limit ps) parameterCount
 
