@@ -108,7 +108,8 @@ struct towerwatch_answer towerwatch_compile(const uint8_t *text, size_t text_len
 
 /* Whether two texts with their parameters are the same rule: both read to one tree, and each parameter that the tree
  * names has the same value on both sides. Spaces and needless brackets do not count, nor does the value of a parameter
- * that the tree does not name. A literal is no parameter: `len<=5`, and `len<=k0` where parameter 0 is 5, are two trees.
+ * that the tree does not name. A literal is no parameter: `len<=5`, and `len<=k0` where parameter 0 is 5, are two
+ * trees.
  * first_parameters, second_parameters: TOWERWATCH_PARAMETERS numbers each, up to TOWERWATCH_LAST_NUMBER, only read.
  * They may be the same array; neither may be null.
  * Result: 1 for yes, 0 for no. Refused: 1 to 8 of the first text, 13 of the first parameters, 1 to 8 of the second
