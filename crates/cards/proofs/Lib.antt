@@ -9,5 +9,4 @@ pub mod Lines
 pub mod Front
 pub mod Editions
 pub mod Stages
-pub mod Sets
 pub mod Rows

@@ -5,8 +5,6 @@ pub mod Laws
 pub mod Tree
 pub mod Bounds
 pub mod Names
-pub mod Alike
 pub mod Arena
 pub mod Raw
-pub mod Sets
 pub mod Trials

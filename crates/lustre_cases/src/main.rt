@@ -279,22 +279,6 @@ fn velocities() {
     );
 }
 
-// Kind 13, with each place.
-fn verdicts() {
-    writes(
-        b"verdicts, places 1 to 4",
-        &[13, 1, 0, 0, 13, 2, 0, 0, 13, 3, 0, 0, 13, 4, 0, 0],
-        4,
-        b"let\nf0=r1;\nf1=r2;\nf2=r3;\nf3=r4;\nw=f2;\na=f3;\ntel\n",
-    );
-    writes(
-        b"verdicts, places 5 to 8",
-        &[13, 5, 0, 0, 13, 6, 0, 0, 13, 7, 0, 0, 13, 8, 0, 0],
-        4,
-        b"let\nf0=r5;\nf1=r6;\nf2=r7;\nf3=r8;\nw=f2;\na=f3;\ntel\n",
-    );
-}
-
 // Writing refused by 10 (SPEC 7.10),
 fn write_sizes() {
     writes(b"no equation", &[1, 0, 0, 0], 0, b"");
@@ -307,7 +291,7 @@ fn write_sizes() {
 fn write_rules() {
     writes(
         b"unknown kind",
-        &[14, 0, 0, 0, 1, 0, 0, 0, 1, 0, 0, 0],
+        &[13, 0, 0, 0, 1, 0, 0, 0, 1, 0, 0, 0],
         3,
         b"",
     );
@@ -320,14 +304,6 @@ fn write_velocities() {
     writes(b"velocity 128", &[12, 4, 128, 0, 1, 0, 0, 0], 2, b"");
     writes(b"velocity, op 5", &[12, 5, 90, 0, 1, 0, 0, 0], 2, b"");
     writes(b"velocity, C not 0", &[12, 4, 90, 1, 1, 0, 0, 0], 2, b"");
-}
-
-// and that kind 13 does not have,
-fn write_places() {
-    writes(b"place 0", &[13, 0, 0, 0, 1, 0, 0, 0], 2, b"");
-    writes(b"place 9", &[13, 9, 0, 0, 1, 0, 0, 0], 2, b"");
-    writes(b"place, B not 0", &[13, 1, 1, 0, 1, 0, 0, 0], 2, b"");
-    writes(b"place, C not 0", &[13, 1, 0, 1, 1, 0, 0, 0], 2, b"");
 }
 
 // SPEC 5.5 broken,
@@ -513,20 +489,6 @@ fn wrong_velocities() {
     );
 }
 
-// a verdict of no place, or its place in another spelling,
-fn wrong_places() {
-    reads(b"place 0", b"let\nf0=r0;\nf1=b;\nw=f0;\na=f1;\ntel\n");
-    reads(b"place 9", b"let\nf0=r9;\nf1=b;\nw=f0;\na=f1;\ntel\n");
-    reads(
-        b"needless 0 in a place",
-        b"let\nf0=r02;\nf1=b;\nw=f0;\na=f1;\ntel\n",
-    );
-    reads(
-        b"verdict and no place",
-        b"let\nf0=r;\nf1=b;\nw=f0;\na=f1;\ntel\n",
-    );
-}
-
 // numbers above the ranges of SPEC 5.3.
 fn wrong_ranges() {
     reads(b"signal 64", b"let\nf0=s64;\nf1=b;\nw=f0;\na=f1;\ntel\n");
@@ -552,11 +514,9 @@ fn main() {
     literals();
     parameters();
     velocities();
-    verdicts();
     write_sizes();
     write_rules();
     write_velocities();
-    write_places();
     write_closing();
     write_room();
     read_room();
@@ -569,6 +529,5 @@ fn main() {
     wrong_operands();
     wrong_closing();
     wrong_velocities();
-    wrong_places();
     wrong_ranges();
 }

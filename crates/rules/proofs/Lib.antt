@@ -8,5 +8,4 @@ pub mod Sides
 mod Values
 mod Decided
 mod Passes
-mod Places
 mod Outcomes

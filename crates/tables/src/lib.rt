@@ -1,7 +1,6 @@
 // Equation tables: the kinds of equations by their numbers (SPEC 5.3), and the check of a table, refusals 10 and 11
 // (SPEC 7.10, SPEC 7.11). What they mean is in specs/.
-ghost use Rattle.std.specs.Prelude.{◌≡◌, ◌&&◌, ◌*◌, ◌≤◌, ◌<◌, leb, length};
-ghost use Rattle.limits.specs.Limits.{place_count};
+ghost use Rattle.std.specs.Prelude.{◌≡◌, ◌&&◌, ◌*◌, ◌≤◌, ◌<◌, length};
 ghost use Rattle.tables.specs.Kind.{kind_count};
 ghost use Rattle.tables.specs.Table.{all, kind_of, shape_of, sort_of, same_sort, is_memory, is_flow, operand_fits};
 ghost use Rattle.tables.specs.Table.{equation_at, equation_fits, closes, checked};
@@ -26,8 +25,6 @@ pub enum Operand {
     Below(u32),
     // A velocity: a number below how many there are.
     Velocity,
-    // A place of a set: a number from 1 to how many there are.
-    Place,
 }
 
 // A row of the table of kinds: what A, B and C have to be, and the sort of the flow.
@@ -73,10 +70,8 @@ pub const COMPARE_PARAMETER: u32 = 11;
 
 pub const VELOCITY: u32 = 12;
 
-pub const EARLIER: u32 = 13;
-
 // How many kinds there are.
-pub const KIND_COUNT: usize = 14;
+pub const KIND_COUNT: usize = 13;
 
 // SPEC 5.5: how many equations close a table, the started flow's and then the verdict's.
 pub const CLOSING: usize = 2;
@@ -174,13 +169,6 @@ const KINDS: [Shape; KIND_COUNT] = [
         c: Operand::Unused,
         gives: Sort::Boolean,
     },
-    // 13: the verdict of an earlier rule.
-    Shape {
-        a: Operand::Place,
-        b: Operand::Unused,
-        c: Operand::Unused,
-        gives: Sort::Boolean,
-    },
 ];
 
 // The row of kind k.
@@ -211,7 +199,6 @@ pub fn row_of(k: u32) -> Shape
         COMPARE_LITERAL => shape_at(COMPARE_LITERAL),
         COMPARE_PARAMETER => shape_at(COMPARE_PARAMETER),
         VELOCITY => shape_at(VELOCITY),
-        EARLIER => shape_at(EARLIER),
         _ => Shape {
             a: Operand::Below(0),
             b: Operand::Unused,
@@ -276,7 +263,6 @@ pub fn sort_of(k: u32) -> Sort
         COMPARE_LITERAL => gives(COMPARE_LITERAL),
         COMPARE_PARAMETER => gives(COMPARE_PARAMETER),
         VELOCITY => gives(VELOCITY),
-        EARLIER => gives(EARLIER),
         _ => Sort::Boolean,
     }
 }
@@ -308,16 +294,6 @@ fn is_flow(table: &[u32], m: usize, s: Sort, x: u32) -> bool
     }
 }
 
-// Whether x is a place of a set.
-fn is_place(x: u32) -> bool
-    ensures { result ≡ (leb 1 x && leb x place_count) }
-{
-    if x < 1 {
-        return false;
-    }
-    x <= limits::PLACES as u32
-}
-
 // Whether x can be such an operand in equation i of n, where there are so many velocities.
 fn operand_fits(velocities: u32, table: &[u32], n: usize, i: usize, o: Operand, x: u32) -> bool
     requires { (i < n) × (4 * n ≤ length table.now) }
@@ -329,7 +305,6 @@ fn operand_fits(velocities: u32, table: &[u32], n: usize, i: usize, o: Operand, 
         Operand::Anywhere(s) => is_flow(table, n, s, x),
         Operand::Below(m) => x < m,
         Operand::Velocity => x < velocities,
-        Operand::Place => is_place(x),
     }
 }
 
@@ -402,7 +377,6 @@ fn equation_fits(vs: u32, t: &[u32], n: usize, i: usize) -> bool
             c(COMPARE_PARAMETER),
         ),
         VELOCITY => operands_fit(vs, t, n, i, a(VELOCITY), b(VELOCITY), c(VELOCITY)),
-        EARLIER => operands_fit(vs, t, n, i, a(EARLIER), b(EARLIER), c(EARLIER)),
         _ => false,
     }
 }

@@ -121,7 +121,7 @@ fn piece(
     buf: &mut [u8],
     to: usize,
     got: usize,
-    parameters: &mut [u32; sets::PARAMETERS],
+    parameters: &mut [u32; limits::PARAMETERS],
     table: &mut [u32],
     state: &mut [u32],
     values: &mut [u32],
@@ -155,7 +155,7 @@ fn once(
     watch: Watch,
     buf: &mut [u8],
     to: usize,
-    parameters: &mut [u32; sets::PARAMETERS],
+    parameters: &mut [u32; limits::PARAMETERS],
     table: &mut [u32],
     state: &mut [u32],
     values: &mut [u32],
@@ -181,7 +181,7 @@ fn once(
 // Reads until the input ends, the card is over or a write fails. `ps` are the parameters.
 fn run(
     buf: &mut [u8],
-    ps: &mut [u32; sets::PARAMETERS],
+    ps: &mut [u32; limits::PARAMETERS],
     table: &mut [u32],
     state: &mut [u32],
     values: &mut [u32],
@@ -210,14 +210,14 @@ fn run(
     }
 }
 
-// Each rule of a set has room for the largest one in the table and in the state, and the values for one rule's flows;
-// out is longer than buf by a refusal. The exit status is 0, however the run ended (SPEC 11.3).
+// The table has room for the largest rule, state and values for its equations; out is longer than buf by a refusal. The
+// exit status is 0, however the run ended (SPEC 11.3).
 fn main() {
     let mut buf = [0u8; 32768];
     let mut out = [0u8; OUTPUT];
-    let mut parameters = [0u32; sets::PARAMETERS];
-    let mut table = [0u32; sets::TABLES];
-    let mut state = [0u32; sets::STATES];
+    let mut parameters = [0u32; limits::PARAMETERS];
+    let mut table = [0u32; limits::TABLE];
+    let mut state = [0u32; limits::EQUATIONS];
     let mut values = [0u32; limits::EQUATIONS];
     run(
         &mut buf,

@@ -31,13 +31,12 @@ pub enum Op {
 pub const IDLE: u32 = 2;
 
 // One tick of a trace (SPEC 1.1): the start, which 0 alone is not, a bit for each signal, the velocity of the hardest
-// stroke, a verdict for each place of a set, and the parameters.
+// stroke, and the parameters.
 #[derive(Drop)]
 pub struct Tick {
     pub start: u32,
     pub signals: u64,
     pub velocity: u32,
-    pub verdicts: [u32; limits::PLACES],
     pub parameters: [u32; limits::PARAMETERS],
 }
 
@@ -46,16 +45,14 @@ pub fn tick_of(
     start: u32,
     signals: u64,
     velocity: u32,
-    verdicts: [u32; limits::PLACES],
     parameters: [u32; limits::PARAMETERS],
 ) -> Tick
-    ensures { result ≡ tick_of start signals velocity verdicts parameters }
+    ensures { result ≡ tick_of start signals velocity parameters }
 {
     Tick {
         start,
         signals,
         velocity,
-        verdicts,
         parameters,
     }
 }

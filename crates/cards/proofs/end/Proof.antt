@@ -28,11 +28,9 @@ end-spec =
     (λ c. search rules)
     (λ c. search rules)
     (λ c. search rules)
-    (λ c. search rules)
     ticks-left
     (λ c ps l. rw c.enum-told2.given.1)
     (λ c ps l. rw c.enum-told3.given.1)
     (λ c ps l. rw c.enum-told4.given.1)
     (λ c ps l. rw c.enum-told5.given.1)
-    (λ c ps l. rw c.enum-told6.given.1)
-    (λ c ps l. rw c.enum-told7.given.1))
+    (λ c ps l. rw c.enum-told6.given.1))

@@ -7,7 +7,7 @@ use Rattle.cards.proofs.read_line.Statement.{statement}
 use Rattle.cards.proofs.read_line.Tie as tie
 
 -- Where the phase is known to be the rule's, from the test of its first bytes.
-abbrev rule-phase : tie.After-has-prefix → tie.After-enum-told4
+abbrev rule-phase : tie.After-has-prefix → tie.After-enum-told3
 rule-phase c = c.before.before
 
 -- An over-long line.
@@ -18,32 +18,22 @@ over-long c = (
   λ h. c.plain.ensures.1,
 )
 
--- The first line.
-first : tie.Need-returns-3
-unfolding line_says
-first c =
-    let line = c.before.before in (
-      rw (c.plain2.ensures.0, lt-leb _ _ line.before.before.if1.false, line.enum_told.given.1)
-          (c.before.first-content.ensures _ _),
-      λ h. c.plain2.ensures.1,
-    )
-
 -- The edition.
-edition : tie.Need-returns-4
+edition : tie.Need-returns-3
 unfolding line_says
 edition c =
     let line = c.before.before in (
-      rw (c.plain3.ensures.0, lt-leb _ _ line.before.before.if1.false, line.enum-told2.given.1)
+      rw (c.plain2.ensures.0, lt-leb _ _ line.before.before.if1.false, line.enum_told.given.1)
           (c.before.edition-content.ensures _ _),
-      λ h. c.plain3.ensures.1,
+      λ h. c.plain2.ensures.1,
     )
 
 -- The parameters.
-parameters : tie.Need-returns-5
+parameters : tie.Need-returns-4
 unfolding line_says
 parameters c =
     let line = c.before in (
-      rw (lt-leb _ _ line.before.before.if1.false, line.enum-told3.given.1) c.parameters-line.ensures.0,
+      rw (lt-leb _ _ line.before.before.if1.false, line.enum-told2.given.1) c.parameters-line.ensures.0,
       c.parameters-line.ensures.1,
     )
 
@@ -54,56 +44,56 @@ rule-fine c =
     let begun = c.before.before in
     let line = rule-phase begun in (
       rw (
-        c.plain4.ensures.0,
+        c.plain3.ensures.0,
         lt-leb _ _ line.before.before.if1.left,
-        line.enum-told4.given.1,
+        line.enum-told3.given.1,
         ← begun.has-prefix.ensures,
         c.before.if2.true,
       ),
-      λ h. c.plain4.ensures.1,
+      λ h. c.plain3.ensures.1,
     )
 
-rule-broken : tie.Need-returns-6
+rule-broken : tie.Need-returns-5
 unfolding line_says
 rule-broken c =
     let begun = c.before.before in
     let line = rule-phase begun in (
       rw (
-        c.plain5.ensures.0,
+        c.plain4.ensures.0,
         lt-leb _ _ line.before.before.if1.left,
-        line.enum-told4.given.1,
+        line.enum-told3.given.1,
         ← begun.has-prefix.ensures,
         c.before.if2.false,
       ),
-      λ h. c.plain5.ensures.1,
+      λ h. c.plain4.ensures.1,
     )
 
 -- The number of ticks, and a tick.
-count : tie.Need-returns-7
+count : tie.Need-returns-6
 unfolding line_says
 count c =
     let line = c.before.before in (
-      rw (c.plain6.ensures.0, lt-leb _ _ line.before.before.if1.false, line.enum-told5.given.1)
+      rw (c.plain5.ensures.0, lt-leb _ _ line.before.before.if1.false, line.enum-told4.given.1)
           (c.before.count-content.ensures _ _),
-      λ h. c.plain6.ensures.1,
+      λ h. c.plain5.ensures.1,
     )
 
-tick : tie.Need-returns-8
+tick : tie.Need-returns-7
 unfolding line_says
 tick c =
     let line = c.before.before in (
-      rw (c.plain7.ensures.0, lt-leb _ _ line.before.before.if1.false, line.enum-told6.given.1)
+      rw (c.plain6.ensures.0, lt-leb _ _ line.before.before.if1.false, line.enum-told5.given.1)
           (c.before.tick-content.ensures _ _),
-      λ h. c.plain7.ensures.1,
+      λ h. c.plain6.ensures.1,
     )
 
 -- The card is over.
-over : tie.Need-returns-9
+over : tie.Need-returns-8
 unfolding line_says
 over c =
     let line = c.before in (
-      rw (c.plain8.ensures.0, lt-leb _ _ line.before.before.if1.false, line.enum-told7.given.1),
-      λ h. c.plain8.ensures.1,
+      rw (c.plain7.ensures.0, lt-leb _ _ line.before.before.if1.false, line.enum-told6.given.1),
+      λ h. c.plain7.ensures.1,
     )
 
 pub read-line-spec : {M : Type 1} → statement M
@@ -113,9 +103,6 @@ read-line-spec =
     (λ c κs. search rules)
     (λ c κs. search rules)
     over-long
-    (λ c. search rules)
-    (λ c κs. search rules)
-    (λ c κs. search rules)
     (λ c. search rules)
     (λ c κs. search rules)
     (λ c κs. search rules)
@@ -135,7 +122,6 @@ read-line-spec =
     (λ c κs. search rules)
     (λ c. search rules)
     (λ c κs. search rules)
-    first
     edition
     parameters
     rule-broken

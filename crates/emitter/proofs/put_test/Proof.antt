@@ -1,16 +1,12 @@
--- `emitter::put_test` meets its contract: the record of a velocity test or of a verdict puts its equation, any other
--- none. Assumes nothing.
+-- `emitter::put_test` meets its contract: a velocity test's record puts its equation, any other none. Assumes nothing.
 use borrow.Author.Rules.{rules}
-use Rattle.emitter.proofs.Records.{put-velocity, put-earlier, put_other}
+use Rattle.emitter.proofs.Records.{put-velocity, put_other}
 use Rattle.emitter.proofs.put_test.Statement.{statement}
 use Rattle.emitter.proofs.put_test.Tie as tie
 
--- Where the record is known to be a velocity test's, and a verdict's, from the end.
+-- Where the record is known to be a velocity test's, from the end.
 abbrev is-velocity : tie.After-slice-known2 → tie.Then1
 is-velocity c = c.before.before.before.before
-
-abbrev is-earlier : tie.After-slice-known3 → tie.Then2
-is-earlier c = c.before.before.before.before
 
 of-velocity : tie.Need-returns
 of-velocity c =
@@ -18,17 +14,10 @@ of-velocity c =
     let args = test.before.before.before.args in
     put-velocity args.x args.table.now args.next test.if1.taken c.before.before.put.ensures
 
-of-earlier : tie.Need-returns-2
-of-earlier c =
-    let test = is-earlier c in
-    let args = test.before.before.before.before.before.args in
-    put-earlier args.x args.table.now args.next test.if2.taken c.before.before.put2.ensures
-
-of_other : tie.Need-returns-3
+of_other : tie.Need-returns-2
 of_other c =
-    let first = c.before.before in
-    let args = first.before.before.before.args in
-    put_other args.x args.table.now args.next first.if1.false c.if2.false
+    let args = c.before.before.before.args in
+    put_other args.x args.table.now args.next c.if1.false
 
 pub put-test-spec : {M : Type 1} → statement M
 put-test-spec =
@@ -38,8 +27,4 @@ put-test-spec =
     (λ c. search rules)
     (λ c. search rules)
     of-velocity
-    (λ c κs. search rules)
-    (λ c. search rules)
-    (λ c. search rules)
-    of-earlier
     of_other)

@@ -8,7 +8,7 @@ use borrow.Author.Rules.{rules}
 use lib.ListN.{length, drop, length-drop}
 use Rattle.lists.specs.Line.{line}
 use Rattle.player.specs.Card.{World, world_of, brought}
-use Rattle.player.specs.Output.{printed_by, output_bytes}
+use Rattle.player.specs.Output.{output_bytes}
 use Rattle.feeder.specs.declared.Fed.{Fed}
 use Rattle.feeder.proofs.Moving.{put-length, with_rest}
 use Rattle.feeder.proofs.Feeding.{Between, begun, written-room, rest-room, ran_on, line-inside, said-room}
@@ -57,16 +57,16 @@ tail c = c.before.before.before.before
 
 -- A whole line: where the values are back from `on_line`, what it does, and where it is known, from its output; that
 -- output, from the end of the turn.
-abbrev line-back : tie.After-verdicts2 invariant-loop decreases-loop → tie.After-values2 invariant-loop decreases-loop
-line-back c = c.before.before.before.before.before
+abbrev line-back : tie.After-put-arg invariant-loop decreases-loop → tie.After-values2 invariant-loop decreases-loop
+line-back c = c.before.before.before
 
-abbrev answered : tie.After-verdicts2 invariant-loop decreases-loop → tie.After-on-line invariant-loop decreases-loop
+abbrev answered : tie.After-put-arg invariant-loop decreases-loop → tie.After-on-line invariant-loop decreases-loop
 answered c = (line-back c).before.before.before.before.before
 
 abbrev whole : tie.After-on-line invariant-loop decreases-loop → tie.Else1 invariant-loop decreases-loop
 whole c = c.before.before.before.before.before
 
-abbrev put : tie.After-slice-known12 invariant-loop decreases-loop → tie.After-verdicts2 invariant-loop decreases-loop
+abbrev put : tie.After-slice-known12 invariant-loop decreases-loop → tie.After-put-arg invariant-loop decreases-loop
 put c = c.before.before.before
 
 -- ---- after the tick lines that `feed_ticks` runs
@@ -173,10 +173,9 @@ on-line-requires c κs =
     let line = here.before in
     record { ends = ap (λ (n : ℕ). used (ran line) + n) line.line-length.ensures; whole = ended here }
 
-room : (c : tie.After-verdicts2 invariant-loop decreases-loop) →
+room : (c : tie.After-put-arg invariant-loop decreases-loop) →
     let here = ran (whole (answered c)).before in
-    let told = (answered c).on_line.result in
-    at here + length (output_bytes (printed_by told.output told.verdicts)) ≤ length (out here)
+    at here + length (output_bytes (answered c).on_line.result.output) ≤ length (out here)
 room c =
     let line = (whole (answered c)).before in
     said-room (run (ran line)) line.line-length.result line.line-length.ensures

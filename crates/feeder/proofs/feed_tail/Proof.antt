@@ -5,7 +5,8 @@ use Prim.Native.Nat.{◌-◌}
 use borrow.Author.Rules.{rules}
 use lib.Seq.{paste-zero}
 use Rattle.player.specs.Card.{broken_bytes}
-use Rattle.player.specs.Output.{printed_by, output_bytes}
+use Rattle.player.specs.Output.{output_bytes}
+use Rattle.player.specs.declared.Answered.{Answered}
 use Rattle.feeder.specs.Feed.{placed}
 use Rattle.feeder.proofs.Resuming.{bytes-short, bytes-long, tail-short, tail-long}
 use Rattle.feeder.proofs.feed_tail.Statement.{statement}
@@ -15,8 +16,8 @@ use Rattle.feeder.proofs.feed_tail.Tie as tie
 abbrev begun : tie.Else1 → tie.Start
 begun c = c.before.before
 
-abbrev card-over : tie.After-verdicts2 → tie.After-end-over-long
-card-over c = c.before.before.before.before
+abbrev card-over : tie.After-put-arg → tie.After-end-over-long
+card-over c = c.before.before
 
 -- It is short.
 short : tie.Need-returns
@@ -31,9 +32,8 @@ short c =
 
 -- It is over-long, and what is put is what a broken line prints.
 says : (c : tie.After-end-over-long) →
-    let over = c.end-over-long.result in
-    output_bytes (printed_by over.output over.verdicts) ≡ broken_bytes (begun c.before).args.w.stage.phase
-says c = ap output_bytes (c.end-over-long.ensures.0 _)
+    output_bytes c.end-over-long.result.output ≡ broken_bytes (begun c.before).args.w.stage.phase
+says c = ap (λ (a : Answered). output_bytes a.output) c.end-over-long.ensures
 
 put-requires : tie.Need-put-requires
 put-requires c κs =
@@ -53,7 +53,7 @@ over-long c =
           ∙ cc (
             put.put.ensures.0,
             says over,
-            over.end-over-long.ensures.1,
+            over.end-over-long.ensures,
             tail-long args.w args.used args.to args.at h,
           ),
       put.put.ensures.1

@@ -1,17 +1,16 @@
 -- `feeder::finish` meets its contract: what the end of the input says is placed at the front of out. Assumes nothing.
 use mathlib.Core.Path.{◌≡◌, sym, ◌∙◌, ap}
-use mathlib.Core.List.{List, []}
+use mathlib.Core.List.{[]}
 use Prim.Native.Nat.{ℕ, ◌+◌, ◌≤◌}
 use borrow.Author.Rules.{rules}
 use native.Mathlib.Omega.{arith}
-use lib.ListN.{length, take, replicate}
+use lib.ListN.{length, take}
 use lib.Seq.{length-take-le}
 use Rattle.cards.specs.Says.{end_says}
-use Rattle.limits.specs.Limits.{place_count}
-use Rattle.player.specs.Card.{world_of, last_output, longest_refusal}
-use Rattle.player.specs.Output.{printed_by, output_bytes}
+use Rattle.player.specs.Card.{world_of, last_output}
+use Rattle.player.specs.Output.{output_bytes}
 use Rattle.feeder.proofs.Resuming.{ends}
-use Rattle.player.proofs.Paying.{last-small}
+use Rattle.player.proofs.Paying.{output-small}
 use Rattle.feeder.proofs.Moving.{put-takes, put_keeps, put-length}
 use Rattle.feeder.proofs.finish.Statement.{statement}
 use Rattle.feeder.proofs.finish.Tie as tie
@@ -20,37 +19,28 @@ use Rattle.feeder.proofs.finish.Tie as tie
 abbrev begun : tie.After-last-output → tie.Start
 begun c = c.before.before.before.before.before
 
--- The verdicts that stand beside the output, which prints none.
-abbrev beside : List ℕ
-beside = replicate place_count 0
-
--- What the end says, as an output, whatever verdicts stand beside it.
-said : (c : tie.After-last-output) (vs : List ℕ) →
-    let args = (begun c).args in printed_by c.last-output.result vs ≡ last_output (end_says args.w.stage args.to)
-said c vs = c.last-output.ensures [] [] vs ∙ ap last_output (c.before.end.ensures [] [])
-
--- It is no longer than a refusal.
-small : (c : tie.After-last-output) (vs : List ℕ)
-    → length (output_bytes (printed_by c.last-output.result vs)) ≤ longest_refusal
-small c vs = let args = (begun c).args in rw (said c vs) (last-small (end_says args.w.stage args.to))
+-- What the end says, as an output.
+said : (c : tie.After-last-output) →
+    let args = (begun c).args in c.last-output.result ≡ last_output (end_says args.w.stage args.to)
+said c = c.last-output.ensures [] [] ∙ ap last_output (c.before.end.ensures [] [])
 
 put-requires : tie.Need-put-requires
-put-requires c κs = omega (arith, small c.before.before beside)
+put-requires c κs = omega (arith, output-small c.before.last-output.result)
 
 returns : tie.Need-returns
 returns c =
-    let told = c.before.before.before.before.before in
+    let told = c.before.before.before.before in
     let args = (begun told).args in
     let pre = (begun told).requires in
     let put = c.before.before.put.ensures in
-    let word = output_bytes (printed_by told.last-output.result beside) in
-    let h : 0 + length word ≤ length args.out.now = omega (arith, small told beside) in
+    let word = output_bytes told.last-output.result in
+    let h : 0 + length word ≤ length args.out.now = omega (arith, output-small told.last-output.result) in
     record {
       tells = λ ps t c v.
           ends (world_of args.w ps t c v) (take args.to args.buf.now) pre.1.0
           ∙ ap (λ (n : ℕ). output_bytes (last_output (end_says args.w.stage n)))
           (length-take-le args.to args.buf.now pre.0)
-          ∙ ap output_bytes (sym (said told beside))
+          ∙ ap output_bytes (sym (said told))
           ∙ sym (put-takes args.out.now word 0 put.0 put.1 h);
       kept = put_keeps args.out.now word 0 put.0 put.1 h;
       room = omega (arith, h, put.0, put-length args.out.now word 0 put.0 put.1 h);

@@ -1,65 +1,59 @@
 -- `feeder::run_ticks` meets its contract. The invariant: what stands between two lines of the piece (`Between`), and no
--- step of a rule has a refusal. Assumes nothing.
-use mathlib.Core.Path.{◌≡◌, refl, sym, ◌∙◌, subst}
+-- step has a refusal. Assumes nothing.
+use mathlib.Core.Path.{◌≡◌, refl, sym, ◌∙◌}
 use native.Mathlib.Omega.{arith}
 use borrow.Author.Rules.{rules}
 use mathlib.Core.List.{List}
 use Prim.Native.Nat.{ℕ}
 use lib.ListN.{length}
 use Rattle.limits.specs.Context.{standard_context}
-use Rattle.cards.specs.Says.{stage_at, cards_in}
+use Rattle.cards.specs.Says.{stage_at}
 use Rattle.cards.specs.Place.{tick_at}
-use Rattle.cards.specs.declared.Stage.{Stage}
 use Rattle.cards.specs.declared.TickFound.TheVariants as F
 use Rattle.player.specs.Card.{world_of, watch_of}
-use Rattle.player.specs.declared.Watch.{Watch}
 use Rattle.cards.proofs.Front.{none_first}
 use Rattle.player.proofs.Playing.{some-velocity}
 use Rattle.feeder.specs.Feed.{Admitted}
 use Rattle.feeder.proofs.Feeding.{Between, begun}
-use Rattle.feeder.proofs.TickRuns.{Passes, velocity-low, verdicts-room, after-tick, runs-all}
+use Rattle.feeder.proofs.TickRuns.{passes_at, velocity-low, admitted-on, verdict-room, after-tick, runs-all}
 use Rattle.feeder.proofs.run_ticks.Statement.{statement}
 use Rattle.feeder.proofs.run_ticks.Tie as tie
 
--- The stage with so many ticks left.
-abbrev leaving : Stage → ℕ → List ℕ → Watch
-leaving k left sizes = watch_of (stage_at k.phase k.edition k.place k.cards left) sizes
-
 abbrev invariant-loop : tie.invariant-loop
-invariant-loop bytes ps table state₀ values₀ out₀ stage sizes m edition hex left₀ used₀ at₀ state values out left used at =
-    let w₀ = world_of (leaving stage left₀ sizes) ps table state₀ values₀ in
-    let w = world_of (leaving stage left sizes) ps table state values in
+invariant-loop bytes ps table state₀ values₀ out₀ phase edition n hex left₀ used₀ at₀ state values out left used at =
+    let w₀ = world_of (watch_of (stage_at phase edition left₀) n) ps table state₀ values₀ in
+    let w = world_of (watch_of (stage_at phase edition left) n) ps table state values in
     Between w₀ bytes out₀ w out used at
     × Admitted w
     × (length state ≡ length state₀) × (length values ≡ length values₀)
 
 abbrev decreases-loop : tie.decreases-loop
-decreases-loop bytes ps table state₀ values₀ out₀ stage sizes m edition hex left₀ used₀ at₀ state values out left used at = left
+decreases-loop bytes ps table state₀ values₀ out₀ phase edition n hex left₀ used₀ at₀ state values out left used at = left
 
 -- ---- the places
 
--- The number of rules, from the loop; the start, from where the arrays are known, and from the loop.
-abbrev counted : tie.At-loop invariant-loop decreases-loop → tie.After-card-count invariant-loop decreases-loop
-counted c = c.before.before
-
+-- The start, from where the arrays are known, and from the loop.
 abbrev start : tie.After-slice-known3 invariant-loop decreases-loop → tie.Start invariant-loop decreases-loop
 start c = c.before.before.before.before.before
 
 abbrev entry : tie.At-loop invariant-loop decreases-loop → tie.Start invariant-loop decreases-loop
-entry c = start (counted c).before.before.before
+entry c = start c.before.before.before
 
--- Where the line is known, from its steps; and the loop from there.
-abbrev read : tie.After-run-rules-arg2 invariant-loop decreases-loop → tie.After-found invariant-loop decreases-loop
-read c = c.before.before.before.before
+-- The tick that is built, from its step; where its line is known; and the loop from there.
+abbrev built : tie.After-step-passed invariant-loop decreases-loop → tie.After-tick-of invariant-loop decreases-loop
+built c = c.before.before.before
+
+abbrev read : tie.After-step-passed invariant-loop decreases-loop → tie.After-found invariant-loop decreases-loop
+read c = (built c).before.before.before
 
 abbrev turn : tie.After-found invariant-loop decreases-loop → tie.At-loop invariant-loop decreases-loop
 turn c = c.before.before.before.before.before
 
--- The steps, from where their verdicts are lent, and that place from the end of the turn.
-abbrev stepped : tie.After-verdicts invariant-loop decreases-loop → tie.After-run-rules invariant-loop decreases-loop
-stepped c = let told = c.before.before.before in told.before.before.before
+-- The step, from where the output is lent for its verdict, and that place from the end of the turn.
+abbrev stepped : tie.After-put-verdict-arg invariant-loop decreases-loop → tie.After-step-passed invariant-loop decreases-loop
+stepped c = c.before.before.before.before.before
 
-abbrev lent : tie.After-slice-known6 invariant-loop decreases-loop → tie.After-verdicts invariant-loop decreases-loop
+abbrev lent : tie.After-slice-known6 invariant-loop decreases-loop → tie.After-put-verdict-arg invariant-loop decreases-loop
 lent c = c.before.before.before
 
 -- Where the next line is looked at, from where it is broken; and the loop from there.
@@ -73,19 +67,10 @@ stopped c = (looked c).before.before.before
 abbrev piece : tie.At-loop invariant-loop decreases-loop → List ℕ
 piece c = (entry c).args.bytes.now
 
--- The watch in the turn.
-abbrev watch : tie.At-loop invariant-loop decreases-loop → Watch
-watch c = leaving (entry c).args.watch.stage c.loop.left (entry c).args.watch.sizes
-
--- The number of rules is that of the stage.
-all : (c : tie.At-loop invariant-loop decreases-loop) → (counted c).card-count.result ≡ cards_in (entry c).args.watch.stage
-all c = (counted c).card-count.ensures.0
-
 -- ---- the needs
 
 loop-holds : tie.Need-loop-init invariant-loop decreases-loop
-loop-holds c =
-    let pre = (start c.before.before.before.before).pre in (begun _ _ _ pre.0, pre.1, refl, refl)
+loop-holds c = let pre = (start c.before.before).pre in (begun _ _ _ pre.0, pre.1, refl, refl)
 
 -- The next line is broken or not whole, or no tick is left.
 line-broken : tie.Need-returns invariant-loop decreases-loop
@@ -114,40 +99,40 @@ found : (c : tie.After-found invariant-loop decreases-loop) →
     ≡ tick_at standard_context.velocities (entry loop).args.watch.stage.edition (piece loop) loop.loop.used
 found c = sym c.found.given.1 ∙ c.before.before.tick-at.ensures
 
--- and the steps of the rules, none of which has a refusal.
-run-rules-requires : tie.Need-run-rules-requires invariant-loop decreases-loop
-run-rules-requires c κs =
-    let line = read c in
+-- and its step.
+step-passed-requires : tie.Need-step-passed-requires invariant-loop decreases-loop
+step-passed-requires c κs =
+    let tick = c.before.before in
+    let line = tick.before.before.before in
     let loop = turn line in
-    let admits = loop.loop.inv.1 in (
-      (counted loop).card-count.ensures.1,
-      velocity-low standard_context (watch loop) (piece loop) loop.loop.used (found line) some-velocity,
-      subst (Passes _ _ _) (sym (all loop)) admits.passes,
-    )
+    let admits = loop.loop.inv.1 in
+    let low = velocity-low _ _ _ some-velocity (piece loop) loop.loop.used admits (found line) in
+    passes_at _ _ _ admits low tick.tick-of.ensures
 
-put-verdicts-requires : tie.Need-put-verdicts-requires invariant-loop decreases-loop
-put-verdicts-requires c κs =
-    let steps = stepped c in
-    let line = read steps.before in
+put-verdict-requires : tie.Need-put-verdict-requires invariant-loop decreases-loop
+put-verdict-requires c κs =
+    let step = stepped c in
+    let line = read step in
     let loop = turn line in
     let inv = loop.loop.inv in
     let more = line.before.before.before.before.loop-test.taken in
-    verdicts-room standard_context (watch loop) (piece loop) loop.loop.used (found line) (all loop) inv.1.phase
-    steps.run-rules.ensures.0 inv.0 more
+    verdict-room _ _ _ some-velocity (piece loop) loop.loop.used inv.1 (found line)
+    (built step).tick-of.ensures step.step-passed.ensures inv.0 more
 
 loop-again : tie.Need-loop-preserved invariant-loop decreases-loop
 loop-again c =
-    let put = c.before.before.put-verdicts.ensures in
-    let steps = stepped (lent c) in
-    let line = read steps.before in
+    let put = c.before.before.put-verdict.ensures in
+    let step = stepped (lent c) in
+    let line = read step in
     let loop = turn line in
     let inv = loop.loop.inv in
     let more = line.before.before.before.before.loop-test.taken in (
-      after-tick standard_context (watch loop) (piece loop) loop.loop.used (found line) (all loop) inv.1.phase
-          steps.run-rules.ensures.0 inv.0 more put.0 put.1,
-      record { phase = inv.1.phase; passes = subst (Passes _ _ _) (all loop) steps.run-rules.ensures.1 },
-      omega (arith, steps.run-rules.kept, inv.2),
-      omega (arith, steps.run-rules.kept, inv.3),
+      after-tick _ _ _ some-velocity (piece loop) loop.loop.used inv.1 (found line)
+          (built step).tick-of.ensures step.step-passed.ensures inv.0 more put.0 put.1,
+      admitted-on _ _ _ some-velocity (piece loop) loop.loop.used inv.1 (found line)
+          (built step).tick-of.ensures step.step-passed.ensures,
+      omega (arith, step.step-passed.kept, inv.2),
+      omega (arith, step.step-passed.kept, inv.3),
     )
 
 pub run-ticks-spec : {M : Type 1} → statement M
@@ -156,7 +141,6 @@ run-ticks-spec =
     (tie.spec
     invariant-loop
     decreases-loop
-    (λ c κs. search rules)
     (λ c κs. search rules)
     loop-holds
     (λ c κs. c.before.before.before.hex-digits.ensures)
@@ -168,8 +152,9 @@ run-ticks-spec =
     (λ c. (stopped c).loop.invariant.3)
     (λ c. (stopped c).loop.invariant.0.same)
     line-broken
-    run-rules-requires
-    put-verdicts-requires
+    (λ c κs. search rules)
+    step-passed-requires
+    put-verdict-requires
     (λ c. search rules)
     (λ c. omega arith)
     loop-again

@@ -6,18 +6,15 @@ use Rattle.flows.specs.Step.{stepped}
 use Rattle.firmware.proofs.towerwatch_step.Statement.{statement}
 use Rattle.firmware.proofs.towerwatch_step.Tie as tie
 
--- The step, from the end; the tick that is built, from there; where the verdicts are known; and the start.
+-- The step, from the end; the tick that is built, from there; and the start.
 abbrev called : tie.After-step-answer → tie.After-step
 called c = c.before.before.before.before.before
 
 abbrev built : tie.After-step → tie.After-tick-of
 built c = c.before.before.before
 
-abbrev known : tie.After-tick-of → tie.After-shared-slice-known
-known c = c.before.before.before.before.before
-
 abbrev start : tie.After-step → tie.Start
-start c = (known (built c)).before
+start c = (built c).before.before.before.before.before
 
 returns : tie.Need-returns
 returns c =

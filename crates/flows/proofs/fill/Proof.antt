@@ -23,19 +23,19 @@ turn cap t k state values₀ values i x h inv e =
     ∙ flows-store cap t k state i x values₀ h (e ∙ ap (λ (l : List ℕ). value_at cap t k state l i) before)
 
 abbrev invariant-loop : tie.invariant-loop
-invariant-loop cap table n state values₀ tick rs ps i₀ values i =
+invariant-loop cap table n state values₀ tick ps i₀ values i =
     (i ≤ n) × (length values ≡ length values₀) × (values ≡ flows cap table tick state i ++ drop i values₀)
 
 abbrev decreases-loop : tie.decreases-loop
-decreases-loop cap table n state values₀ tick rs ps i₀ values i = n - i
+decreases-loop cap table n state values₀ tick ps i₀ values i = n - i
 
--- The start, from the loop, past what is lent of the tick.
+-- The start, from the loop.
 abbrev start : tie.At-loop invariant-loop decreases-loop → tie.Start invariant-loop decreases-loop
-start c = let lent = c.before.before.before in lent.before.before.before
+start c = c.before.before.before.before.before
 
 loop-holds : tie.Need-loop-init invariant-loop decreases-loop
 loop-holds c =
-    let args = c.before.before.before.before.before.args in
+    let args = c.before.before.before.before.args in
     let none = flows-none args.cap args.table.now args.tick args.state.now in
     (omega arith, refl, ap (λ (l : List ℕ). l ++ args.values.now) (sym none))
 
@@ -44,8 +44,7 @@ slice-aggregate-value c = sym (length-take-le _ _ (omega arith))
 
 loop-again : tie.Need-loop-preserved invariant-loop decreases-loop
 loop-again c =
-    let stored = c.before.before.before in
-    let inv = stored.before.before.before.loop.invariant in
+    let inv = c.before.before.before.before.before.loop.invariant in
     (omega arith, rw length-set inv.1, turn _ _ _ _ _ _ _ _ (omega arith) inv.2 c.value.ensures)
 
 same_length : tie.Need-same-length invariant-loop decreases-loop
@@ -68,7 +67,7 @@ fill_spec =
     (λ c. omega arith)
     (λ c. omega arith)
     slice-aggregate-value
-    (λ c κs. (omega arith, refl, refl))
+    (λ c κs. (omega arith, refl))
     (λ c. omega arith)
     (λ c. omega arith)
     (λ c. omega arith)

@@ -88,7 +88,7 @@ of-compare-parameter c =
     let second = c.before.before in
     let first = second.before.before in
     let match = first.before in
-    let tick = (entry match.before).requires.2 in
+    let tick = (entry match.before).requires.1 in
     rw (match.match.keys12, ← first.number-at11.ensures, ← tick, ← second.number-at12.ensures)
     (c.number4.ensures ∙ ap truth c.before.compare2.ensures)
 
@@ -97,13 +97,7 @@ unfolding value_of kind_of
 of-velocity c =
     rw c.before.before.match.keys13 (c.number5.ensures ∙ ap truth c.before.compare3.ensures)
 
-of-earlier : tie.Need-returns-14
-unfolding value_of kind_of
-of-earlier c =
-    let match = c.before in
-    rw (match.match.keys14, ← (entry match.before).requires.1) c.verdict-at.ensures
-
-of-no-kind : tie.Need-returns-15
+of-no-kind : tie.Need-returns-14
 unfolding value_of
 of-no-kind c = rw (kind-beyond _ (none_below _ kind_count c.match.rest))
 
@@ -151,7 +145,6 @@ value_spec =
     (λ c κs. search rules)
     (λ c κs. search rules)
     (λ c κs. search rules)
-    (λ c κs. search rules)
     of-signal
     of-start
     of-constant
@@ -165,5 +158,4 @@ value_spec =
     of-compare-literal
     of-compare-parameter
     of-velocity
-    of-earlier
     of-no-kind)

@@ -62,12 +62,8 @@ of-velocity : tie.Need-returns-13
 unfolding kind_of forms first_of first_form form_number
 of-velocity c = rw c.before.match.keys13
 
-of-earlier : tie.Need-returns-14
-unfolding kind_of forms first_of first_form form_number
-of-earlier c = rw c.match.keys14
-
 -- No other number is that of a kind.
-of_other : tie.Need-returns-15
+of_other : tie.Need-returns-14
 unfolding form_number
 of_other c = rw (kind-beyond _ (none_below _ kind_count c.match.rest))
 
@@ -98,5 +94,4 @@ form-of-spec =
     of-compare-literal
     of-compare-parameter
     of-velocity
-    of-earlier
     of_other)

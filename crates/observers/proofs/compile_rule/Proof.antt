@@ -5,11 +5,11 @@ use borrow.Author.Rules.{rules}
 use lib.ListN.{replicate}
 use lib.Seq.{length-take-le}
 use Rattle.limits.specs.Limits.{arena_limit}
-use Rattle.limits.specs.Context.{context_at}
-use Rattle.words.proofs.Bounds.{context-ranged}
+use Rattle.limits.specs.Context.{standard_context}
+use Rattle.words.proofs.Bounds.{standard-ranged}
 use Rattle.rules.specs.Computed.{rule_of}
 use Rattle.rules.specs.Laid.{Laid}
-use Rattle.rules.proofs.Laid.{readable, laid-at, Front, front_of, refused_as}
+use Rattle.rules.proofs.Laid.{readable, standard-laid, Front, front_of, refused_as}
 use Rattle.observers.specs.Demand.Compiles.{not-read, no_room}
 use Rattle.observers.proofs.Demand.{has-rule, refused-compiled, short-compiled, emitted-rule}
 use Rattle.observers.proofs.compile_rule.Statement.{statement}
@@ -23,17 +23,17 @@ roomy c = c.before.before.before.before.before
 abbrev reading : tie.After-known-told → tie.After-read-tree
 reading c = c.before.before.before.before
 
-abbrev at_place : tie.After-read-tree → tie.After-context-at
-at_place c = c.before.before
+abbrev standard : tie.After-read-tree → tie.After-standard
+standard c = c.before.before
 
 abbrev start : tie.After-read-tree → tie.Start
 start c = c.before.before.before.before.before
 
 -- What the reading leaves.
 laid : (c : tie.After-read-tree) →
-    Laid (rule_of (context_at (start c).args.place) (start c).args.text.now) (replicate arena_limit 0)
-    c.read-tree.result c.read-tree.new.1.1.0
-laid c = laid-at (start c).args.place (at_place c).context-at.ensures _ c.read-tree.ensures
+    Laid (rule_of standard_context (start c).args.text.now) (replicate arena_limit 0) c.read-tree.result
+    c.read-tree.new.1.1.0
+laid c = standard-laid (standard c).standard.ensures _ c.read-tree.ensures
 
 -- The text is no rule.
 no-rule : tie.Need-returns
@@ -41,13 +41,12 @@ no-rule c =
     let told = c.before.enum_told.given in
     let call = c.before.before.before.before in
     let e = refused_as (laid call) told.0.0 _ told.1 c.records-refusal.ensures in
-    let args = (start call).args in
-    (refused-compiled (context_at args.place) args.text.now _ _ e, not-read (has-rule e))
+    (refused-compiled standard_context (start call).args.text.now _ _ e, not-read (has-rule e))
 
 -- The tree that was read, its numbers at the front of the arena.
 tree : (c : tie.After-known-told) →
     let call = reading c in
-    Front (rule_of (context_at (start call).args.place) (start call).args.text.now) c.before.records.given.0.0
+    Front (rule_of standard_context (start call).args.text.now) c.before.records.given.0.0
     call.read-tree.last.1.1.0
 tree c =
     let records = c.before.records.given in
@@ -57,11 +56,9 @@ tree c =
 short-table : tie.Need-returns-2
 short-table c =
     let h = tree c.before in
-    let args = (start (reading c.before)).args in
-    let short = c.if1.true in (
-      short-compiled (context_at args.place) args.text.now _ h.tree h.is short,
-      no_room (has-rule h.is) short,
-    )
+    let text = (start (reading c.before)).args.text.now in
+    let short = c.if1.true in
+    (short-compiled standard_context text _ h.tree h.is short, no_room (has-rule h.is) short)
 
 array-share-prefix-arena : tie.Need-array-share-prefix-arena
 array-share-prefix-arena c = let h = tree c.before in omega (arith, h.fits)
@@ -85,8 +82,8 @@ emitted c =
     let known = (roomy c).before in
     let h = tree known in
     let args = (start (reading known)).args in
-    emitted-rule (context_at args.place) (context-ranged args.place) args.text.now args.table.now h.tree
-    h.is (roomy c).if1.false _ _ _ h.front c.before.before.emit-observer.ensures
+    emitted-rule standard_context standard-ranged args.text.now args.table.now h.tree h.is
+    (roomy c).if1.false _ _ _ h.front c.before.before.emit-observer.ensures
 
 pub compile-rule-spec : {M : Type 1} → statement M
 compile-rule-spec =
@@ -94,7 +91,7 @@ compile-rule-spec =
     (tie.spec
     (λ c κs. search rules)
     (λ c. search rules)
-    (λ c κs. readable _ c.before.context-at.ensures (omega arith))
+    (λ c κs. readable c.before.standard.ensures (omega arith))
     (λ c. search rules)
     (λ c. search rules)
     (λ c κs. search rules)

@@ -24,10 +24,6 @@ a-velocity : tie.Need-returns-5
 unfolding mixed_number
 a-velocity c = rw c.enum-told5.given.1
 
-a-place : tie.Need-returns-6
-unfolding mixed_number
-a-place c = rw c.enum-told6.given.1
-
 pub named-spec : {M : Type 1} → statement M
 named-spec =
     tie.close
@@ -39,10 +35,8 @@ named-spec =
     (λ c κs. search rules)
     (λ c. search rules)
     (λ c. search rules)
-    (λ c. search rules)
     unused
     earlier
     anywhere
     below
-    a-velocity
-    a-place)
+    a-velocity)

@@ -58,10 +58,6 @@ a-velocity : tie.Need-returns-5
 unfolding visited
 a-velocity c = rw c.enum-told5.given.1
 
-a-place : tie.Need-returns-6
-unfolding visited
-a-place c = rw c.enum-told6.given.1
-
 pub visit-spec : {M : Type 1} → statement M
 visit-spec =
     tie.close
@@ -77,7 +73,6 @@ visit-spec =
     anywhere
     (λ c. search rules)
     (λ c. search rules)
-    (λ c. search rules)
     unused
     (λ c. search rules)
     (λ c. search rules)
@@ -86,5 +81,4 @@ visit-spec =
     (λ c. search rules)
     pushed'
     constant
-    a-velocity
-    a-place)
+    a-velocity)

@@ -1,5 +1,5 @@
--- `parser::leaf` meets its contract: one record, where the word is a signal or a bit; else what a verdict or a velocity
--- test gives. Assumes nothing.
+-- `parser::leaf` meets its contract: one record, where the word is a signal or a bit; else what a velocity test gives.
+-- Assumes nothing.
 use mathlib.Core.Bool.{true, false}
 use mathlib.Core.List.{List}
 use mathlib.Core.Path.{◌≡◌, refl, sym, ap, ◌∙◌}
@@ -8,23 +8,35 @@ use borrow.Author.Rules.{rules}
 use native.Mathlib.Omega.{arith}
 use lib.ListN.{length}
 use Rattle.traces.specs.Trace.{truth}
-use Rattle.formulas.specs.Arena.{row, CONSTANT, SIGNAL}
+use Rattle.formulas.specs.Arena.{row, flat, CONSTANT, SIGNAL}
+use Rattle.formulas.specs.Tree.{Tree}
 use Rattle.formulas.specs.Tree.Tree.{constant, signal}
 use Rattle.words.specs.Word.{is_bit, is_signal}
 use Rattle.grammar.specs.Grammar.{bit_word, signal_word}
-use Rattle.grammar.specs.Parse.{word}
+use Rattle.grammar.specs.Parse.{leaf_at, word}
+use Rattle.grammar.specs.Parse.Result.{ok}
 use Rattle.grammar.proofs.Position.{signal-pos, bit-pos}
 use Rattle.grammar.proofs.Words.{bit-truth}
-use Rattle.parser.specs.Contract.{ParsesEarlier, ParsesLeaf}
+use Rattle.facts.specs.Facts.{facts_of, leaf_facts}
+use Rattle.facts.specs.declared.Facts.{Facts}
+use Rattle.parser.specs.Contract.{ParsesVelocity, ParsesLeaf, Pushed}
 use Rattle.parser.specs.declared.Parsed.{Parsed}
-use Rattle.parser.proofs.Stored.{to_same, reads-to, one-record, past_first, fits-push}
+use Rattle.parser.specs.declared.Parsed.TheVariants.{At, No}
+use Rattle.parser.proofs.Stored.{to-tree, to_same, reads-to, pushed, stored-as, past_first, fits-push}
 use Rattle.parser.proofs.leaf.Statement.{statement}
 use Rattle.parser.proofs.leaf.Tie as tie
 
 module _ {ws : List ℕ} {i : ℕ} {before : List ℕ} {top : ℕ} {after : List ℕ} where
-  -- Another word may be a verdict or begin a velocity test.
+  -- The record of a tree t without parts.
+  one-record : (t : Tree) {k a e : ℕ} {f : Facts} → leaf_at ws i ≡ ok t (i + 1) → facts_of t ≡ leaf_facts →
+      flat t ≡ row k a 0 0 → Pushed before top k a 0 0 e after → f ≡ leaf_facts →
+      ParsesLeaf ws i before top (At (i + 1) e f) after
+  one-record t is known records u facts =
+      reads-to (to-tree t is (stored-as (sym records) (pushed u)) (facts ∙ sym known))
+
+  -- Another word may begin a velocity test.
   other-leaf : {r : Parsed} → is_signal (word ws i) ≡ false → is_bit (word ws i) ≡ false →
-      ParsesEarlier ws i before top r after → ParsesLeaf ws i before top r after
+      ParsesVelocity ws i before top r after → ParsesLeaf ws i before top r after
   other-leaf s b h = reads-to (to_same (simp (s, b)) (record { result = h.result; filled = h.filled }))
 
 -- The places: the start; the word, where it is a signal; and where it is a bit, and so no signal.
@@ -97,7 +109,7 @@ neither c =
     let no-signal = no-bit.before.before in
     let w = sym no-signal.before.before.number_at.ensures in
     other-leaf (ap is_signal w ∙ sym no-signal.before.is-signal.ensures ∙ no-signal.if1.false)
-    (ap is_bit w ∙ sym no-bit.before.is-bit.ensures ∙ no-bit.if2.false) read.earlier.ensures
+    (ap is_bit w ∙ sym no-bit.before.is-bit.ensures ∙ no-bit.if2.false) read.velocity.ensures
 
 pub leaf-spec : {M : Type 1} → statement M
 leaf-spec =

@@ -2,20 +2,14 @@
 use mathlib.Core.Path.{◌∙◌, ap}
 use mathlib.Core.List.{[]}
 use borrow.Author.Rules.{rules}
-use Rattle.player.specs.Card.{last_output}
-use Rattle.player.specs.Output.{printed_by}
-use Rattle.player.specs.declared.Answered.{Answered}
+use Rattle.player.specs.Card.{stopped, last_output}
 use Rattle.player.proofs.end_over_long.Statement.{statement}
 use Rattle.player.proofs.end_over_long.Tie as tie
 
 returns : tie.Need-returns
-returns c = (
-  λ vs.
-      ap (λ (r : Answered). printed_by r.output vs) c.stop.ensures
-      ∙ c.before.last-output.ensures [] [] vs
-      ∙ ap last_output (c.before.before.broken.ensures [] []),
-  ap (λ (r : Answered). r.watch) c.stop.ensures,
-)
+returns c =
+    c.stop.ensures
+    ∙ ap stopped (c.before.last-output.ensures [] [] ∙ ap last_output (c.before.before.broken.ensures [] []))
 
 pub end-over-long-spec : {M : Type 1} → statement M
 end-over-long-spec =

@@ -7,9 +7,7 @@ refused : tie.Need-returns
 refused c = rw (c.stop.ensures, c.before.before.compiled.given.1)
 
 compiled : tie.Need-returns-2
-compiled c =
-    let told = c.before.before.before in
-    rw (c.go-quietly.ensures, c.before.with_size.ensures, told.compiled2.given.1)
+compiled c = rw (c.go_on.ensures, c.before.before.compiled2.given.1)
 
 pub rule-answer-spec : {M : Type 1} → statement M
 rule-answer-spec =
@@ -18,7 +16,6 @@ rule-answer-spec =
     (λ c. search rules)
     (λ c κs. search rules)
     (λ c. search rules)
-    (λ c κs. search rules)
     (λ c κs. search rules)
     refused
     compiled)

@@ -72,7 +72,7 @@ from-words c =
     let reading = c.before.before in
     let here = made reading in
     let r = reading.read-words in
-    subst (λ (o : Outcome). Laid o (start (call here)).args.arena.now r.result r.new.1.1.0)
+    subst (λ (o : Outcome). Laid o (start (call here)).args.arena.now r.result r.new.1.0)
     (of-front (words here) (omega arith)) r.ensures
 
 pub read-tree-spec : {M : Type 1} → statement M

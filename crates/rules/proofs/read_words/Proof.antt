@@ -1,13 +1,12 @@
--- `rules::read_words` meets its contract: what the limits, the parser's answer, the fragment, the leads and the place
--- decide is the outcome. Assumes nothing.
+-- `rules::read_words` meets its contract: what the limits, the parser's answer, the fragment and the leads decide is
+-- the outcome. Assumes nothing.
 use mathlib.Core.Bool.{false}
 use mathlib.Core.List.{List}
 use mathlib.Core.Path.{◌≡◌, sym, ◌∙◌}
-use Prim.Native.Nat.{ℕ, ◌≤◌}
+use Prim.Native.Nat.{ℕ}
+use native.Mathlib.Omega.{arith}
 use borrow.Author.Rules.{rules}
 use borrow.Author.Tests.{not-true, not-false}
-use lib.ListN.{length}
-use Rattle.limits.specs.Limits.{word_limit}
 use Rattle.grammar.specs.Fragment.{beyond}
 use Rattle.grammar.specs.Parse.Goal.{go_f}
 use Rattle.grammar.proofs.Position.{span}
@@ -15,8 +14,7 @@ use Rattle.parser.proofs.Stored.{Gave, took, lost}
 use Rattle.rules.specs.Limits.{beyond_limits}
 use Rattle.rules.proofs.Decided.{limits-words, tree-words}
 use Rattle.rules.proofs.Laid.{laid-refused}
-use Rattle.rules.proofs.Outcomes.{lost-tree, part-tree, beyond-words, no-lead-words, misplaced-words}
-use Rattle.rules.proofs.Outcomes.{laid-rule}
+use Rattle.rules.proofs.Outcomes.{lost-tree, part-tree, beyond-words, no-lead-words, laid-rule}
 use Rattle.rules.proofs.Passes.{beyond-told}
 use Rattle.rules.proofs.read_words.Statement.{statement}
 use Rattle.rules.proofs.read_words.Tie as tie
@@ -39,7 +37,7 @@ text c = (start (passed c)).args.ws.now
 over-limits : tie.Need-returns
 over-limits c =
     let pass = c.before in
-    laid-refused 5 (limits-words _ (start pass).args.ws.now (sym pass.Limits-of.ensures.0 ∙ c.if1.true))
+    laid-refused 5 (limits-words (start pass).args.ws.now (sym pass.Limits-of.ensures.0 ∙ c.if1.true))
 
 -- Within them,
 within : (c : tie.After-read-f) → beyond_limits (text c) ≡ false
@@ -50,17 +48,14 @@ no-tree : tie.Need-returns-2
 no-tree c =
     let at_call = c.before.before.before.before in
     laid-refused 6
-    (tree-words _ (text at_call) (within at_call)
+    (tree-words (text at_call) (within at_call)
     (lost-tree (text at_call) (lost at_call.read-f.ensures c.enum_told.given.1)))
 
--- a tree, of few words, and what the pass told of the fragment;
+-- a tree, and what the pass told of the fragment;
 tree : (c : tie.After-known-told) →
     Gave (go_f false) (text (call c)) 0 (start (passed (call c))).args.arena.now 0
     c.before.next.given.0 (call c).read-f.new.1.1.1.0
 tree c = took (call c).read-f.ensures (λ a m h. span h) c.before.next.given.1
-
-few : (c : tie.After-known-told) → length (text (call c)) ≤ word_limit
-few c = (start (passed (call c))).requires.0
 
 fragment : (c : tie.After-known-told) → beyond (text (call c)) ≡ (passed (call c)).Limits-of.result.beyond
 fragment c = beyond-told _ (within (call c)) (passed (call c)).Limits-of.ensures.1
@@ -70,43 +65,30 @@ part-only : tie.Need-returns-3
 part-only c =
     let told = c.before in
     let ws = text (call told) in
-    laid-refused 6 (tree-words _ ws (within (call told)) (part-tree ws (tree told).is c.if2.true))
+    laid-refused 6 (tree-words ws (within (call told)) (part-tree ws (tree told).is c.if2.true))
 
 -- one of all, outside the fragment;
 outside : tie.Need-returns-4
 outside c =
     let told = c.before.before in
     laid-refused 7
-    (beyond-words (tree told) (few told) (within (call told)) c.before.if2.false _
-    (fragment told ∙ c.if3.true))
+    (beyond-words (tree told) (omega arith) (within (call told)) c.before.if2.false (fragment told ∙ c.if3.true))
 
--- inside it, without its leads;
+-- inside it, without and with its leads.
 no_lead : tie.Need-returns-5
 no_lead c =
     let told = c.before.before.before in
     let inside = fragment told ∙ c.before.if3.false in
     laid-refused 8
-    (no-lead-words (tree told) (few told) (within (call told)) c.before.before.if2.false _ inside
+    (no-lead-words (tree told) (omega arith) (within (call told)) c.before.before.if2.false inside
     (not-true _ c.if4.true))
 
--- with them, where its place is none of a set or a verdict is not before it;
-misplaced : tie.Need-returns-6
-misplaced c =
-    let led = c.before.before in
-    let told = led.before.before.before in
-    let inside = fragment told ∙ led.before.if3.false in
-    laid-refused 20
-    (misplaced-words (tree told) (few told) (within (call told)) led.before.before.if2.false _ inside
-    (not-false _ led.if4.false) (sym c.before.misplaced.ensures ∙ c.if5.true))
-
--- and a rule.
-a-rule : tie.Need-returns-7
+a-rule : tie.Need-returns-6
 a-rule c =
-    let led = c.before.before in
-    let told = led.before.before.before in
-    let inside = fragment told ∙ led.before.if3.false in
-    laid-rule (tree told) (few told) (within (call told)) led.before.before.if2.false _ inside
-    (not-false _ led.if4.false) (sym c.before.misplaced.ensures ∙ c.if5.false)
+    let told = c.before.before.before in
+    let inside = fragment told ∙ c.before.if3.false in
+    laid-rule (tree told) (omega arith) (within (call told)) c.before.before.if2.false inside
+    (not-false _ c.if4.false)
 
 pub read-words-spec : {M : Type 1} → statement M
 read-words-spec =
@@ -114,4 +96,4 @@ read-words-spec =
     (tie.spec
     (λ c κs. search rules) over-limits (λ c κs. search rules) (λ c. search rules) (λ c. search rules)
     (λ c. search rules) no-tree (λ c. search rules) part-only (λ c. search rules) outside
-    (λ c. search rules) no_lead (λ c κs. search rules) (λ c. search rules) misplaced (λ c. search rules) a-rule)
+    (λ c. search rules) no_lead (λ c. search rules) a-rule)

@@ -10,16 +10,15 @@ use borrow.Author.Rules.{rules}
 use borrow.Author.Tests.{not-true, not-false}
 use lib.ListN.{length, take, replicate}
 use lib.Seq.{length-take-le}
-use Rattle.limits.specs.Limits.{place_count, arena_limit}
-use Rattle.limits.specs.Context.{context_at}
-use Rattle.limits.specs.declared.Context.{Context}
+use Rattle.limits.specs.Limits.{arena_limit}
+use Rattle.limits.specs.Context.{standard_context}
 use Rattle.rules.specs.Reading.{Outcome}
 use Rattle.rules.specs.Computed.{rule_of, side_of, same_of, comparison}
 use Rattle.rules.specs.Same.{SameAnswer}
 use Rattle.rules.specs.declared.Same.{Same}
 use Rattle.rules.specs.declared.Same.TheVariants.{Yes, No}
 use Rattle.rules.specs.Laid.{Laid}
-use Rattle.rules.proofs.Laid.{readable, side-at, Front, front_of, refused_as}
+use Rattle.rules.proofs.Laid.{readable, standard-side, Front, front_of, refused_as}
 use Rattle.rules.proofs.Sameness.{same_answer, by-trees, by_values}
 use Rattle.rules.proofs.same_rule.Statement.{statement}
 use Rattle.rules.proofs.same_rule.Tie as tie
@@ -29,8 +28,8 @@ use Rattle.rules.proofs.same_rule.Tie as tie
 abbrev start : tie.After-read-side → tie.Start
 start c = c.before.before.before.before.before
 
-abbrev context : tie.After-read-side → tie.After-context-at
-context c = c.before.before
+abbrev standard : tie.After-read-side → tie.After-standard
+standard c = c.before.before
 
 abbrev first-call : tie.After-known-told → tie.After-read-side
 first-call c = c.before.before.before.before
@@ -47,27 +46,24 @@ second c = c.before.before.before
 abbrev trees : tie.After-values-agree → tie.After-same-numbers
 trees c = c.before.before.before
 
--- The context of the last place, and the outcomes of the two sides.
-abbrev last : Context
-last = context_at place_count
-
+-- The outcomes of the two sides.
 abbrev outcome : tie.After-read-side → Outcome
-outcome c = side_of (start c).args.ps.now (rule_of last (start c).args.first.now)
+outcome c = side_of (start c).args.ps.now (rule_of standard_context (start c).args.first.now)
 
 abbrev other-outcome : tie.After-read-side → Outcome
-other-outcome c = side_of (start c).args.qs.now (rule_of last (start c).args.second.now)
+other-outcome c = side_of (start c).args.qs.now (rule_of standard_context (start c).args.second.now)
 
 -- What the first reading leaves, and the second.
 first-laid : (c : tie.After-read-side) →
     Laid (outcome c) (replicate arena_limit 0) c.read-side.result c.read-side.new.1.1.1.0
-first-laid c = side-at place_count (context c).context-at.ensures (start c).args.ps.now _ c.read-side.ensures
+first-laid c = standard-side (standard c).standard.ensures (start c).args.ps.now _ c.read-side.ensures
 
 second-laid : (c : tie.After-read-side2) →
     Laid (other-outcome (first-call (first c))) (replicate arena_limit 0) c.read-side2.result
     c.read-side2.new.1.1.1.0
 second-laid c =
     let call = first-call (first c) in
-    side-at place_count (context call).context-at.ensures (start call).args.qs.now _ c.read-side2.ensures
+    standard-side (standard call).standard.ensures (start call).args.qs.now _ c.read-side2.ensures
 
 -- The first side's tree, and the second's.
 first-tree : (c : tie.After-known-told) →
@@ -80,9 +76,9 @@ second-tree : (c : tie.After-known-told2) →
 second-tree c = front_of (second-laid (second_call c)) (omega arith) _ _ c.before.others.given.1
 
 -- An answer that is the computed one is the one that SPEC 8.3 has.
-told : (a ps b qs : List ℕ) (r : Same) → r ≡ comparison last a ps b qs
-    → (r ≡ comparison last a ps b qs) × SameAnswer last a ps b qs r
-told a ps b qs r e = (e, same_answer last a ps b qs r e)
+told : (a ps b qs : List ℕ) (r : Same) → r ≡ comparison standard_context a ps b qs
+    → (r ≡ comparison standard_context a ps b qs) × SameAnswer standard_context a ps b qs r
+told a ps b qs r e = (e, same_answer standard_context a ps b qs r e)
 
 -- A refused side.
 refuses-first : tie.Need-returns
@@ -168,19 +164,13 @@ two-values c =
     told args.first.now args.ps.now args.second.now args.qs.now _
     (one-tree c.before false c.if2.false)
 
--- What the readings ask.
-first-readable : tie.Need-read-side-requires
-first-readable c κs = readable place_count c.before.context-at.ensures (omega arith)
-
-second-readable : tie.Need-read-side-requires-2
-second-readable c κs = readable place_count (context (first-call c.before)).context-at.ensures (omega arith)
-
 pub same-rule-spec : {M : Type 1} → statement M
 same-rule-spec =
     tie.close
     (tie.spec
-    (λ c κs. search rules) (λ c. search rules) first-readable (λ c. search rules) (λ c. search rules)
-    (λ c κs. search rules) refuses-first (λ c. search rules) second-readable (λ c. search rules)
+    (λ c κs. search rules) (λ c. search rules) (λ c κs. readable c.before.standard.ensures (omega arith))
+    (λ c. search rules) (λ c. search rules) (λ c κs. search rules) refuses-first (λ c. search rules)
+    (λ c κs. readable (standard (first-call c.before)).standard.ensures (omega arith)) (λ c. search rules)
     (λ c. search rules) (λ c κs. search rules) refuses-second
     first_part first-part-length second-part second-part-length (λ c κs. search rules) two-trees
     first-again first-again-length (λ c κs. search rules) same-values two-values)

@@ -1,5 +1,5 @@
 -- `tables::equation_fits` meets its contract: each arm reads what A, B and C have to be in the row of its own number
--- and tests them by it. One law, `row_fits`, is for all fourteen: the search finds the arm's number, the three operands
+-- and tests them by it. One law, `row_fits`, is for all thirteen: the search finds the arm's number, the three operands
 -- and the test among the places before it. Assumes nothing.
 use Rattle.lists.proofs.Choice.{none_below}
 use Rattle.tables.proofs.Checks.{row_fits, no_row}
@@ -8,7 +8,7 @@ use borrow.Author.Rules.{rules}
 use Rattle.tables.proofs.equation_fits.Statement.{statement}
 use Rattle.tables.proofs.equation_fits.Tie as tie
 
-of-no-kind : tie.Need-returns-15
+of-no-kind : tie.Need-returns-14
 of-no-kind c = no_row _ _ _ _ (none_below _ kind_count c.match.rest)
 
 pub equation-fits-spec : {M : Type 1} → statement M
@@ -70,11 +70,6 @@ equation-fits-spec =
     (λ c κs. search rules)
     (λ c κs. search rules)
     (λ c κs. search rules)
-    (λ c κs. search rules)
-    (λ c κs. search rules)
-    (λ c κs. search rules)
-    (λ c κs. search rules)
-    (λ c. search row_fits)
     (λ c. search row_fits)
     (λ c. search row_fits)
     (λ c. search row_fits)

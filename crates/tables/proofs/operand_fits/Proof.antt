@@ -24,10 +24,6 @@ a-velocity : tie.Need-returns-5
 unfolding operand_fits
 a-velocity c = rw c.enum-told2.given.1
 
-a-place : tie.Need-returns-6
-unfolding operand_fits
-a-place c = rw c.before.enum-told3.given.1 c.is-place.ensures
-
 pub operand-fits-spec : {M : Type 1} → statement M
 operand-fits-spec =
     tie.close
@@ -39,11 +35,8 @@ operand-fits-spec =
     (λ c κs. search rules)
     (λ c. search rules)
     (λ c. search rules)
-    (λ c. search rules)
-    (λ c κs. search rules)
     unused
     earlier
     anywhere
     below
-    a-velocity
-    a-place)
+    a-velocity)

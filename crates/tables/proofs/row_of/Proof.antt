@@ -1,5 +1,5 @@
 -- `tables::row_of` meets its contract: each arm reads the row of its own number. One law, `row_is`, is for all
--- fourteen: the search finds the arm's number and the row among the places before it. Assumes nothing.
+-- thirteen: the search finds the arm's number and the row among the places before it. Assumes nothing.
 use Rattle.lists.proofs.Choice.{none_below}
 use Rattle.tables.proofs.Numbers.{kind-beyond, row_is}
 use Rattle.tables.specs.Kind.{kind_count}
@@ -8,7 +8,7 @@ use borrow.Author.Rules.{rules}
 use Rattle.tables.proofs.row_of.Statement.{statement}
 use Rattle.tables.proofs.row_of.Tie as tie
 
-of-no-kind : tie.Need-returns-15
+of-no-kind : tie.Need-returns-14
 unfolding shape_of
 of-no-kind c = rw (kind-beyond _ (none_below _ kind_count c.match.rest))
 
@@ -29,8 +29,6 @@ row-of-spec =
     (λ c κs. search rules)
     (λ c κs. search rules)
     (λ c κs. search rules)
-    (λ c κs. search rules)
-    (λ c. search row_is)
     (λ c. search row_is)
     (λ c. search row_is)
     (λ c. search row_is)

@@ -8,8 +8,8 @@ use borrow.Author.Tests.{lt-ltb}
 use borrow.Author.Rules.{part_to_end}
 use Rattle.limits.specs.Limits.{signal_count, parameter_count}
 use Rattle.words.specs.Word.{PARAMETER, SIGNAL}
-use Rattle.words.specs.Split.{keyword_of, number_of, place_of, run_of}
-use Rattle.words.proofs.Runs.{run-signal, run-parameter, run-place, run-literal}
+use Rattle.words.specs.Split.{keyword_of, number_of, run_of}
+use Rattle.words.proofs.Runs.{run-signal, run-parameter, run-literal}
 use Rattle.words.proofs.run_word.Statement.{statement}
 use Rattle.words.proofs.run_word.Tie as tie
 
@@ -45,22 +45,13 @@ a-parameter c =
     let word = run-parameter args.context args.awaited (run at) (no-keyword at) key in
     c.number2.ensures ∙ ap (number_of PARAMETER (parameter_count - 1)) (part_to_end (run at) 1) ∙ sym word
 
-a-place : tie.Need-returns-4
-a-place c =
-    let at = c.before.before.before.before in
-    let args = (start at).args in
-    let key = c.before.before.match.keys3 in
-    let word = run-place args.context args.awaited (run at) (no-keyword at) key in
-    c.place-word.ensures ∙ ap place_of (part_to_end (run at) 1) ∙ sym word
-
-a-literal : tie.Need-returns-5
+a-literal : tie.Need-returns-4
 a-literal c =
     let at = c.before.before.before in
     let others = c.before.match.rest in
     let args = (start at).args in
     c.literal-word.ensures
-    ∙ sym
-    (run-literal args.context args.awaited (run at) (no-keyword at) others.0.0.1 others.0.1 others.1)
+    ∙ sym (run-literal args.context args.awaited (run at) (no-keyword at) others.0.1 others.1)
 
 pub run-word-spec : {M : Type 1} → statement M
 run-word-spec =
@@ -77,12 +68,7 @@ run-word-spec =
     (λ c. search rules)
     (λ c. search rules)
     (λ c κs. search rules)
-    (λ c. search rules)
-    (λ c. search rules)
-    (λ c. search rules)
-    (λ c κs. search rules)
     (λ c κs. search rules)
     a-signal
     a-parameter
-    a-place
     a-literal)
