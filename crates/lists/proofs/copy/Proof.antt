@@ -9,35 +9,35 @@ use Rattle.lists.proofs.Buffers.{Copying, copy-length, copy_more, front-stored}
 use Rattle.lists.proofs.copy.Statement.{statement}
 use Rattle.lists.proofs.copy.Tie as tie
 
-abbrev invariant-loop : tie.invariant-loop
+abbrev invariant-loop : tie.invariant-loop-i
 invariant-loop from k to₀ n i₀ to i = Copying from to₀ to i × (i ≤ n)
 
-abbrev decreases-loop : tie.decreases-loop
+abbrev decreases-loop : tie.decreases-loop-i
 decreases-loop from k to₀ n i₀ to i = n - i
 
 -- The places before a turn of the loop: the two calls of `least`, and the start.
-abbrev bounded : tie.At-loop invariant-loop decreases-loop → tie.After-least2 invariant-loop decreases-loop
+abbrev bounded : tie.At-loop-i invariant-loop decreases-loop → tie.After-least-n invariant-loop decreases-loop
 bounded c = c.before
 
-abbrev start : tie.After-least2 invariant-loop decreases-loop → tie.Start invariant-loop decreases-loop
+abbrev start : tie.After-least-n invariant-loop decreases-loop → tie.Start invariant-loop decreases-loop
 start c = c.before.before.before.before
 
 -- How many numbers are copied.
-bound : (c : tie.After-least2 invariant-loop decreases-loop) →
+bound : (c : tie.After-least-n invariant-loop decreases-loop) →
     let args = (start c).args in
-    c.least2.result ≡ min args.k (min (length args.from.now) (length args.to.now))
-bound c = rw c.before.least.ensures at c.least2.ensures
+    c.least-n.result ≡ min args.k (min (length args.from.now) (length args.to.now))
+bound c = rw c.before.least.ensures at c.least-n.ensures
 
-loop-again : tie.Need-loop-preserved invariant-loop decreases-loop
+loop-again : tie.Need-loop-i-preserved invariant-loop decreases-loop
 loop-again c =
     let loop = c.before.before in
-    (copy_more loop.loop.invariant.0 (omega (arith, bound (bounded loop))), omega arith)
+    (copy_more loop.loop-i.invariant.0 (omega (arith, bound (bounded loop))), omega arith)
 
 returns : tie.Need-returns invariant-loop decreases-loop
 returns c =
     let loop = c.before in
-    let all : loop.loop.i ≡ (bounded loop).least2.result = omega arith in
-    loop.loop.invariant.0.stored ∙ rw all (front-stored _ _ _ _ (bound (bounded loop)))
+    let all : loop.loop-i.i ≡ (bounded loop).least-n.result = omega arith in
+    loop.loop-i.invariant.0.stored ∙ rw all (front-stored _ _ _ _ (bound (bounded loop)))
 
 pub copy_spec : {M : Type 1} → statement M
 copy_spec =
@@ -51,9 +51,9 @@ copy_spec =
     (λ c. search rules)
     (λ c. omega (arith, bound (bounded c.before.before)))
     (λ c. search rules)
-    (λ c. omega (arith, bound (bounded c.before.before), copy-length c.before.before.loop.invariant.0))
+    (λ c. omega (arith, bound (bounded c.before.before), copy-length c.before.before.loop-i.invariant.0))
     (λ c. search rules)
     (λ c. omega arith)
     loop-again
-    (λ c. copy-length c.before.loop.invariant.0)
+    (λ c. copy-length c.before.loop-i.invariant.0)
     returns)

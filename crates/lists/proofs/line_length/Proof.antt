@@ -9,23 +9,23 @@ use Rattle.lists.proofs.Lines.{Lining, lining-stop, lining-past, lining-more}
 use Rattle.lists.proofs.line_length.Statement.{statement}
 use Rattle.lists.proofs.line_length.Tie as tie
 
-abbrev invariant-loop : tie.invariant-loop
+abbrev invariant-loop : tie.invariant-loop-i
 invariant-loop s at i₀ i = Lining s at i
 
-abbrev decreases-loop : tie.decreases-loop
+abbrev decreases-loop : tie.decreases-loop-i
 decreases-loop s at i₀ i = length s - i
 
-at-newline : tie.Need-returns invariant-loop decreases-loop
-at-newline c = omega (arith, lining-stop c.before.before.before.loop.invariant (omega arith) c.if1.true)
+at-newline : tie.Need-returns-then-s-i-eq-LINE_END invariant-loop decreases-loop
+at-newline c = omega (arith, lining-stop c.before.before.before.loop-i.invariant (omega arith) c.if-s-i-eq-LINE_END.true)
 
-loop-again : tie.Need-loop-preserved invariant-loop decreases-loop
-loop-again c = lining-more c.before.before.before.loop.invariant (omega arith) c.if1.false
+loop-again : tie.Need-loop-i-preserved invariant-loop decreases-loop
+loop-again c = lining-more c.before.before.before.loop-i.invariant (omega arith) c.if-s-i-eq-LINE_END.false
 
-at-end : tie.Need-returns-2 invariant-loop decreases-loop
-at-end c = omega (arith, lining-past c.before.loop.invariant (omega arith))
+at-end : tie.Need-returns invariant-loop decreases-loop
+at-end c = omega (arith, lining-past c.before.loop-i.invariant (omega arith))
 
-pub line-length-spec : {M : Type 1} → statement M
-line-length-spec =
+pub line_length_spec : {M : Type 1} → statement M
+line_length_spec =
     tie.close
     (tie.spec
     invariant-loop

@@ -14,63 +14,63 @@ use Rattle.lists.proofs.Decimals.{digits-begun, digits-past, digits-stop, digits
 use Rattle.lists.proofs.read_decimal.Statement.{statement}
 use Rattle.lists.proofs.read_decimal.Tie as tie
 
-abbrev invariant-loop : tie.invariant-loop
+abbrev invariant-loop : tie.invariant-loop-next
 invariant-loop s at max first value₀ next₀ value next = DigitsRead s at max value next
 
-abbrev decreases-loop : tie.decreases-loop
+abbrev decreases-loop : tie.decreases-loop-next
 decreases-loop s at max first value₀ next₀ value next = length s - next
 
 -- The places before: the first byte was read, it is a digit, and a turn of the loop at a digit.
-abbrev start : tie.After-shared-slice-known2 invariant-loop decreases-loop → tie.Start invariant-loop decreases-loop
+abbrev start : tie.After-shared_slice_known-2-1 invariant-loop decreases-loop → tie.Start invariant-loop decreases-loop
 start c = c.before.before.before
 
-abbrev begun : tie.Else3 invariant-loop decreases-loop → tie.Start invariant-loop decreases-loop
+abbrev begun : tie.Else-not-is_digit invariant-loop decreases-loop → tie.Start invariant-loop decreases-loop
 begun c = start c.before.before.before
 
-abbrev turn : tie.Else4 invariant-loop decreases-loop → tie.At-loop invariant-loop decreases-loop
+abbrev turn : tie.Else-not-is_digit-2 invariant-loop decreases-loop → tie.At-loop-next invariant-loop decreases-loop
 turn c = c.before.before.before.before
 
 -- The first byte is a digit,
-first : (c : tie.Else3 invariant-loop decreases-loop) → is_digit (get_or (begun c).args.s.now (begun c).args.at 0) ≡ true
-first c = sym c.before.is_digit.ensures ∙ not-false _ c.if3.false
+first : (c : tie.Else-not-is_digit invariant-loop decreases-loop) → is_digit (get_or (begun c).args.s.now (begun c).args.at 0) ≡ true
+first c = sym c.before.is_digit.ensures ∙ c.if-not-is_digit.false
 
 -- and a later one.
-later : (c : tie.Else4 invariant-loop decreases-loop)
-    → is_digit (get_or (begun (turn c).before.before).args.s.now (turn c).loop.next 0) ≡ true
-later c = sym c.before.is-digit2.ensures ∙ not-false _ c.if4.false
+later : (c : tie.Else-not-is_digit-2 invariant-loop decreases-loop)
+    → is_digit (get_or (begun (turn c).before.before).args.s.now (turn c).loop-next.next 0) ≡ true
+later c = sym c.before.is_digit-in-loop-next.ensures ∙ c.if-not-is_digit-2.false
 
-no_digit : tie.Need-returns-3 invariant-loop decreases-loop
+no_digit : tie.Need-returns-then-not-is_digit invariant-loop decreases-loop
 no_digit c =
-    numeral-none (omega arith) c.before.before.if2.false
-    (sym c.before.is_digit.ensures ∙ not-true _ c.if3.true)
+    numeral-none (omega arith) c.before.before.if-first-eq48.false
+    (sym c.before.is_digit.ensures ∙ c.if-not-is_digit.true)
 
-loop-holds : tie.Need-loop-init invariant-loop decreases-loop
+loop-holds : tie.Need-loop-next-init invariant-loop decreases-loop
 loop-holds c =
-    digits-begun (omega arith) c.before.before.before.if2.false (first c.before) c.wide.ensures
+    digits-begun (omega arith) c.before.before.before.if-first-eq48.false (first c.before) c.wide-value.ensures
 
-at-other-byte : tie.Need-returns-4 invariant-loop decreases-loop
+at-other-byte : tie.Need-returns-then-not-is_digit-2 invariant-loop decreases-loop
 at-other-byte c =
     let stop = c.before in
     let loop = stop.before.before.before.before in
-    let other = sym stop.before.is-digit2.ensures ∙ not-true _ stop.if4.true in
-    rw c.settled.ensures (digits-stop loop.loop.invariant (omega arith) other)
+    let other = sym stop.before.is_digit-in-loop-next.ensures ∙ stop.if-not-is_digit-2.true in
+    rw c.settled.ensures (digits-stop loop.loop-next.invariant (omega arith) other)
 
-loop-again : tie.Need-loop-preserved invariant-loop decreases-loop
+loop-again : tie.Need-loop-next-preserved invariant-loop decreases-loop
 loop-again c =
     let digit = c.before in
-    let known = (turn digit).loop.invariant in
+    let known = (turn digit).loop-next.invariant in
     ⊎_elim
-    (λ w. digits_more known (omega arith) (later digit) _ w.0.taken (omega (arith, w.1.ensures, w.2)))
-    (λ w. digits-held known (omega arith) (later digit) _ w.0.left w.1)
-    c.if5.branch
+    (λ w. digits_more known (omega arith) (later digit) _ w.if-value-max.true (omega (arith, w.wide.ensures, w.value-is)))
+    (λ w. digits-held known (omega arith) (later digit) _ w.if-value-max.false w.value-is)
+    c.if-value-max.branch-raw
 
-at-end : tie.Need-returns-5 invariant-loop decreases-loop
+at-end : tie.Need-returns invariant-loop decreases-loop
 at-end c =
     let loop = c.before.before in
-    rw c.settled2.ensures (digits-past loop.loop.invariant (omega arith))
+    rw c.settled-2.ensures (digits-past loop.loop-next.invariant (omega arith))
 
-pub read-decimal-spec : {M : Type 1} → statement M
-read-decimal-spec =
+pub read_decimal_spec : {M : Type 1} → statement M
+read_decimal_spec =
     tie.close
     (tie.spec
     invariant-loop
@@ -78,7 +78,7 @@ read-decimal-spec =
     (λ c. numeral-past (omega arith))
     (λ c. search rules)
     (λ c. search rules)
-    (λ c. numeral-zero (omega arith) c.if2.true)
+    (λ c. numeral-zero (omega arith) c.if-first-eq48.true)
     (λ c κs. search rules)
     no_digit
     (λ c. omega (arith, digit-range _ (first c)))

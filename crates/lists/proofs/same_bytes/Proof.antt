@@ -7,32 +7,32 @@ use Rattle.lists.proofs.Same.{Comparing, same_not, compare-none, compare-differ,
 use Rattle.lists.proofs.same_bytes.Statement.{statement}
 use Rattle.lists.proofs.same_bytes.Tie as tie
 
-abbrev invariant-loop : tie.invariant-loop
+abbrev invariant-loop : tie.invariant-loop-i
 invariant-loop s t i₀ i = Comparing s t i
 
-abbrev decreases-loop : tie.decreases-loop
+abbrev decreases-loop : tie.decreases-loop-i
 decreases-loop s t i₀ i = length s - i
 
-lengths_differ : tie.Need-returns invariant-loop decreases-loop
-lengths_differ c = same_not c.before.args.s.now c.before.args.t.now c.if1.true
+lengths_differ : tie.Need-returns-then-s-t invariant-loop decreases-loop
+lengths_differ c = same_not c.before.args.s.now c.before.args.t.now c.if-s-t.true
 
-bytes-differ : tie.Need-returns-2 invariant-loop decreases-loop
-bytes-differ c = compare-differ c.before.before.before.before.loop.invariant (omega arith) c.if2.true
+bytes-differ : tie.Need-returns-then-s-i invariant-loop decreases-loop
+bytes-differ c = compare-differ c.before.before.before.before.loop-i.invariant (omega arith) c.if-s-i.true
 
-loop-again : tie.Need-loop-preserved invariant-loop decreases-loop
-loop-again c = compare-more c.before.before.before.before.loop.invariant (omega arith) c.if2.false
+loop-again : tie.Need-loop-i-preserved invariant-loop decreases-loop
+loop-again c = compare-more c.before.before.before.before.loop-i.invariant (omega arith) c.if-s-i.false
 
-all_same : tie.Need-returns-3 invariant-loop decreases-loop
-all_same c = compare-all c.before.loop.invariant (omega arith)
+all_same : tie.Need-returns invariant-loop decreases-loop
+all_same c = compare-all c.before.loop-i.invariant (omega arith)
 
-pub same-bytes-spec : {M : Type 1} → statement M
-same-bytes-spec =
+pub same_bytes_spec : {M : Type 1} → statement M
+same_bytes_spec =
     tie.close
     (tie.spec
     invariant-loop
     decreases-loop
     lengths_differ
-    (λ c. compare-none c.if1.false)
+    (λ c. compare-none c.if-s-t.false)
     (λ c. search rules)
     (λ c. search rules)
     bytes-differ

@@ -7,32 +7,32 @@ use Rattle.lists.proofs.Same.{Comparing, same_not, compare-none, compare-differ,
 use Rattle.lists.proofs.same_numbers.Statement.{statement}
 use Rattle.lists.proofs.same_numbers.Tie as tie
 
-abbrev invariant-loop : tie.invariant-loop
+abbrev invariant-loop : tie.invariant-loop-i
 invariant-loop a b i₀ i = Comparing a b i
 
-abbrev decreases-loop : tie.decreases-loop
+abbrev decreases-loop : tie.decreases-loop-i
 decreases-loop a b i₀ i = length a - i
 
-lengths_differ : tie.Need-returns invariant-loop decreases-loop
-lengths_differ c = same_not c.before.args.a.now c.before.args.b.now c.if1.true
+lengths_differ : tie.Need-returns-then-a-b invariant-loop decreases-loop
+lengths_differ c = same_not c.before.args.a.now c.before.args.b.now c.if-a-b.true
 
-numbers-differ : tie.Need-returns-2 invariant-loop decreases-loop
-numbers-differ c = compare-differ c.before.before.before.before.loop.invariant (omega arith) c.if2.true
+numbers-differ : tie.Need-returns-then-a-i invariant-loop decreases-loop
+numbers-differ c = compare-differ c.before.before.before.before.loop-i.invariant (omega arith) c.if-a-i.true
 
-loop-again : tie.Need-loop-preserved invariant-loop decreases-loop
-loop-again c = compare-more c.before.before.before.before.loop.invariant (omega arith) c.if2.false
+loop-again : tie.Need-loop-i-preserved invariant-loop decreases-loop
+loop-again c = compare-more c.before.before.before.before.loop-i.invariant (omega arith) c.if-a-i.false
 
-all_same : tie.Need-returns-3 invariant-loop decreases-loop
-all_same c = compare-all c.before.loop.invariant (omega arith)
+all_same : tie.Need-returns invariant-loop decreases-loop
+all_same c = compare-all c.before.loop-i.invariant (omega arith)
 
-pub same-numbers-spec : {M : Type 1} → statement M
-same-numbers-spec =
+pub same_numbers_spec : {M : Type 1} → statement M
+same_numbers_spec =
     tie.close
     (tie.spec
     invariant-loop
     decreases-loop
     lengths_differ
-    (λ c. compare-none c.if1.false)
+    (λ c. compare-none c.if-a-b.false)
     (λ c. search rules)
     (λ c. search rules)
     (λ c. search rules)

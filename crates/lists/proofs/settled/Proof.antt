@@ -4,11 +4,11 @@ use borrow.Author.Tests.{le-leb, lt-leb}
 use Rattle.lists.proofs.settled.Statement.{statement}
 use Rattle.lists.proofs.settled.Tie as tie
 
-within-max : tie.Need-returns
-within-max c = simp (le-leb _ _ c.if1.true)
+within-max : tie.Need-returns-then-value-max
+within-max c = simp (le-leb _ _ c.if-value-max.true)
 
-above-max : tie.Need-returns-2
-above-max c = simp (lt-leb _ _ c.if1.false)
+above-max : tie.Need-returns
+above-max c = simp (lt-leb _ _ c.if-value-max.false)
 
-pub settled-spec : {M : Type 1} → statement M
-settled-spec = tie.close (tie.spec (λ c. search rules) within-max above-max)
+pub settled_spec : {M : Type 1} → statement M
+settled_spec = tie.close (tie.spec (λ c. search rules) within-max above-max)

@@ -7,23 +7,23 @@ use Rattle.traces.specs.declared.Op.TheVariants.{AtMost, Below, Equal, Above, At
 use Rattle.traces.proofs.holds.Statement.{statement}
 use Rattle.traces.proofs.holds.Tie as tie
 
-at_most : tie.Need-returns
-at_most c = rw c.enum_told.given.1 (refl, compared AtMost _ _)
+at_most : tie.Need-returns-in-AtMost
+at_most c = rw c.enum_told-1.given.1 (refl, compared AtMost _ _)
 
-below : tie.Need-returns-2
-below c = rw c.enum-told2.given.1 (refl, compared Below _ _)
+below : tie.Need-returns-in-Below
+below c = rw c.enum_told-in-Below-1.given.1 (refl, compared Below _ _)
 
-equal : tie.Need-returns-3
-equal c = rw c.enum-told3.given.1 (refl, compared Equal _ _)
+equal : tie.Need-returns-in-Equal
+equal c = rw c.enum_told-in-Equal-1.given.1 (refl, compared Equal _ _)
 
-above : tie.Need-returns-4
-above c = rw c.enum-told4.given.1 (refl, compared Above _ _)
+above : tie.Need-returns-in-Above
+above c = rw c.enum_told-in-Above-1.given.1 (refl, compared Above _ _)
 
-at_least : tie.Need-returns-5
-at_least c = rw c.enum-told5.given.1 (refl, compared AtLeast _ _)
+at_least : tie.Need-returns-in-AtLeast
+at_least c = rw c.enum_told-in-AtLeast-1.given.1 (refl, compared AtLeast _ _)
 
-pub holds-spec : {M : Type 1} → statement M
-holds-spec =
+pub holds_spec : {M : Type 1} → statement M
+holds_spec =
     tie.close
     (tie.spec
     (λ c. search rules) (λ c. search rules) (λ c. search rules) (λ c. search rules) (λ c. search rules)

@@ -16,22 +16,22 @@ both : (k : ℕ) (o : Op) → o ≡ op_of k
     → (o ≡ op_of k) × ((k < comparison_count → op_number o ≡ k) × (comparison_count ≤ k → o ≡ AtLeast))
 both k o e = rw e (refl, (number-op k, λ h. op-last k (omega arith)))
 
-at_most : tie.Need-returns
-at_most c = both c.before.args.number AtMost (rw c.match.keys1 refl)
+at_most : tie.Need-returns-in-0
+at_most c = both c.before.args.number AtMost (rw c.in-0.keys1 refl)
 
-below : tie.Need-returns-2
-below c = both c.before.args.number Below (rw c.match.keys2 refl)
+below : tie.Need-returns-in-1
+below c = both c.before.args.number Below (rw c.in-0.keys2 refl)
 
-equal : tie.Need-returns-3
-equal c = both c.before.args.number Equal (rw c.match.keys3 refl)
+equal : tie.Need-returns-in-2
+equal c = both c.before.args.number Equal (rw c.in-0.keys3 refl)
 
-above : tie.Need-returns-4
-above c = both c.before.args.number Above (rw c.match.keys4 refl)
+above : tie.Need-returns-in-3
+above c = both c.before.args.number Above (rw c.in-0.keys4 refl)
 
-at_least : tie.Need-returns-5
+at_least : tie.Need-returns-in_default
 at_least c =
     let k = c.before.args.number in
-    both k AtLeast (sym (op-last k (none_below k 4 c.match.rest)))
+    both k AtLeast (sym (op-last k (none_below k 4 c.in-0.rest)))
 
-pub op-of-spec : {M : Type 1} → statement M
-op-of-spec = tie.close (tie.spec at_most below equal above at_least)
+pub op_of_spec : {M : Type 1} → statement M
+op_of_spec = tie.close (tie.spec at_most below equal above at_least)

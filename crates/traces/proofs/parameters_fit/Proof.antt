@@ -13,38 +13,38 @@ use Rattle.traces.specs.Parameters.{parameter_fits}
 use Rattle.traces.proofs.parameters_fit.Statement.{statement}
 use Rattle.traces.proofs.parameters_fit.Tie as tie
 
-abbrev invariant-loop : tie.invariant-loop
+abbrev invariant-loop : tie.invariant-loop-j
 invariant-loop limit parameters j₀ j = (j ≤ parameter_count) × (all (parameter_fits limit parameters) j ≡ true)
 
-abbrev decreases-loop : tie.decreases-loop
+abbrev decreases-loop : tie.decreases-loop-j
 decreases-loop limit parameters j₀ j = parameter_count - j
 
-loop-holds : tie.Need-loop-init invariant-loop decreases-loop
+loop-holds : tie.Need-loop-j-init invariant-loop decreases-loop
 loop-holds c = (omega arith, all_none _)
 
-one-unfit : tie.Need-returns invariant-loop decreases-loop
+one-unfit : tie.Need-returns-then-limit-parameters invariant-loop decreases-loop
 unfolding parameter_fits
 one-unfit c =
     let args = c.before.before.before.before.args in
-    let j = c.before.before.before.loop.j in
+    let j = c.before.before.before.loop-j.j in
     sym (all-stop (parameter_fits args.limit args.parameters.now) j parameter_count (omega arith)
     (le-ltb (get_or args.parameters.now j 0) args.limit (omega arith)))
 
-loop-again : tie.Need-loop-preserved invariant-loop decreases-loop
+loop-again : tie.Need-loop-j-preserved invariant-loop decreases-loop
 unfolding parameter_fits
 loop-again c =
     let args = c.before.before.before.before.args in
-    let loop = c.before.before.before.loop in
+    let loop = c.before.before.before.loop-j in
     let j = loop.j in (
       omega arith,
       all_more _ j loop.invariant.1 (lt-ltb (get_or args.parameters.now j 0) args.limit (omega arith)),
     )
 
-all_fit : tie.Need-returns-2 invariant-loop decreases-loop
-all_fit c = let z : c.before.loop.j ≡ parameter_count = omega arith in rw z at (sym c.before.loop.invariant.1)
+all_fit : tie.Need-returns invariant-loop decreases-loop
+all_fit c = let z : c.before.loop-j.j ≡ parameter_count = omega arith in rw z at (sym c.before.loop-j.invariant.1)
 
-pub parameters-fit-spec : {M : Type 1} → statement M
-parameters-fit-spec =
+pub parameters_fit_spec : {M : Type 1} → statement M
+parameters_fit_spec =
     tie.close
     (tie.spec
     invariant-loop
