@@ -6,7 +6,7 @@ use Rattle.lists.proofs.byte_at.Statement.{statement}
 use Rattle.lists.proofs.byte_at.Tie as tie
 
 past_end : tie.Need-returns-else-i-bytes
-past_end c = sym (get_or-eq_default c.before.args.bytes.now 0 c.if-i-bytes.false)
+past_end c = sym (get_or-eq_default c.args.bytes.now 0 c.if-i-bytes.false)
 
 pub byte_at_spec : {M : Type 1} → statement M
 byte_at_spec = tie.close (tie.spec (λ c. search rules) (λ c. search rules) past_end)

@@ -26,7 +26,7 @@ start c = c.before.before.before.before
 bound : (c : tie.After-least-n invariant-loop decreases-loop) →
     let args = (start c).args in
     c.least-n.result ≡ min args.k (min (length args.from.now) (length args.to.now))
-bound c = rw c.before.least.ensures at c.least-n.ensures
+bound c = rw c.least.ensures at c.least-n.ensures
 
 loop-again : tie.Need-loop-i-preserved invariant-loop decreases-loop
 loop-again c =
@@ -51,9 +51,9 @@ copy_spec =
     (λ c. search rules)
     (λ c. omega (arith, bound (bounded c.before.before)))
     (λ c. search rules)
-    (λ c. omega (arith, bound (bounded c.before.before), copy-length c.before.before.loop-i.invariant.0))
+    (λ c. omega (arith, bound (bounded c.before.before), copy-length c.loop-i.invariant.0))
     (λ c. search rules)
     (λ c. omega arith)
     loop-again
-    (λ c. copy-length c.before.loop-i.invariant.0)
+    (λ c. copy-length c.loop-i.invariant.0)
     returns)

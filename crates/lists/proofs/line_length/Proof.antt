@@ -16,13 +16,13 @@ abbrev decreases-loop : tie.decreases-loop-i
 decreases-loop s at i₀ i = length s - i
 
 at-newline : tie.Need-returns-then-s-i-eq-LINE_END invariant-loop decreases-loop
-at-newline c = omega (arith, lining-stop c.before.before.before.loop-i.invariant (omega arith) c.if-s-i-eq-LINE_END.true)
+at-newline c = omega (arith, lining-stop c.loop-i.invariant (omega arith) c.if-s-i-eq-LINE_END.true)
 
 loop-again : tie.Need-loop-i-preserved invariant-loop decreases-loop
-loop-again c = lining-more c.before.before.before.loop-i.invariant (omega arith) c.if-s-i-eq-LINE_END.false
+loop-again c = lining-more c.loop-i.invariant (omega arith) c.if-s-i-eq-LINE_END.false
 
 at-end : tie.Need-returns invariant-loop decreases-loop
-at-end c = omega (arith, lining-past c.before.loop-i.invariant (omega arith))
+at-end c = omega (arith, lining-past c.loop-i.invariant (omega arith))
 
 pub line_length_spec : {M : Type 1} → statement M
 line_length_spec =

@@ -6,7 +6,7 @@ use Rattle.lists.proofs.number_at.Statement.{statement}
 use Rattle.lists.proofs.number_at.Tie as tie
 
 past_end : tie.Need-returns-else-i-numbers
-past_end c = sym (get_or-eq_default c.before.args.numbers.now 0 c.if-i-numbers.false)
+past_end c = sym (get_or-eq_default c.args.numbers.now 0 c.if-i-numbers.false)
 
 pub number_at_spec : {M : Type 1} → statement M
 number_at_spec = tie.close (tie.spec (λ c. search rules) (λ c. search rules) (λ c. search rules) past_end)

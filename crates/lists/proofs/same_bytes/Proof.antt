@@ -14,16 +14,16 @@ abbrev decreases-loop : tie.decreases-loop-i
 decreases-loop s t i₀ i = length s - i
 
 lengths_differ : tie.Need-returns-then-s-t invariant-loop decreases-loop
-lengths_differ c = same_not c.before.args.s.now c.before.args.t.now c.if-s-t.true
+lengths_differ c = same_not c.args.s.now c.args.t.now c.if-s-t.true
 
 bytes-differ : tie.Need-returns-then-s-i invariant-loop decreases-loop
-bytes-differ c = compare-differ c.before.before.before.before.loop-i.invariant (omega arith) c.if-s-i.true
+bytes-differ c = compare-differ c.loop-i.invariant (omega arith) c.if-s-i.true
 
 loop-again : tie.Need-loop-i-preserved invariant-loop decreases-loop
-loop-again c = compare-more c.before.before.before.before.loop-i.invariant (omega arith) c.if-s-i.false
+loop-again c = compare-more c.loop-i.invariant (omega arith) c.if-s-i.false
 
 all_same : tie.Need-returns invariant-loop decreases-loop
-all_same c = compare-all c.before.loop-i.invariant (omega arith)
+all_same c = compare-all c.loop-i.invariant (omega arith)
 
 pub same_bytes_spec : {M : Type 1} → statement M
 same_bytes_spec =

@@ -14,16 +14,16 @@ abbrev decreases-loop : tie.decreases-loop-i
 decreases-loop a b i₀ i = length a - i
 
 lengths_differ : tie.Need-returns-then-a-b invariant-loop decreases-loop
-lengths_differ c = same_not c.before.args.a.now c.before.args.b.now c.if-a-b.true
+lengths_differ c = same_not c.args.a.now c.args.b.now c.if-a-b.true
 
 numbers-differ : tie.Need-returns-then-a-i invariant-loop decreases-loop
-numbers-differ c = compare-differ c.before.before.before.before.loop-i.invariant (omega arith) c.if-a-i.true
+numbers-differ c = compare-differ c.loop-i.invariant (omega arith) c.if-a-i.true
 
 loop-again : tie.Need-loop-i-preserved invariant-loop decreases-loop
-loop-again c = compare-more c.before.before.before.before.loop-i.invariant (omega arith) c.if-a-i.false
+loop-again c = compare-more c.loop-i.invariant (omega arith) c.if-a-i.false
 
 all_same : tie.Need-returns invariant-loop decreases-loop
-all_same c = compare-all c.before.loop-i.invariant (omega arith)
+all_same c = compare-all c.loop-i.invariant (omega arith)
 
 pub same_numbers_spec : {M : Type 1} → statement M
 same_numbers_spec =

@@ -8,19 +8,19 @@ use Rattle.traces.proofs.holds.Statement.{statement}
 use Rattle.traces.proofs.holds.Tie as tie
 
 at_most : tie.Need-returns-in-AtMost
-at_most c = rw c.enum_told-1.given.1 (refl, compared AtMost _ _)
+at_most c = rw c.in-AtMost.is (refl, compared AtMost _ _)
 
 below : tie.Need-returns-in-Below
-below c = rw c.enum_told-in-Below-1.given.1 (refl, compared Below _ _)
+below c = rw c.in-Below.is (refl, compared Below _ _)
 
 equal : tie.Need-returns-in-Equal
-equal c = rw c.enum_told-in-Equal-1.given.1 (refl, compared Equal _ _)
+equal c = rw c.in-Equal.is (refl, compared Equal _ _)
 
 above : tie.Need-returns-in-Above
-above c = rw c.enum_told-in-Above-1.given.1 (refl, compared Above _ _)
+above c = rw c.in-Above.is (refl, compared Above _ _)
 
 at_least : tie.Need-returns-in-AtLeast
-at_least c = rw c.enum_told-in-AtLeast-1.given.1 (refl, compared AtLeast _ _)
+at_least c = rw c.in-AtLeast.is (refl, compared AtLeast _ _)
 
 pub holds_spec : {M : Type 1} → statement M
 holds_spec =

@@ -17,21 +17,21 @@ both : (k : ℕ) (o : Op) → o ≡ op_of k
 both k o e = rw e (refl, (number-op k, λ h. op-last k (omega arith)))
 
 at_most : tie.Need-returns-in-0
-at_most c = both c.before.args.number AtMost (rw c.in-0.keys1 refl)
+at_most c = both c.args.number AtMost (rw c.in-0.is refl)
 
 below : tie.Need-returns-in-1
-below c = both c.before.args.number Below (rw c.in-0.keys2 refl)
+below c = both c.args.number Below (rw c.in-1.is refl)
 
 equal : tie.Need-returns-in-2
-equal c = both c.before.args.number Equal (rw c.in-0.keys3 refl)
+equal c = both c.args.number Equal (rw c.in-2.is refl)
 
 above : tie.Need-returns-in-3
-above c = both c.before.args.number Above (rw c.in-0.keys4 refl)
+above c = both c.args.number Above (rw c.in-3.is refl)
 
 at_least : tie.Need-returns-in_default
 at_least c =
-    let k = c.before.args.number in
-    both k AtLeast (sym (op-last k (none_below k 4 c.in-0.rest)))
+    let k = c.args.number in
+    both k AtLeast (sym (op-last k (none_below k 4 c.in_default.in_default-own.rest)))
 
 pub op_of_spec : {M : Type 1} → statement M
 op_of_spec = tie.close (tie.spec at_most below equal above at_least)

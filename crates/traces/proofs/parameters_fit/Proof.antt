@@ -41,7 +41,7 @@ loop-again c =
     )
 
 all_fit : tie.Need-returns invariant-loop decreases-loop
-all_fit c = let z : c.before.loop-j.j ≡ parameter_count = omega arith in rw z at (sym c.before.loop-j.invariant.1)
+all_fit c = let z : c.loop-j.j ≡ parameter_count = omega arith in rw z at (sym c.loop-j.invariant.1)
 
 pub parameters_fit_spec : {M : Type 1} → statement M
 parameters_fit_spec =
