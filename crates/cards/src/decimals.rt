@@ -6,7 +6,7 @@ ghost use Rattle.cards.specs.Place.{ReadsAs};
 use lists::Decimal;
 
 // The number at a place of a line, and the place after it.
-#[derive(Drop)]
+#[derive(Clone, Copy)]
 pub enum Number {
     Is { value: u32, next: usize },
     Broken,

@@ -1,6 +1,8 @@
 // Cards: what a line of a card says. A light machine over bytes: which line comes next, how many ticks are left, and
 // for each line what it says or its refusal. No table, no state and no step is in it; the definition is `line_says` in
 // specs/Says.antt.
+#![tactic(auto)]
+
 mod decimals;
 
 ghost use Rattle.std.specs.Prelude.{◌≡◌, List, ℕ, drop, replicate};
@@ -47,28 +49,28 @@ const HEAD_REFUSAL: u32 = 17;
 const TICK_REFUSAL: u32 = 18;
 
 // A number that ends a line: how many ticks there are, and in the definitions a velocity.
-#[derive(Drop)]
+#[derive(Clone, Copy)]
 pub enum Count {
     Is(u32),
     Broken,
 }
 
 // A tick's start, signals and velocity.
-#[derive(Drop)]
+#[derive(Clone, Copy)]
 pub enum TickLine {
     Is(u32, u64, u32),
     Broken,
 }
 
 // The same of a tick line at a place, and the place after its byte 10.
-#[derive(Drop)]
+#[derive(Clone, Copy)]
 pub enum TickFound {
     Is(u32, u64, u32, usize),
     Broken,
 }
 
 // Which line comes next.
-#[derive(Drop)]
+#[derive(Clone, Copy)]
 pub enum Phase {
     Edition,
     Parameters,
@@ -79,7 +81,7 @@ pub enum Phase {
 }
 
 // The line that comes next, the card's edition, and the ticks that are left.
-#[derive(Drop)]
+#[derive(Clone, Copy)]
 pub struct Stage {
     pub phase: Phase,
     pub edition: u32,
@@ -87,7 +89,7 @@ pub struct Stage {
 }
 
 // What a line says. The parameters stand beside it (`LineRead`), and the rule text is a part of the line.
-#[derive(Drop)]
+#[derive(Clone, Copy)]
 pub enum Content {
     Edition(u32),
     Parameters,
@@ -101,7 +103,7 @@ pub enum Content {
 }
 
 // What a line says, with the parameters where it says these.
-#[derive(Drop)]
+#[derive(Clone, Copy)]
 pub struct LineRead {
     pub content: Content,
     pub parameters: [u32; limits::PARAMETERS],

@@ -3,6 +3,8 @@
 // machine. A record's kind picks a node of the observer scheme (crate scheme), and the node's rows go to the table. The
 // passes as definitions are in specs/Machine.antt; that they give the observer's equations is what `emit_observer`
 // promises.
+#![tactic(auto)]
+
 ghost use Rattle.std.specs.Prelude.{◌≡◌, [], ◌∷◌, map, ◌≤◌, ◌<◌, ◌+◌, ◌-◌, set, length, take};
 ghost use Rattle.lists.specs.Number.{number_at};
 ghost use Rattle.limits.specs.Limits.{arena_limit, equation_limit, signal_count};
@@ -131,7 +133,7 @@ fn push(stack: &mut [u32], height: usize, takes: u32, v: u32) -> usize
 // ---- the records
 
 // Four numbers of an arena.
-#[derive(Drop)]
+#[derive(Clone, Copy)]
 struct Record {
     pub kind: u32,
     pub a: u32,
@@ -154,7 +156,7 @@ fn record_at(arena: &[u32], i: usize) -> Record
 
 // Where the pass stands: the place of the next equation, that of the next test in the table's head, the negated start
 // flow, the height of the stack.
-#[derive(Drop)]
+#[derive(Clone, Copy)]
 struct Place {
     pub next: u32,
     pub tests: u32,

@@ -1,4 +1,6 @@
 // The nodes (SPEC 3.8) and the leads (SPEC 3.9) of a tree, from the facts of its parts and from its words.
+#![tactic(auto)]
+
 ghost use Rattle.std.specs.Prelude.{true, ◌&&◌, ◌≡◌, ◌≤◌};
 ghost use Rattle.limits.specs.Limits.{word_limit};
 ghost use Rattle.formulas.specs.Tree.{upper, lead_test, lead_count};
@@ -9,7 +11,7 @@ ghost use Rattle.facts.specs.Facts.{leaf_facts, atom_facts, neg_facts, join_fact
 ghost use Rattle.facts.specs.Facts.{exists_facts};
 
 // What is known of a tree: its nodes, whether it is a lead, and whether the left of each `then` in it is one.
-#[derive(Drop)]
+#[derive(Clone, Copy)]
 pub struct Facts {
     pub nodes: u32,
     pub lead: bool,

@@ -1,5 +1,7 @@
 // The feeder: hands a card to the player piece by piece, and puts what its lines print into a buffer. What a line does
 // is `player`'s; what a piece of a card does is defined in specs/Feed.antt.
+#![tactic(auto)]
+
 ghost use Rattle.std.specs.Prelude.{◌≡◌, ◌+◌, ◌-◌, ◌≤◌, length, take, drop};
 ghost use Rattle.cards.specs.Says.{stage_at};
 ghost use Rattle.player.specs.Card.{brought, entering, leaving, watch_of, longest_output};
@@ -12,7 +14,7 @@ use player::{Output, Watch};
 use tables::Checked;
 
 // After a piece of a card: how many of its bytes are used up, and how many bytes of the output are filled.
-#[derive(Drop)]
+#[derive(Clone, Copy)]
 struct Fed {
     pub watch: Watch,
     pub used: usize,
@@ -20,7 +22,7 @@ struct Fed {
 }
 
 // After a turn of the program: how many bytes are left for the next one, and how many of the output are filled.
-#[derive(Drop)]
+#[derive(Clone, Copy)]
 pub struct Turn {
     pub watch: Watch,
     pub rest: usize,

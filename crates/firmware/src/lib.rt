@@ -1,5 +1,7 @@
 // The functions that C calls (SPEC 13.1; include/towerwatch.h): thin over the proved operations, on slices and numbers,
 // which is the form of SPEC 12.5.
+#![tactic(auto)]
+
 ghost use Rattle.std.specs.Prelude.{◌≡◌};
 ghost use Rattle.limits.specs.Limits.{standard_cap, velocity_count};
 ghost use Rattle.limits.specs.Context.{standard_context};
@@ -25,7 +27,7 @@ use rules::Same;
 
 // An answer as C gets it: the refusal's number, 0 for none, and the result, 0 where there is none (SPEC 1.4).
 #[repr(C)]
-#[derive(Drop)]
+#[derive(Clone, Copy)]
 pub struct Answer {
     pub refusal: u32,
     pub result: u32,

@@ -1,5 +1,7 @@
 // The flows of an equation table: a fresh state (SPEC 8.4), and the step that runs a table for one tick (SPEC 8.5),
 // refusals 10 to 14 and 19. What they mean is in specs/.
+#![tactic(auto)]
+
 ghost use Rattle.std.specs.Prelude.{◌≡◌, ◌&&◌, ◌||◌, cond, ◌++◌, ◌+◌, ◌*◌, ◌≤◌, ◌<◌, length, drop};
 ghost use Rattle.limits.specs.Limits.{standard_cap, velocity_count};
 ghost use Rattle.traces.specs.Trace.{truth, nonzero, bit};
@@ -15,14 +17,14 @@ use tables::{Checked, Sort};
 use traces::Tick;
 
 // What making a fresh state answers.
-#[derive(Drop)]
+#[derive(Clone, Copy)]
 pub enum Fresh {
     Made,
     Refused(u32),
 }
 
 // What a step answers.
-#[derive(Drop)]
+#[derive(Clone, Copy)]
 pub enum Stepped {
     Verdict(u32),
     Refused(u32),

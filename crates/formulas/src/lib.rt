@@ -1,5 +1,6 @@
 // Trees of rule texts, formulas and their interval meaning: definitions and laws, and the numbers that trees are
 // written with.
+#![tactic(auto)]
 
 // The kinds of records that a tree is written as (specs/Arena.antt).
 pub const CONSTANT: u32 = 0;

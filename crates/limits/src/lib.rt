@@ -1,5 +1,7 @@
 // The numbers of the specification that several crates name, each in this one place. specs/Limits.antt has the same
 // numbers, with their clauses.
+#![tactic(auto)]
+
 ghost use Rattle.std.specs.Prelude.{◌≡◌};
 ghost use Rattle.limits.specs.Context.{standard_context};
 
@@ -48,7 +50,7 @@ pub const TABLE: usize = 4 * EQUATIONS;
 pub const LINE: usize = 4096;
 
 // What a text is read in, and the tick lines and steps of a card go by: how many velocities there are.
-#[derive(Drop)]
+#[derive(Clone, Copy)]
 pub struct Context {
     pub velocities: u32,
 }

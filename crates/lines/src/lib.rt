@@ -1,4 +1,6 @@
 // Lines of a text, for the test programs.
+#![tactic(auto)]
+
 ghost use Rattle.std.specs.Prelude.{◌≡◌, ◌+◌, ◌≤◌, min, length};
 ghost use Rattle.lists.specs.Line.{line_from};
 

@@ -1,5 +1,7 @@
 // Slices as lists: what several crates read of a slice, compare, copy and look for. specs/ has the definitions that the
 // contracts name.
+#![tactic(auto)]
+
 ghost use Rattle.std.specs.Prelude.{◌≡◌, min, length, take};
 ghost use Rattle.std.proofs.lemmas.List.Edits.{sets};
 ghost use Rattle.lists.specs.Number.{number_at};
@@ -93,7 +95,7 @@ pub fn line_length(s: &[u8], at: usize) -> usize
 }
 
 // A decimal number at a place, and the place after it; a number above the highest that is asked for; or none.
-#[derive(Drop)]
+#[derive(Clone, Copy)]
 pub enum Decimal {
     Is { value: u32, next: usize },
     Above { next: usize },

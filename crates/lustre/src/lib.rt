@@ -2,27 +2,29 @@
 // (SPEC 8.7) do, and that each undoes the other (SPEC 12.2). specs/Text.antt, Write.antt and Read.antt are what the two
 // operations promise; they stand in the crates `lustre_write` and `lustre_read`. The forms of a line, which the one
 // writer and the one reader both walk, are here.
+#![tactic(auto)]
+
 ghost use Rattle.std.specs.Prelude.{◌≡◌, ◌≤◌, ◌<◌};
 ghost use Rattle.limits.specs.Limits.{equation_limit};
 ghost use Rattle.tables.specs.Table.{closing_count};
 ghost use Rattle.lustre.specs.Form.{equation_of, own, last_two, letter?, forms, form_count, form_at};
 
 // What writing answers: the length of the text in bytes, or the number of a refusal.
-#[derive(Drop)]
+#[derive(Clone, Copy)]
 pub enum Written {
     Length(usize),
     Refused(u32),
 }
 
 // What reading answers: the number of equations, or the number of a refusal.
-#[derive(Drop)]
+#[derive(Clone, Copy)]
 pub enum Loaded {
     Equations(usize),
     Refused(u32),
 }
 
 // The four numbers of an equation (SPEC 5.1).
-#[derive(Drop)]
+#[derive(Clone, Copy)]
 pub struct Numbers {
     pub kind: u32,
     pub a: u32,
@@ -70,7 +72,7 @@ pub const FORM_COUNT: usize = VELOCITY_FORM + COMPARISON_FORMS;
 
 // A form: a text that can follow `fN=` in a line, with the letters A, B and C where numbers stand, and the kind and the
 // numbers that it settles. The first len bytes of its text count.
-#[derive(Drop)]
+#[derive(Clone, Copy)]
 pub struct Form {
     pub settled: Numbers,
     pub len: usize,

@@ -1,5 +1,7 @@
 // Cases of writing (SPEC 8.6) and reading (SPEC 8.7) Lustre text. Each prints a line; what it must print is written by
 // hand from the specification.
+#![tactic(auto)]
+
 use libc::STDOUT_FILENO;
 use lustre::{Loaded, Written};
 use lustre_read::read_lustre;

@@ -1,5 +1,7 @@
 // Read Lustre text into a table (SPEC 8.7), with the refusals 16 (SPEC 7.16) and 9 (SPEC 7.9). Which texts are read,
 // and what reading does, stand in crate `lustre`, specs/Text.antt and specs/Read.antt.
+#![tactic(auto)]
+
 ghost use Rattle.std.specs.Prelude.{◌≡◌, ◌+◌, ◌*◌, ◌≤◌, ◌<◌, length, drop};
 ghost use Rattle.limits.specs.Limits.{equation_limit, literal_count, velocity_count, table_room};
 ghost use Rattle.lustre.specs.Read.{AfterRead};
@@ -13,7 +15,7 @@ use lustre::{FORM_COUNT, Loaded, Numbers, all_forms, is_letter, only};
 use tables::{Checked, check_table};
 
 // Whether a form stands in the text, with which numbers, and where it ends.
-#[derive(Drop)]
+#[derive(Clone, Copy)]
 enum Scan {
     Unlike,
     Found { numbers: Numbers, next: usize },
@@ -142,7 +144,7 @@ fn store_equation(table: &mut [u32], i: usize, e: Numbers)
 }
 
 // How many equations' lines stand in the text, and where they end.
-#[derive(Drop)]
+#[derive(Clone, Copy)]
 struct Lines {
     pub n: usize,
     pub next: usize,
@@ -168,7 +170,7 @@ fn read_lines(text: &[u8], p: usize, table: &mut [u32]) -> Lines
 }
 
 // The equations that the text proposes, or none.
-#[derive(Drop)]
+#[derive(Clone, Copy)]
 enum Proposal {
     Nothing,
     Table(usize),

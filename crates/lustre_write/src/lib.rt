@@ -1,5 +1,7 @@
 // Write a table as Lustre text (SPEC 8.6), with refusal 15 (SPEC 7.15). What the text of a table is, and what writing
 // does, stand in crate `lustre`, specs/Text.antt and specs/Write.antt.
+#![tactic(auto)]
+
 ghost use Rattle.std.specs.Prelude.{◌≡◌, ◌+◌, ◌*◌, ◌≤◌, ◌<◌, length, set};
 ghost use Rattle.limits.specs.Limits.{equation_limit, literal_count, velocity_count};
 ghost use Rattle.tables.specs.Table.{equation_at, checked};

@@ -1,5 +1,7 @@
 // The nodes of the observer scheme as code (crate scheme, specs/Scheme.antt has them as definitions). A name of a
 // value is a number here, its place in an array of values. The numbers are bytes, since a pass copies the table.
+#![tactic(auto)]
+
 ghost use Rattle.std.specs.Prelude.{◌≡◌, min};
 ghost use Rattle.scheme.specs.Scheme.{node_count, comparison_of};
 ghost use Rattle.node_table.specs.Numbers.{node_table, kind_by};
@@ -53,13 +55,13 @@ const COMPARISON: u8 = tables::KIND_COUNT as u8;
 const WIDEST: usize = 5;
 
 // A row: the kind of an equation, and the names of its three numbers.
-#[derive(Drop)]
+#[derive(Clone, Copy)]
 pub struct Row(pub u8, pub u8, pub u8, pub u8);
 
 // A node: how many rows it has, and these first among as many as the widest has; how many operands it takes off the
 // stack, how many tests of the table's head are its own, which value it puts on the stack, and which value is the
 // negated start flow from here on.
-#[derive(Drop)]
+#[derive(Clone, Copy)]
 pub struct Node {
     pub count: u32,
     pub rows: [Row; WIDEST],

@@ -1,4 +1,6 @@
 // Compiling a rule text to its observer (SPEC 8.2).
+#![tactic(auto)]
+
 ghost use Rattle.std.specs.Prelude.{◌≡◌};
 ghost use Rattle.limits.specs.Context.{standard_context};
 ghost use Rattle.observers.specs.Compile.{after_compile, compiled};
@@ -7,7 +9,7 @@ ghost use Rattle.observers.specs.Demand.{Compiles};
 use rules::Records;
 
 // What compiling answers: how many equations the table has, or the refusal's number.
-#[derive(Drop)]
+#[derive(Clone, Copy)]
 pub enum Compiled {
     Equations(usize),
     Refused(u32),

@@ -1,5 +1,7 @@
 // Packing an equation table (SPEC 8.8). What it means is in the crate `packing`; specs/ has what the inner functions
 // compute.
+#![tactic(auto)]
+
 ghost use Rattle.std.specs.Prelude.{◌≡◌, cond, ◌+◌, ◌*◌, ◌≤◌, ◌<◌, eqb, length};
 ghost use Rattle.std.proofs.lemmas.List.Edits.{sets};
 ghost use Rattle.lists.specs.Number.{number_at};
@@ -20,7 +22,7 @@ use packing::Packed;
 use tables::{Checked, Operand};
 
 // The kind and the numbers of an equation, with names for its operands.
-#[derive(Drop)]
+#[derive(Clone, Copy)]
 pub struct Key {
     pub kind: u32,
     pub a: u32,

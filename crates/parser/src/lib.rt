@@ -1,5 +1,7 @@
 // Reading a rule's words by recursive descent (SPEC 12.5): the functions of F, D, C and U call each other, with fewer
 // words left each time around. A tree is written as records into a lent arena (formulas, specs/Arena.antt).
+#![tactic(auto)]
+
 ghost use Rattle.std.specs.Prelude.{false, ◌+◌, ◌≤◌, length};
 ghost use Rattle.limits.specs.Limits.{word_limit};
 ghost use Rattle.words.specs.Word.{NOT, ROUND, LAG, THEN, CHOP, EXISTS};
@@ -10,7 +12,7 @@ ghost use Rattle.parser.specs.Contract.{Pushed, ParsesVelocity, ParsesLeaf, Pars
 use facts::Facts;
 
 // A tree that was read: the position after its words, the place after its records, and its facts; or none.
-#[derive(Drop)]
+#[derive(Clone, Copy)]
 pub enum Parsed {
     At(usize, usize, Facts),
     No,

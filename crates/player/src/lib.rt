@@ -1,5 +1,7 @@
 // The player: what one line of a card does. It compiles a card's rule and steps its observer at each tick line. What a
 // line says is `cards`'; what a card prints is defined in specs/Card.antt.
+#![tactic(auto)]
+
 ghost use Rattle.std.specs.Prelude.{◌≡◌, List, ℕ};
 ghost use Rattle.limits.specs.Context.{standard_context};
 ghost use Rattle.lists.specs.Line.{line_from};
@@ -13,7 +15,7 @@ use flows::{Fresh, Stepped};
 use observers::Compiled;
 
 // What the program prints for a line.
-#[derive(Drop)]
+#[derive(Clone, Copy)]
 pub enum Output {
     Quiet,
     Verdict(u32),
@@ -21,14 +23,14 @@ pub enum Output {
 }
 
 // The player's memory beside the lent arrays: the stage of the card, and the number of equations.
-#[derive(Drop)]
+#[derive(Clone, Copy)]
 pub struct Watch {
     pub stage: Stage,
     pub n: usize,
 }
 
 // What a line does to it, and has it print.
-#[derive(Drop)]
+#[derive(Clone, Copy)]
 pub struct Answered {
     pub watch: Watch,
     pub output: Output,

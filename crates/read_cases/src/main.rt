@@ -2,6 +2,8 @@
 // and `stdout` are written by hand from the specification: the texts of SPEC 14.2, the rules of SPEC 14.1, and texts
 // for each of the refusals SPEC 7.1, SPEC 7.2, SPEC 7.3, SPEC 7.4, SPEC 7.5, SPEC 7.6, SPEC 7.7, SPEC 7.8 and their
 // order.
+#![tactic(auto)]
+
 use libc::{STDIN_FILENO, STDOUT_FILENO};
 use rules::Read;
 

@@ -1,10 +1,12 @@
 // The card reader (its form: SPEC 12.5): it holds the bytes that are lent and the place of a line in them. The rule's
 // text is a part of these bytes (SPEC 10.4): none is copied.
+#![tactic(auto)]
+
 ghost use Rattle.std.specs.Prelude.{◌≡◌};
 ghost use Rattle.reader.specs.Part.{rule_from};
 
 // The lent bytes, and the place in them where the line `watch=` stands.
-#[derive(Drop)]
+#[derive(Clone, Copy)]
 struct Reader<'a> {
     pub bytes: &'a [u8],
     pub at: usize,

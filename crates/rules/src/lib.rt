@@ -1,4 +1,6 @@
 // Reading a rule (SPEC 8.1): its words, limits, grammar and fragment. Same rule (SPEC 8.3).
+#![tactic(auto)]
+
 ghost use Rattle.std.specs.Prelude.{not, ◌&&◌, ◌||◌, ◌≡◌, ◌≤◌, eqb, length};
 ghost use Rattle.limits.specs.Limits.{word_limit, arena_limit};
 ghost use Rattle.limits.specs.Context.{standard_context};
@@ -17,21 +19,21 @@ use parser::Parsed;
 use words::Split;
 
 // What reading a rule answers: its node count, or the refusal's number.
-#[derive(Drop)]
+#[derive(Clone, Copy)]
 pub enum Read {
     Rule(u32),
     Refused(u32),
 }
 
 // What reading a rule's tree answers: how many numbers its records take and its node count, or the refusal's number.
-#[derive(Drop)]
+#[derive(Clone, Copy)]
 pub enum Records {
     Rule(usize, u32),
     Refused(u32),
 }
 
 // What comparing two rules answers.
-#[derive(Drop)]
+#[derive(Clone, Copy)]
 pub enum Same {
     Yes,
     No,
@@ -91,7 +93,7 @@ fn beyond_after(beyond: bool, w: u32) -> bool
 
 // What one pass over the words tells: refusal 5 (SPEC 7.5), and refusal 7 (SPEC 7.7), unless too many brackets end the
 // pass before this is known.
-#[derive(Drop)]
+#[derive(Clone, Copy)]
 struct Limits {
     pub over: bool,
     pub beyond: bool,

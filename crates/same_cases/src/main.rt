@@ -2,6 +2,8 @@
 // the eight parameters as decimal numbers, a space after each, and then the rule text. Brackets and spaces of a text do
 // not count (SPEC 3.7), nor does a parameter that the tree does not name (SPEC 3.11); the parameters can be refused
 // (SPEC 7.13). The lines of `stdin` and `stdout` are written by hand from the specification.
+#![tactic(auto)]
+
 ghost use Rattle.std.specs.Prelude.{◌≤◌, length};
 
 use libc::{STDIN_FILENO, STDOUT_FILENO};

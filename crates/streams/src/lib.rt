@@ -2,13 +2,15 @@
 // says that a call was made, or which bytes it moved: -1 is an answer that each of them may give. So each function here
 // is one line, and what it promises, `Came` and `Wrote`, can be had by no other crate but from a call of it
 // (specs/Calls.antt). `at` says how many bytes of the stream came before these.
+#![tactic(auto)]
+
 ghost use Rattle.std.specs.Prelude.{◌≡◌, ◌+◌, ◌-◌, ◌≤◌, ◌<◌, length, take, drop};
 ghost use Rattle.streams.specs.Calls.{Came, Wrote};
 
 use libc::{STDIN_FILENO, STDOUT_FILENO};
 
 // What `read_made` and `write-made` (specs/Calls.antt) ask for. It is private, so that no other crate can name it.
-#[derive(Drop)]
+#[derive(Clone, Copy)]
 enum Call {
     Made,
 }

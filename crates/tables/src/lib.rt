@@ -1,19 +1,21 @@
 // Equation tables: the kinds of equations by their numbers (SPEC 5.3), and the check of a table, refusals 10 and 11
 // (SPEC 7.10, SPEC 7.11). What they mean is in specs/.
+#![tactic(auto)]
+
 ghost use Rattle.std.specs.Prelude.{◌≡◌, ◌&&◌, ◌*◌, ◌≤◌, ◌<◌, length};
 ghost use Rattle.tables.specs.Kind.{kind_count};
 ghost use Rattle.tables.specs.Table.{all, kind_of, shape_of, sort_of, same_sort, is_memory, is_flow, operand_fits};
 ghost use Rattle.tables.specs.Table.{equation_at, equation_fits, closes, checked};
 
 // The sort of a flow.
-#[derive(Drop)]
+#[derive(Clone, Copy)]
 pub enum Sort {
     Boolean,
     Count,
 }
 
 // What one of an equation's three numbers has to be.
-#[derive(Drop)]
+#[derive(Clone, Copy)]
 pub enum Operand {
     // Not used: 0.
     Unused,
@@ -28,7 +30,7 @@ pub enum Operand {
 }
 
 // A row of the table of kinds: what A, B and C have to be, and the sort of the flow.
-#[derive(Drop)]
+#[derive(Clone, Copy)]
 pub struct Shape {
     pub a: Operand,
     pub b: Operand,
@@ -37,7 +39,7 @@ pub struct Shape {
 }
 
 // What a check answers: no refusal applies, or the number of the first that does.
-#[derive(Drop)]
+#[derive(Clone, Copy)]
 pub enum Checked {
     Passed,
     Refused(u32),

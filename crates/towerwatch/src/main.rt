@@ -4,6 +4,8 @@
 // its piece prints, and `run` that all of it together is what a card prints, and that it stops before its end only
 // after a write that failed (specs/Run.antt, and by what the card shows specs/Program.antt). The two system calls are
 // in `streams`. The card of SPEC 14.3 is the crate's test.
+#![tactic(auto)]
+
 ghost use Rattle.std.specs.Prelude.{cond, List, [], ◌≡◌, ℕ, ◌+◌, ◌≤◌, ◌<◌, length, take, drop};
 ghost use Rattle.player.specs.Card.{World, world_of, brought, entering, leaving, start_world};
 ghost use Rattle.feeder.specs.Feed.{Ready};
@@ -17,7 +19,7 @@ use player::Watch;
 const OUTPUT: usize = 65536;
 
 // How the program stands after a turn.
-#[derive(Drop)]
+#[derive(Clone, Copy)]
 enum Stand {
     // It reads on.
     Reading,
@@ -30,7 +32,7 @@ enum Stand {
 }
 
 // What a turn leaves: `to` bytes are left over. In it `got` bytes came in, and `shown` were handed over.
-#[derive(Drop)]
+#[derive(Clone, Copy)]
 struct Next {
     watch: Watch,
     to: usize,
@@ -40,7 +42,7 @@ struct Next {
 }
 
 // A whole run: so many bytes came in, and so many were handed over.
-#[derive(Drop)]
+#[derive(Clone, Copy)]
 struct Total {
     got: u64,
     shown: u64,

@@ -1,4 +1,6 @@
 // Ticks, and the five comparisons. What they mean is in specs/Trace.antt and specs/Compare.antt.
+#![tactic(auto)]
+
 ghost use Rattle.std.specs.Prelude.{◌≡◌, true, ◌↔◌, ◌≤◌, ◌<◌};
 ghost use Rattle.limits.specs.Limits.{comparison_count};
 ghost use Rattle.traces.specs.Trace.{tick_of};
@@ -18,7 +20,7 @@ pub const AT_LEAST: u32 = 4;
 
 // SPEC 1.3: the comparisons. This order means nothing; `holds` has them in the order of their numbers. Declared in that
 // order, the compiled step limits a number to 4 before it branches, and in this one it just branches.
-#[derive(Drop)]
+#[derive(Clone, Copy)]
 pub enum Op {
     Below,
     AtMost,
@@ -32,7 +34,7 @@ pub const IDLE: u32 = 2;
 
 // One tick of a trace (SPEC 1.1): the start, which 0 alone is not, a bit for each signal, the velocity of the hardest
 // stroke, and the parameters.
-#[derive(Drop)]
+#[derive(Clone, Copy)]
 pub struct Tick {
     pub start: u32,
     pub signals: u64,

@@ -1,5 +1,7 @@
 // The words of a rule text, as numbers (SPEC 2.3 to SPEC 2.7, SPEC 2.11). specs/Word.antt says which number is which
 // word, specs/Split.antt how a text is split.
+#![tactic(auto)]
+
 ghost use Rattle.std.specs.Prelude.{◌≡◌, cond, ◌&&◌, ◌+◌, ◌≤◌, ◌<◌, ◌^◌, eqb, ltb, length, drop};
 ghost use Rattle.limits.specs.Limits.{literal_count};
 ghost use Rattle.words.specs.Word.{VEL, LITERAL, within, is_op, is_signal, is_num, is_velocity, is_bit, is_test};
@@ -85,21 +87,21 @@ const RUN: u32 = 40;
 const OTHER: u32 = 50;
 
 // One word: its number, or refusal 2 or 3 (SPEC 7.2, SPEC 7.3).
-#[derive(Drop)]
+#[derive(Clone, Copy)]
 enum Word {
     Made(u32),
     Bad(u32),
 }
 
 // A word and the place after it in its text.
-#[derive(Drop)]
+#[derive(Clone, Copy)]
 struct Token {
     pub word: Word,
     pub end: usize,
 }
 
 // A text's words, or the refusal's number.
-#[derive(Drop)]
+#[derive(Clone, Copy)]
 pub enum Split {
     Words(usize),
     Refused(u32),
