@@ -5,7 +5,7 @@ use Rattle.tables.proofs.a.Statement.{statement}
 use Rattle.tables.proofs.a.Tie as tie
 
 returns : tie.Need-returns
-returns c = ap (λ s. s.a) c.shape_at.ensures
+returns c = ap (λ s. s.a) c.shape_at-shape.ensures
 
-pub a-spec : {M : Type 1} → statement M
-a-spec = tie.close (tie.spec (λ c κs. search rules) returns)
+pub a_spec : {M : Type 1} → statement M
+a_spec = tie.close (tie.spec (λ c κs. search rules) returns)

@@ -12,10 +12,10 @@ use Rattle.tables.proofs.check_table.Statement.{statement}
 use Rattle.tables.proofs.check_table.Tie as tie
 
 -- The places after the test of the equations: the start of the function, and what the tests of the length say.
-abbrev start : tie.After-equations-fit → tie.Start
+abbrev start : tie.After-equations_fit → tie.Start
 start c = c.before.before.before.before.before
 
-decide : (c : tie.After-equations-fit) → (
+decide : (c : tie.After-equations_fit) → (
     let velocities = (start c).args.velocities in
     let t = (start c).args.table.now in
     let n = (start c).args.n in
@@ -23,44 +23,44 @@ decide : (c : tie.After-equations-fit) → (
     → checked velocities t n ≡ cond (b && l) Passed (Refused 11))
 decide c = long-enough _ _ _ (omega arith) (omega arith) (omega arith)
 
-no-equations : tie.Need-returns
-no-equations c = too_few _ _ _ c.if1.true
+no-equations : tie.Need-returns-then-n-eq0
+no-equations c = too_few _ _ _ c.if-n-eq0.true
 
-over-limit : tie.Need-returns-2
-over-limit c = too_many _ _ _ c.if2.true
+over-limit : tie.Need-returns-then-n-gt-EQUATIONS
+over-limit c = too_many _ _ _ c.if-n-gt-EQUATIONS.true
 
-short-table : tie.Need-returns-3
+short-table : tie.Need-returns-then-table-n
 short-table c =
-    let args = c.before.before.before.before.args in
-    too_short args.velocities args.table.now args.n (omega arith) (omega arith) c.if3.true
+    let args = c.args in
+    too_short args.velocities args.table.now args.n (omega arith) (omega arith) c.if-table-n.true
 
-ill-formed : tie.Need-returns-4
+ill-formed : tie.Need-returns-then-not-equations_fit
 ill-formed c =
-    let fit = c.before.equations-fit in
-    sym (decide c.before false _ (sym fit.ensures ∙ not-true fit.result c.if4.true) refl)
+    let fit = c.equations_fit in
+    sym (decide c.before false _ (sym fit.ensures ∙ c.if-not-equations_fit.true) refl)
 
 -- The equations fit, where it is asked how the table closes.
 fits : (c : tie.After-closes) → (
     let args = (start c.before.before).args in
     all (equation_fits args.velocities args.table.now args.n) args.n ≡ true)
 fits c =
-    let fit = c.before.before.equations-fit in
-    sym fit.ensures ∙ not-false fit.result c.before.if4.false
+    let fit = c.equations_fit in
+    sym fit.ensures ∙ c.if-not-equations_fit.false
 
-not-closed : tie.Need-returns-5
+not-closed : tie.Need-returns-then-not-closes
 not-closed c =
-    let last = c.before.closes in
+    let last = c.closes in
     sym (decide c.before.before.before true false (fits c.before)
-    (sym last.ensures ∙ not-true last.result c.if5.true))
+    (sym last.ensures ∙ c.if-not-closes.true))
 
-passed : tie.Need-returns-6
+passed : tie.Need-returns
 passed c =
-    let last = c.before.closes in
+    let last = c.closes in
     sym (decide c.before.before.before true true (fits c.before)
-    (sym last.ensures ∙ not-false last.result c.if5.false))
+    (sym last.ensures ∙ c.if-not-closes.false))
 
-pub check-table-spec : {M : Type 1} → statement M
-check-table-spec =
+pub check_table_spec : {M : Type 1} → statement M
+check_table_spec =
     tie.close
     (tie.spec
     no-equations

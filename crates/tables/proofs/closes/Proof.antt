@@ -9,24 +9,24 @@ use borrow.Author.Rules.{rules}
 use Rattle.tables.proofs.closes.Statement.{statement}
 use Rattle.tables.proofs.closes.Tie as tie
 
-too_few : tie.Need-returns
-too_few c = no-closing _ _ c.if1.true
+too_few : tie.Need-returns-then-n-lt-CLOSING
+too_few c = no-closing _ _ c.if-n-lt-CLOSING.true
 
 -- The started flow is a count,
-count-started : tie.Need-returns-2
+count-started : tie.Need-returns-then-is_count
 count-started c =
-    let counts = sym c.before.is-count.ensures ∙ c.if2.true in
+    let counts = sym c.is_count.ensures ∙ c.if-is_count.true in
     closing-by _ _ (omega arith) false _ (boolean-or-count _ ∙ ap not counts) refl
 
 -- or it is not, and the verdict's sort decides.
-by-verdict : tie.Need-returns-3
+by-verdict : tie.Need-returns
 by-verdict c =
-    let left = c.before.before.if2.false in
-    let booleans = boolean-or-count _ ∙ ap not (sym c.before.before.before.is-count.ensures ∙ left) in
-    closing-by _ _ (omega arith) true _ booleans (boolean-or-count _ ∙ ap not (sym c.is-count2.ensures))
+    let left = c.if-is_count.false in
+    let booleans = boolean-or-count _ ∙ ap not (sym c.is_count.ensures ∙ left) in
+    closing-by _ _ (omega arith) true _ booleans (boolean-or-count _ ∙ ap not (sym c.is_count-2.ensures))
 
-pub closes-spec : {M : Type 1} → statement M
-closes-spec =
+pub closes_spec : {M : Type 1} → statement M
+closes_spec =
     tie.close
     (tie.spec
     too_few

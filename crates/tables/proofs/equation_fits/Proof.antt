@@ -8,11 +8,11 @@ use borrow.Author.Rules.{rules}
 use Rattle.tables.proofs.equation_fits.Statement.{statement}
 use Rattle.tables.proofs.equation_fits.Tie as tie
 
-of-no-kind : tie.Need-returns-14
-of-no-kind c = no_row _ _ _ _ (none_below _ kind_count c.match.rest)
+of-no-kind : tie.Need-returns-in_default
+of-no-kind c = no_row _ _ _ _ (none_below _ kind_count c.in_default.in_default-own.rest)
 
-pub equation-fits-spec : {M : Type 1} → statement M
-equation-fits-spec =
+pub equation_fits_spec : {M : Type 1} → statement M
+equation_fits_spec =
     tie.close
     (tie.spec
     (λ c. search rules)

@@ -5,7 +5,7 @@ use Rattle.tables.proofs.gives.Statement.{statement}
 use Rattle.tables.proofs.gives.Tie as tie
 
 returns : tie.Need-returns
-returns c = ap (λ s. s.gives) c.shape_at.ensures
+returns c = ap (λ s. s.gives) c.shape_at-shape.ensures
 
-pub gives-spec : {M : Type 1} → statement M
-gives-spec = tie.close (tie.spec (λ c κs. search rules) returns)
+pub gives_spec : {M : Type 1} → statement M
+gives_spec = tie.close (tie.spec (λ c κs. search rules) returns)

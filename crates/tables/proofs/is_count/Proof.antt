@@ -4,13 +4,13 @@ use borrow.Author.Rules.{rules}
 use Rattle.tables.proofs.is_count.Statement.{statement}
 use Rattle.tables.proofs.is_count.Tie as tie
 
-of-boolean : tie.Need-returns
+of-boolean : tie.Need-returns-in-Boolean
 unfolding same_sort
-of-boolean c = rw (← c.before.before.sort-of.ensures, c.enum_told.given.1)
+of-boolean c = rw (← c.sort_of-sort.ensures, c.in-Boolean.is)
 
-of-count : tie.Need-returns-2
+of-count : tie.Need-returns-in-Count
 unfolding same_sort
-of-count c = rw (← c.before.before.sort-of.ensures, c.enum-told2.given.1)
+of-count c = rw (← c.sort_of-sort.ensures, c.in-Count.is)
 
-pub is-count-spec : {M : Type 1} → statement M
-is-count-spec = tie.close (tie.spec (λ c κs. search rules) (λ c. search rules) (λ c. search rules) of-boolean of-count)
+pub is_count_spec : {M : Type 1} → statement M
+is_count_spec = tie.close (tie.spec (λ c κs. search rules) (λ c. search rules) (λ c. search rules) of-boolean of-count)

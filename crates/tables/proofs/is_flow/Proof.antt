@@ -9,26 +9,26 @@ use borrow.Author.Rules.{rules}
 use Rattle.tables.proofs.is_flow.Statement.{statement}
 use Rattle.tables.proofs.is_flow.Tie as tie
 
-not-among : tie.Need-returns
+not-among : tie.Need-returns-then-m-j
 unfolding is_flow
-not-among c = rw (le-ltb _ _ c.if1.true)
+not-among c = rw (le-ltb _ _ c.if-m-j.true)
 
-of-boolean : tie.Need-returns-2
+of-boolean : tie.Need-returns-in-Boolean
 unfolding is_flow
 of-boolean c =
-    let count = c.before.before.is-count in
-    let below = c.before.before.before.before.if1.false in
-    rw (lt-ltb _ _ below, c.enum_told.given.1, boolean-or-count) (ap not count.ensures)
+    let count = c.is_count-count in
+    let below = c.if-m-j.false in
+    rw (lt-ltb _ _ below, c.in-Boolean.is, boolean-or-count) (ap not count.ensures)
 
-of-count : tie.Need-returns-3
+of-count : tie.Need-returns-in-Count
 unfolding is_flow
 of-count c =
-    let count = c.before.before.is-count in
-    let below = c.before.before.before.before.if1.false in
-    rw (lt-ltb _ _ below, c.enum-told2.given.1) count.ensures
+    let count = c.is_count-count in
+    let below = c.if-m-j.false in
+    rw (lt-ltb _ _ below, c.in-Count.is) count.ensures
 
-pub is-flow-spec : {M : Type 1} → statement M
-is-flow-spec =
+pub is_flow_spec : {M : Type 1} → statement M
+is_flow_spec =
     tie.close
     (tie.spec
     not-among

@@ -4,28 +4,28 @@ use borrow.Author.Rules.{rules}
 use Rattle.tables.proofs.operand_fits.Statement.{statement}
 use Rattle.tables.proofs.operand_fits.Tie as tie
 
-unused : tie.Need-returns
+unused : tie.Need-returns-in-Unused
 unfolding operand_fits
-unused c = rw c.enum_told.given.1
+unused c = rw c.in-Unused.is
 
-earlier : tie.Need-returns-2
+earlier : tie.Need-returns-in-Earlier
 unfolding operand_fits
-earlier c = rw c.before.before.o.given.1 c.is-flow.ensures
+earlier c = rw c.in-Earlier.is c.is_flow.ensures
 
-anywhere : tie.Need-returns-3
+anywhere : tie.Need-returns-in-Anywhere
 unfolding operand_fits
-anywhere c = rw c.before.before.o2.given.1 c.is-flow2.ensures
+anywhere c = rw c.in-Anywhere.is c.is_flow-in-Anywhere.ensures
 
-below : tie.Need-returns-4
+below : tie.Need-returns-in-Below
 unfolding operand_fits
-below c = rw c.before.o3.given.1
+below c = rw c.in-Below.is
 
-a-velocity : tie.Need-returns-5
+a-velocity : tie.Need-returns-in-Velocity
 unfolding operand_fits
-a-velocity c = rw c.enum-told2.given.1
+a-velocity c = rw c.in-Velocity.is
 
-pub operand-fits-spec : {M : Type 1} → statement M
-operand-fits-spec =
+pub operand_fits_spec : {M : Type 1} → statement M
+operand_fits_spec =
     tie.close
     (tie.spec
     (λ c. search rules)

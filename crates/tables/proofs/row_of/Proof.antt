@@ -8,12 +8,12 @@ use borrow.Author.Rules.{rules}
 use Rattle.tables.proofs.row_of.Statement.{statement}
 use Rattle.tables.proofs.row_of.Tie as tie
 
-of-no-kind : tie.Need-returns-14
+of-no-kind : tie.Need-returns-in_default
 unfolding shape_of
-of-no-kind c = rw (kind-beyond _ (none_below _ kind_count c.match.rest))
+of-no-kind c = rw (kind-beyond _ (none_below _ kind_count c.in_default.in_default-own.rest))
 
-pub row-of-spec : {M : Type 1} → statement M
-row-of-spec =
+pub row_of_spec : {M : Type 1} → statement M
+row_of_spec =
     tie.close
     (tie.spec
     (λ c κs. search rules)

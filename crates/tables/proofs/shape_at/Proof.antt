@@ -8,7 +8,7 @@ use Rattle.tables.proofs.shape_at.Tie as tie
 
 returns : tie.Need-returns
 unfolding shape_of
-returns c = rows c.before.args.k _ (search rules)
+returns c = rows c.args.k _ (search rules)
 
-pub shape-at-spec : {M : Type 1} → statement M
-shape-at-spec = tie.close (tie.spec (λ c. search rules) (λ c. search rules) returns)
+pub shape_at_spec : {M : Type 1} → statement M
+shape_at_spec = tie.close (tie.spec (λ c. search rules) (λ c. search rules) returns)

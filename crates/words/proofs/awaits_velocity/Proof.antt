@@ -6,11 +6,11 @@ use Rattle.words.specs.Word.{VEL}
 use Rattle.words.proofs.awaits_velocity.Statement.{statement}
 use Rattle.words.proofs.awaits_velocity.Tie as tie
 
-other_word : tie.Need-returns
-other_word c = simp (ne_eqb _ VEL c.if1.true)
+other_word : tie.Need-returns-then-before-ne-VEL
+other_word c = simp (ne_eqb _ VEL c.if-before-ne-VEL.true)
 
-after-v : tie.Need-returns-2
-after-v c = c.is-op.ensures ∙ simp (eq-eqb _ VEL c.before.if1.false)
+after-v : tie.Need-returns
+after-v c = c.is_op.ensures ∙ simp (eq-eqb _ VEL c.if-before-ne-VEL.false)
 
-pub awaits-velocity-spec : {M : Type 1} → statement M
-awaits-velocity-spec = tie.close (tie.spec other_word (λ c κs. search rules) after-v)
+pub awaits_velocity_spec : {M : Type 1} → statement M
+awaits_velocity_spec = tie.close (tie.spec other_word (λ c κs. search rules) after-v)

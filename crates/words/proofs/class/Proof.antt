@@ -13,25 +13,25 @@ use Rattle.words.proofs.class.Tie as tie
 known : {b k : ℕ} → b ≡ k → class_of k ≡ class_of b
 known e = sym (ap class_of e)
 
-pub class-spec : {M : Type 1} → statement M
+pub class_spec : {M : Type 1} → statement M
 unfolding class_of is_digit
-class-spec =
+class_spec =
     tie.close
     (tie.spec
-    (λ c. known c.match.keys1)
-    (λ c. known c.match.keys2)
-    (λ c. known c.match.keys3)
-    (λ c. known c.match.keys4)
-    (λ c. known c.match.keys5)
-    (λ c. known c.match.keys6)
-    (λ c. known c.match.keys7)
-    (λ c. known c.match.keys8)
-    (λ c. known c.match.keys9)
-    (λ c. known c.match.keys10)
-    (λ c. known c.match.keys11)
-    (λ c. known c.match.keys12)
-    (λ c. sym (digit-in-run _ c.before.if1.false c.if2.true))
-    (λ c. sym (letter-in-run _ c.before.if3.false c.if4.true))
-    (λ c. sym (other _ (below-digits _ c.if1.true) c.before.match.rest))
-    (λ c. sym (other _ (between _ c.before.if2.false c.if3.true) c.before.before.before.match.rest))
-    (λ c. sym (other _ (above-letters _ c.if4.false) c.before.before.before.before.match.rest)))
+    (λ c. known c.in-32.is)
+    (λ c. known c.in-40.is)
+    (λ c. known c.in-41.is)
+    (λ c. known c.in-91.is)
+    (λ c. known c.in-93.is)
+    (λ c. known c.in-33.is)
+    (λ c. known c.in-38.is)
+    (λ c. known c.in-124.is)
+    (λ c. known c.in-60.is)
+    (λ c. known c.in-61.is)
+    (λ c. known c.in-62.is)
+    (λ c. known c.in-44.is)
+    (λ c. sym (digit-in-run _ c.in-97-to-122.if-b-lt48-own.false c.in-97-to-122.if-b-lt58-own.true))
+    (λ c. sym (letter-in-run _ c.in-97-to-122.if-b-lt97-own.false c.in-97-to-122.if-b-lt123-own.true))
+    (λ c. sym (other _ (below-digits _ c.in_default.if-b-lt48-own.true) c.in_default.in_default-own.rest))
+    (λ c. sym (other _ (between _ c.in_default.if-b-lt58-own.false c.in_default.if-b-lt97-own.true) c.in_default.in_default-own.rest))
+    (λ c. sym (other _ (above-letters _ c.in_default.if-b-lt123-own.false) c.in_default.in_default-own.rest)))

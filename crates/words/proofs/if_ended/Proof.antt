@@ -3,11 +3,11 @@ use borrow.Author.Tests.{lt-ltb, le-ltb}
 use Rattle.words.proofs.if_ended.Statement.{statement}
 use Rattle.words.proofs.if_ended.Tie as tie
 
-bytes_left : tie.Need-returns
-bytes_left c = simp (lt-ltb _ _ c.if1.true)
+bytes_left : tie.Need-returns-then-end-digits
+bytes_left c = simp (lt-ltb _ _ c.if-end-digits.true)
 
-ended : tie.Need-returns-2
-ended c = simp (le-ltb _ _ c.if1.false)
+ended : tie.Need-returns-else-end-digits
+ended c = simp (le-ltb _ _ c.if-end-digits.false)
 
-pub if-ended-spec : {M : Type 1} → statement M
-if-ended-spec = tie.close (tie.spec bytes_left ended)
+pub if_ended_spec : {M : Type 1} → statement M
+if_ended_spec = tie.close (tie.spec bytes_left ended)

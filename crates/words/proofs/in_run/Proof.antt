@@ -7,12 +7,12 @@ use Rattle.words.proofs.Classes.{letter-in-run, digit-in-run, below-digits, betw
 use Rattle.words.proofs.in_run.Statement.{statement}
 use Rattle.words.proofs.in_run.Tie as tie
 
-pub in-run-spec : {M : Type 1} → statement M
-in-run-spec =
+pub in_run_spec : {M : Type 1} → statement M
+in_run_spec =
     tie.close
     (tie.spec
-    (λ c. sym (eq-eqb _ RUN (digit-in-run _ c.before.if1.false c.if2.true)))
-    (λ c. sym (eq-eqb _ RUN (letter-in-run _ c.before.if3.false c.if4.true)))
-    (λ c. sym (below-digits _ c.if1.true))
-    (λ c. sym (between _ c.before.if2.false c.if3.true))
-    (λ c. sym (above-letters _ c.if4.false)))
+    (λ c. sym (eq-eqb _ RUN (digit-in-run _ c.in-97-to-122.if-b-lt48-own.false c.in-97-to-122.if-b-lt58-own.true)))
+    (λ c. sym (eq-eqb _ RUN (letter-in-run _ c.in-97-to-122.if-b-lt97-own.false c.in-97-to-122.if-b-lt123-own.true)))
+    (λ c. sym (below-digits _ c.in_default.if-b-lt48-own.true))
+    (λ c. sym (between _ c.in_default.if-b-lt58-own.false c.in_default.if-b-lt97-own.true))
+    (λ c. sym (above-letters _ c.in_default.if-b-lt123-own.false)))

@@ -5,13 +5,13 @@ use Rattle.words.specs.Word.{is_num}
 use Rattle.words.proofs.is_num.Statement.{statement}
 use Rattle.words.proofs.is_num.Tie as tie
 
-a-parameter : tie.Need-returns
+a-parameter : tie.Need-returns-then-is_within
 unfolding is_num
-a-parameter c = simp (sym c.before.is_Within.ensures ∙ c.if1.true)
+a-parameter c = simp (sym c.before.is_Within.ensures ∙ c.if-is_within.true)
 
-no-parameter : tie.Need-returns-2
+no-parameter : tie.Need-returns
 unfolding is_num
-no-parameter c = simp (sym c.before.is_Within.ensures ∙ c.if1.false)
+no-parameter c = simp (sym c.before.is_Within.ensures ∙ c.if-is_within.false)
 
-pub is-num-spec : {M : Type 1} → statement M
-is-num-spec = tie.close (tie.spec (λ c. search rules) (λ c κs. search rules) a-parameter no-parameter)
+pub is_num_spec : {M : Type 1} → statement M
+is_num_spec = tie.close (tie.spec (λ c. search rules) (λ c κs. search rules) a-parameter no-parameter)

@@ -4,6 +4,6 @@ use Rattle.words.specs.Word.{is_velocity}
 use Rattle.words.proofs.is_velocity.Statement.{statement}
 use Rattle.words.proofs.is_velocity.Tie as tie
 
-pub is-velocity-spec : {M : Type 1} → statement M
+pub is_velocity_spec : {M : Type 1} → statement M
 unfolding is_velocity
-is-velocity-spec = tie.close (tie.spec (λ c. search rules) (λ c κs. search rules) (λ c. c.is_Within.ensures))
+is_velocity_spec = tie.close (tie.spec (λ c. search rules) (λ c κs. search rules) (λ c. c.is_Within.ensures))

@@ -3,11 +3,11 @@ use borrow.Author.Tests.{le-leb, lt-leb}
 use Rattle.words.proofs.is_within.Statement.{statement}
 use Rattle.words.proofs.is_within.Tie as tie
 
-below-lo : tie.Need-returns
-below-lo c = simp (lt-leb _ _ c.if1.true)
+below-lo : tie.Need-returns-then-w-lo
+below-lo c = simp (lt-leb _ _ c.if-w-lo.true)
 
-from-lo : tie.Need-returns-2
-from-lo c = simp (le-leb _ _ c.if1.false)
+from-lo : tie.Need-returns
+from-lo c = simp (le-leb _ _ c.if-w-lo.false)
 
-pub is-within-spec : {M : Type 1} → statement M
-is-within-spec = tie.close (tie.spec below-lo from-lo)
+pub is_within_spec : {M : Type 1} → statement M
+is_within_spec = tie.close (tie.spec below-lo from-lo)

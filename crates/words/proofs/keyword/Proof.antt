@@ -11,11 +11,11 @@ use Rattle.words.proofs.keyword.Statement.{statement}
 use Rattle.words.proofs.keyword.Tie as tie
 
 -- The run, once its first byte was read.
-abbrev run : tie.After-byte-at → List ℕ
-run c = c.before.before.args.run.now
+abbrev run : tie.After-byte_at → List ℕ
+run c = c.args.run.now
 
 -- An arm for the byte b: its answer is right of every run that begins with b.
-arm : (f : List ℕ → ℕ) (c : tie.After-byte-at) {b r : ℕ} → c.byte_at.result ≡ b → T (ltb 0 b)
+arm : (f : List ℕ → ℕ) (c : tie.After-byte_at) {b r : ℕ} → c.byte_at.result ≡ b → T (ltb 0 b)
     → ((l : List ℕ) → f (b ∷ l) ≡ keyword_of (b ∷ l)) → r ≡ f (run c) → r ≡ keyword_of (run c)
 arm f c {b} e z h answer = answer ∙ by_first f (run c) b (sym c.byte_at.ensures ∙ e) z h
 
@@ -23,32 +23,32 @@ arm f c {b} e z h answer = answer ∙ by_first f (run c) b (sym c.byte_at.ensure
 abbrev one : ℕ → List ℕ → ℕ
 one i r = spelled_as i r 0
 
-alone : (i : ℕ) (c : tie.After-byte-at) {b r : ℕ} → c.byte_at.result ≡ b → T (ltb 0 b)
+alone : (i : ℕ) (c : tie.After-byte_at) {b r : ℕ} → c.byte_at.result ≡ b → T (ltb 0 b)
     → ((l : List ℕ) → one i (b ∷ l) ≡ keyword_of (b ∷ l)) → r ≡ one i (run c) → r ≡ keyword_of (run c)
 alone i = arm (one i)
 
 -- `end` and `exists` begin with the same byte, and so do `len` and `lag`.
-end-or-exists : tie.Need-returns-2
+end-or-exists : tie.Need-returns-in-101
 unfolding keyword_of keyword_among
 end-or-exists c =
     let e = c.before.before.before.before in
-    arm (λ r. spelled_as 1 r (one 11 r)) e.before e.match.keys2 tt (λ l. refl)
-    (c.spelled-or3.ensures ∙ rw c.before.spelled-or2.ensures)
+    arm (λ r. spelled_as 1 r (one 11 r)) e.before e.in-98.keys2 tt (λ l. refl)
+    (c.spelled_or-in-101-2.ensures ∙ rw c.spelled_or-in-101.ensures)
 
-len-or-lag : tie.Need-returns-6
+len-or-lag : tie.Need-returns-in-108
 unfolding keyword_of keyword_among
 len-or-lag c =
     let e = c.before.before.before.before in
-    arm (λ r. spelled_as 5 r (one 8 r)) e.before e.match.keys6 tt (λ l. refl)
-    (c.spelled-or8.ensures ∙ rw c.before.spelled-or7.ensures)
+    arm (λ r. spelled_as 5 r (one 8 r)) e.before e.in-98.keys6 tt (λ l. refl)
+    (c.spelled_or-in-108-2.ensures ∙ rw c.spelled_or-in-108.ensures)
 
 -- No keyword begins with the byte.
-none-begins : tie.Need-returns-12
-none-begins c = no-keyword (run c.before) (rw c.before.byte_at.ensures at c.match.rest)
+none-begins : tie.Need-returns-in_default
+none-begins c = no-keyword (run c.before) (rw c.byte_at.ensures at c.in_default.in_default-own.rest)
 
-pub keyword-spec : {M : Type 1} → statement M
+pub keyword_spec : {M : Type 1} → statement M
 unfolding keyword_of keyword_among
-keyword-spec =
+keyword_spec =
     tie.close
     (tie.spec
     (λ c κs. search rules)

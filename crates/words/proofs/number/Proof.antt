@@ -7,33 +7,33 @@ use Rattle.words.proofs.number.Statement.{statement}
 use Rattle.words.proofs.number.Tie as tie
 
 -- The call of `read_decimal`, from where a number was read and from where one was above max.
-abbrev read : tie.After-known-told → tie.After-read-decimal
-read c = c.before.before.before
+abbrev read : tie.In-Is → tie.After-read_decimal
+read c = c.before
 
-abbrev high : tie.After-known-told2 → tie.After-read-decimal
-high c = c.before.before.before
+abbrev high : tie.In-Above → tie.After-read_decimal
+high c = c.before
 
 -- The number fits beside its base.
 sum_fits : tie.Need-overflow-add-t9
 sum_fits c =
-    let small = number_small (read c).read-decimal.ensures c.before.value.given.1 in
-    omega (arith, small, (read c).before.before.requires)
+    let small = number_small (read c).read_decimal.ensures c.before.value-1.given.1 in
+    omega (arith, small, (read c).requires)
 
-a-number : tie.Need-returns
+a-number : tie.Need-returns-in-Is
 a-number c =
     let at = c.before in
-    c.if-ended.ensures ∙ number-made _ (read at).read-decimal.ensures at.before.value.given.1
+    c.if_ended.ensures ∙ number-made _ (read at).read_decimal.ensures at.before.value-1.given.1
 
-above-max : tie.Need-returns-2
+above-max : tie.Need-returns-in-Above
 above-max c =
     let at = c.before in
-    c.if-ended2.ensures ∙ number-high _ (high at).read-decimal.ensures at.before.next.given.1
+    c.if_ended-in-Above.ensures ∙ number-high _ (high at).read_decimal.ensures at.before.next-1.given.1
 
-no_number : tie.Need-returns-3
-no_number c = number-missing _ c.before.before.read-decimal.ensures c.enum_told.given.1
+no_number : tie.Need-returns-in-Missing
+no_number c = number-missing _ c.read_decimal.ensures c.in-Missing.is
 
-pub number-spec : {M : Type 1} → statement M
-number-spec =
+pub number_spec : {M : Type 1} → statement M
+number_spec =
     tie.close
     (tie.spec
     (λ c κs. search rules)

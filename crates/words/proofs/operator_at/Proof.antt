@@ -7,30 +7,30 @@ use Rattle.words.specs.Word.{LT, GT}
 use Rattle.words.proofs.operator_at.Statement.{statement}
 use Rattle.words.proofs.operator_at.Tie as tie
 
-next-other : tie.Need-returns
+next-other : tie.Need-returns-then-next-ne61
 next-other c =
-    let no-equals = ne_eqb _ (byte "=") c.if1.true in
+    let no-equals = ne_eqb _ (byte "=") c.if-next-ne61.true in
     (simp (no-equals, and-false), simp (no-equals, and-false))
 
-less-equals : tie.Need-returns-2
+less-equals : tie.Need-returns-in-9
 less-equals c =
-    let equals = eq-eqb _ (byte "=") c.before.if1.false in
-    (simp (c.match.keys1, equals), simp (c.match.keys1, equals))
+    let equals = eq-eqb _ (byte "=") c.if-next-ne61.false in
+    (simp (c.in-9.is, equals), simp (c.in-9.is, equals))
 
-greater-equals : tie.Need-returns-3
+greater-equals : tie.Need-returns-in-11
 greater-equals c =
-    let equals = eq-eqb _ (byte "=") c.before.if1.false in
-    (simp (c.match.keys2, equals), simp (c.match.keys2, equals))
+    let equals = eq-eqb _ (byte "=") c.if-next-ne61.false in
+    (simp (c.in-11.is, equals), simp (c.in-11.is, equals))
 
-other-class : tie.Need-returns-4
+other-class : tie.Need-returns-in_default
 other-class c =
-    let class = c.before.before.args.c in
-    let no_less = ne_eqb class LT c.match.rest.0.1 in
-    let no-greater = ne_eqb class GT c.match.rest.1 in
+    let class = c.args.c in
+    let no_less = ne_eqb class LT c.in_default.in_default-own.rest.0.1 in
+    let no-greater = ne_eqb class GT c.in_default.in_default-own.rest.1 in
     (simp (no_less, no-greater), simp (no_less, no-greater))
 
-pub operator-at-spec : {M : Type 1} → statement M
-operator-at-spec =
+pub operator_at_spec : {M : Type 1} → statement M
+operator_at_spec =
     tie.close
     (tie.spec
     (λ c. search rules)

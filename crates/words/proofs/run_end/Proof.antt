@@ -12,43 +12,43 @@ use Rattle.words.proofs.Runs.{run_past, run-stops, run-goes}
 use Rattle.words.proofs.run_end.Statement.{statement}
 use Rattle.words.proofs.run_end.Tie as tie
 
-abbrev invariant-loop : tie.invariant-loop
+abbrev invariant-loop : tie.invariant-loop-end
 invariant-loop text i end₀ end =
     (end ≤ length text) × (i + length (run (drop i text)) ≡ end + length (run (drop end text)))
 
-abbrev decreases-loop : tie.decreases-loop
+abbrev decreases-loop : tie.decreases-loop-end
 decreases-loop text i end₀ end = length text - end
 
 -- The loop's head, once a byte was looked at, and the text.
-abbrev head : tie.After-in-run invariant-loop decreases-loop → tie.At-loop invariant-loop decreases-loop
+abbrev head : tie.After-in_run invariant-loop decreases-loop → tie.At-loop-end invariant-loop decreases-loop
 head c = c.before.before.before
 
-abbrev text : tie.At-loop invariant-loop decreases-loop → List ℕ
-text c = c.before.before.args.text.now
+abbrev text : tie.At-loop-end invariant-loop decreases-loop → List ℕ
+text c = c.args.text.now
 
-at-other-byte : tie.Need-returns invariant-loop decreases-loop
+at-other-byte : tie.Need-returns-then-not-in_run invariant-loop decreases-loop
 at-other-byte c =
     let at = c.before in
-    let other = sym at.in-run.ensures ∙ not-true _ c.if1.true in
-    let inside = at.before.before.loop-test.true in
-    let stops = run-stops (text (head at)) (head at).loop.end inside (eqb-false _ RUN other) in
-    omega (arith, (head at).loop.invariant.1, ap length stops)
+    let other = sym at.in_run.ensures ∙ c.if-not-in_run.true in
+    let inside = at.before.before.loop-end-test.true in
+    let stops = run-stops (text (head at)) (head at).loop-end.end inside (eqb-false _ RUN other) in
+    omega (arith, (head at).loop-end.invariant.1, ap length stops)
 
-loop-again : tie.Need-loop-preserved invariant-loop decreases-loop
+loop-again : tie.Need-loop-end-preserved invariant-loop decreases-loop
 loop-again c =
     let at = c.before in
-    let in-run = sym at.in-run.ensures ∙ not-false _ c.if1.false in
-    let inside = at.before.before.loop-test.true in
-    let goes = run-goes (text (head at)) (head at).loop.end inside (eqb-true _ RUN in-run) in
-    (omega arith, omega (arith, (head at).loop.invariant.1, ap length goes))
+    let in-run = sym at.in_run.ensures ∙ c.if-not-in_run.false in
+    let inside = at.before.before.loop-end-test.true in
+    let goes = run-goes (text (head at)) (head at).loop-end.end inside (eqb-true _ RUN in-run) in
+    (omega arith, omega (arith, (head at).loop-end.invariant.1, ap length goes))
 
-at-text-end : tie.Need-returns-2 invariant-loop decreases-loop
+at-text-end : tie.Need-returns invariant-loop decreases-loop
 at-text-end c =
     let at = c.before in
-    omega (arith, at.loop.invariant.1, ap length (run_past (text at) _ c.loop-test.false))
+    omega (arith, at.loop-end.invariant.1, ap length (run_past (text at) _ c.loop-end-test.false))
 
-pub run-end-spec : {M : Type 1} → statement M
-run-end-spec =
+pub run_end_spec : {M : Type 1} → statement M
+run_end_spec =
     tie.close
     (tie.spec
     invariant-loop

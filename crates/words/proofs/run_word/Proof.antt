@@ -14,47 +14,47 @@ use Rattle.words.proofs.run_word.Statement.{statement}
 use Rattle.words.proofs.run_word.Tie as tie
 
 -- The start, where the run is no keyword, and the run.
-abbrev start : tie.Else1 → tie.Start
+abbrev start : tie.Else-word-gt0 → tie.Start
 start c = c.before.before.before
 
-abbrev run : tie.Else1 → List ℕ
+abbrev run : tie.Else-word-gt0 → List ℕ
 run c = (start c).args.run.now
 
-no-keyword : (c : tie.Else1) → keyword_of (run c) ≡ 0
-no-keyword c = omega (arith, c.before.keyword.ensures, c.if1.false)
+no-keyword : (c : tie.Else-word-gt0) → keyword_of (run c) ≡ 0
+no-keyword c = omega (arith, c.keyword-word.ensures, c.if-word-gt0.false)
 
-a-keyword : tie.Need-returns
+a-keyword : tie.Need-returns-then-word-gt0
 unfolding run_of
 a-keyword c =
-    let word = c.before.keyword.result in
-    simp (sym c.before.keyword.ensures, lt-ltb 0 word c.if1.true)
+    let word = c.keyword-word.result in
+    simp (sym c.keyword-word.ensures, lt-ltb 0 word c.if-word-gt0.true)
 
-a-signal : tie.Need-returns-2
+a-signal : tie.Need-returns-in-115
 a-signal c =
     let at = c.before.before.before.before in
     let args = (start at).args in
-    let key = c.before.before.match.keys1 in
+    let key = c.in-115.is in
     let word = run-signal args.context args.awaited (run at) (no-keyword at) key in
     c.number.ensures ∙ ap (number_of SIGNAL (signal_count - 1)) (part_to_end (run at) 1) ∙ sym word
 
-a-parameter : tie.Need-returns-3
+a-parameter : tie.Need-returns-in-107
 a-parameter c =
     let at = c.before.before.before.before in
     let args = (start at).args in
-    let key = c.before.before.match.keys2 in
+    let key = c.in-107.is in
     let word = run-parameter args.context args.awaited (run at) (no-keyword at) key in
-    c.number2.ensures ∙ ap (number_of PARAMETER (parameter_count - 1)) (part_to_end (run at) 1) ∙ sym word
+    c.number-in-107.ensures ∙ ap (number_of PARAMETER (parameter_count - 1)) (part_to_end (run at) 1) ∙ sym word
 
-a-literal : tie.Need-returns-4
+a-literal : tie.Need-returns-in_default
 a-literal c =
     let at = c.before.before.before in
-    let others = c.before.match.rest in
+    let others = c.in_default.in_default-own.rest in
     let args = (start at).args in
-    c.literal-word.ensures
+    c.literal_word.ensures
     ∙ sym (run-literal args.context args.awaited (run at) (no-keyword at) others.0.1 others.1)
 
-pub run-word-spec : {M : Type 1} → statement M
-run-word-spec =
+pub run_word_spec : {M : Type 1} → statement M
+run_word_spec =
     tie.close
     (tie.spec
     (λ c κs. search rules)

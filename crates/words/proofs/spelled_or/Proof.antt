@@ -4,11 +4,11 @@ use borrow.Author.Rules.{rules}
 use Rattle.words.proofs.spelled_or.Statement.{statement}
 use Rattle.words.proofs.spelled_or.Tie as tie
 
-spelled : tie.Need-returns
-spelled c = simp (sym c.before.same_bytes.ensures ∙ c.if1.true)
+spelled : tie.Need-returns-then-same_bytes
+spelled c = simp (sym c.same_bytes.ensures ∙ c.if-same_bytes.true)
 
-not-spelled : tie.Need-returns-2
-not-spelled c = simp (sym c.before.same_bytes.ensures ∙ c.if1.false)
+not-spelled : tie.Need-returns-else-same_bytes
+not-spelled c = simp (sym c.same_bytes.ensures ∙ c.if-same_bytes.false)
 
-pub spelled-or-spec : {M : Type 1} → statement M
-spelled-or-spec = tie.close (tie.spec (λ c κs. search rules) spelled not-spelled)
+pub spelled_or_spec : {M : Type 1} → statement M
+spelled_or_spec = tie.close (tie.spec (λ c κs. search rules) spelled not-spelled)

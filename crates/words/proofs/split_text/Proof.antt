@@ -15,107 +15,107 @@ use Rattle.words.proofs.Splitting.{skips, too_many, breaks, adds}
 use Rattle.words.proofs.split_text.Statement.{statement}
 use Rattle.words.proofs.split_text.Tie as tie
 
-abbrev invariant-loop : tie.invariant-loop
+abbrev invariant-loop : tie.invariant-loop-i
 invariant-loop context text out₀ before₀ last₀ count₀ i₀ out before last count i =
     Splitting context text out₀ out before last count i
 
-abbrev decreases-loop : tie.decreases-loop
+abbrev decreases-loop : tie.decreases-loop-i
 decreases-loop context text out₀ before₀ last₀ count₀ i₀ out before last count i = length text - i
 
 -- The places: the start, before the loop; the loop's head, once the class of a byte is known; the byte's class, at a
 -- word that has room; the call of `word_at`, where a word was made or is bad, and the place before it.
-abbrev start : tie.Else1 invariant-loop decreases-loop → tie.Start invariant-loop decreases-loop
+abbrev start : tie.Else-wrong_size invariant-loop decreases-loop → tie.Start invariant-loop decreases-loop
 start c = c.before.before.before.before
 
-abbrev context : tie.Else1 invariant-loop decreases-loop → Context
+abbrev context : tie.Else-wrong_size invariant-loop decreases-loop → Context
 context c = (start c).args.context
 
-abbrev text : tie.Else1 invariant-loop decreases-loop → List ℕ
+abbrev text : tie.Else-wrong_size invariant-loop decreases-loop → List ℕ
 text c = (start c).args.text.now
 
-abbrev head : tie.After-class invariant-loop decreases-loop → tie.At-loop invariant-loop decreases-loop
+abbrev head : tie.After-class-c invariant-loop decreases-loop → tie.At-loop-i invariant-loop decreases-loop
 head c = c.before.before.before
 
-abbrev byte : tie.Else3 invariant-loop decreases-loop → tie.After-class invariant-loop decreases-loop
+abbrev byte : tie.Else-count-eq-WORDS invariant-loop decreases-loop → tie.After-class-c invariant-loop decreases-loop
 byte c = c.before.before
 
-abbrev made : tie.After-known-told invariant-loop decreases-loop → tie.After-word-at invariant-loop decreases-loop
-made c = c.before.before.before
+abbrev made : tie.In-Made invariant-loop decreases-loop → tie.After-word_at-token invariant-loop decreases-loop
+made c = c.before
 
-abbrev bad : tie.After-known-told2 invariant-loop decreases-loop → tie.After-word-at invariant-loop decreases-loop
-bad c = c.before.before.before
+abbrev bad : tie.In-Bad invariant-loop decreases-loop → tie.After-word_at-token invariant-loop decreases-loop
+bad c = c.before
 
-abbrev room_at : tie.After-word-at invariant-loop decreases-loop → tie.Else3 invariant-loop decreases-loop
+abbrev room_at : tie.After-word_at-token invariant-loop decreases-loop → tie.Else-count-eq-WORDS invariant-loop decreases-loop
 room_at c = c.before.before
 
 -- The byte is in the text.
-inside : (c : tie.After-class invariant-loop decreases-loop) → (head c).loop.i < length (text (head c).before)
-inside c = c.before.before.loop-test.true
+inside : (c : tie.After-class-c invariant-loop decreases-loop) → (head c).loop-i.i < length (text (head c).before)
+inside c = c.loop-i-test.true
 
 -- After the test of the length the words decide.
-by-words : (c : tie.Else1 invariant-loop decreases-loop) → split_of (context c) (text c) ≡ words (context c) (text c) SPACE []
-by-words c = split-words (context c) (text c) (sym c.before.wrong_size.ensures ∙ c.if1.false)
+by-words : (c : tie.Else-wrong_size invariant-loop decreases-loop) → split_of (context c) (text c) ≡ words (context c) (text c) SPACE []
+by-words c = split-words (context c) (text c) (sym c.wrong_size.ensures ∙ c.if-wrong_size.false)
 
 -- A text that is empty or too long.
-no_text : tie.Need-returns invariant-loop decreases-loop
+no_text : tie.Need-returns-then-wrong_size invariant-loop decreases-loop
 no_text c =
-    let args = c.before.before.before.before.args in
-    let size = sym c.before.wrong_size.ensures ∙ c.if1.true in
+    let args = c.args in
+    let size = sym c.wrong_size.ensures ∙ c.if-wrong_size.true in
     refuses args.context args.text.now _ _ 1 (split-size args.context args.text.now size)
 
 -- A space.
-after-space : tie.Need-loop-preserved invariant-loop decreases-loop
+after-space : tie.Need-loop-i-preserved-then-c-eq-SPACE invariant-loop decreases-loop
 after-space c =
     let at = c.before in
-    skips (head at).loop.invariant (inside at) at.class.result at.class.ensures c.if2.true
+    skips (head at).loop-i.invariant (inside at) at.class-c.result at.class-c.ensures c.if-c-eq-SPACE.true
 
 -- A word too many.
-word-too-many : tie.Need-returns-2 invariant-loop decreases-loop
+word-too-many : tie.Need-returns-then-count-eq-WORDS invariant-loop decreases-loop
 word-too-many c =
     let at = c.before.before in
-    let refusal = too_many (head at).loop.invariant (inside at) at.class.result at.class.ensures in
-    refuses _ _ _ _ 4 (by-words (head at).before ∙ refusal c.before.if2.false c.if3.true)
+    let refusal = too_many (head at).loop-i.invariant (inside at) at.class-c.result at.class-c.ensures in
+    refuses _ _ _ _ 4 (by-words (head at).before ∙ refusal c.if-c-eq-SPACE.false c.if-count-eq-WORDS.true)
 
 -- What reading a word asks.
-begun : tie.Need-word-at-requires invariant-loop decreases-loop
+begun : tie.Need-word_at-token-requires invariant-loop decreases-loop
 begun c κs =
     let at = byte c.before in
-    record { ranged = (start (head at).before).pre.ranged; inside = inside at; class = at.class.ensures }
+    record { ranged = (start (head at).before).pre.ranged; inside = inside at; class = at.class-c.ensures }
 
 -- A word that is made is stored.
-room : (c : tie.Else3 invariant-loop decreases-loop) → (head (byte c)).loop.count < length (head (byte c)).loop.out
+room : (c : tie.Else-count-eq-WORDS invariant-loop decreases-loop) → (head (byte c)).loop-i.count < length (head (byte c)).loop-i.out
 room c =
     let loop = head (byte c) in
     let lent = (start loop.before).pre.room in
-    omega (arith, loop.loop.inv.few, c.if3.false, splitting-length loop.loop.inv, lent)
+    omega (arith, loop.loop-i.inv.few, c.if-count-eq-WORDS.false, splitting-length loop.loop-i.inv, lent)
 
-less-after-word : tie.Need-loop-smaller-2 invariant-loop decreases-loop
+less-after-word : tie.Need-loop-i-smaller invariant-loop decreases-loop
 less-after-word c =
     let at = byte (room_at (made c)) in
-    let some = width_some (text (head at).before) (head at).loop.i _ (inside at) at.class.ensures in
-    omega (arith, some, inside at, (made c).word_at.ensures.1)
+    let some = width_some (text (head at).before) (head at).loop-i.i _ (inside at) at.class-c.ensures in
+    omega (arith, some, inside at, (made c).word_at-token.ensures.1)
 
-after-word : tie.Need-loop-preserved-2 invariant-loop decreases-loop
+after-word : tie.Need-loop-i-preserved invariant-loop decreases-loop
 after-word c =
     let turn = room_at (made c) in
     let at = byte turn in
-    let token = (made c).word_at.ensures in
-    adds (head at).loop.inv (inside at) at.class.result at.class.ensures _
-    (made c).before.awaits-velocity.ensures turn.before.if2.left turn.if3.left _ _
-    (sym token.0 ∙ c.before.made.given.1) token.1
+    let token = (made c).word_at-token.ensures in
+    adds (head at).loop-i.inv (inside at) at.class-c.result at.class-c.ensures _
+    (made c).awaits_velocity.ensures turn.before.if-c-eq-SPACE.left turn.if-count-eq-WORDS.left _ _
+    (sym token.0 ∙ c.in-Made.is) token.1
 
 -- A word that cannot be made.
-bad-word : tie.Need-returns-3 invariant-loop decreases-loop
+bad-word : tie.Need-returns-in-Bad invariant-loop decreases-loop
 bad-word c =
     let turn = room_at (bad c) in
     let at = byte turn in
-    let why = sym (bad c).word_at.ensures.0 ∙ c.before.made2.given.1 in
-    let refusal = breaks (head at).loop.inv (inside at) at.class.result at.class.ensures _
-    (bad c).before.awaits-velocity.ensures turn.before.if2.left turn.if3.left _ why in
+    let why = sym (bad c).word_at-token.ensures.0 ∙ c.in-Bad.is in
+    let refusal = breaks (head at).loop-i.inv (inside at) at.class-c.result at.class-c.ensures _
+    (bad c).awaits_velocity.ensures turn.before.if-c-eq-SPACE.left turn.if-count-eq-WORDS.left _ why in
     refuses _ _ _ _ _ (by-words (head at).before ∙ refusal)
 
-pub split-text-spec : {M : Type 1} → statement M
-split-text-spec =
+pub split_text_spec : {M : Type 1} → statement M
+split_text_spec =
     tie.close
     (tie.spec
     invariant-loop
@@ -123,23 +123,23 @@ split-text-spec =
     (λ c κs. search rules)
     no_text
     (λ c. splitting-begun (context c) (text c) _)
-    (λ c. c.before.loop-test.true)
+    (λ c. c.loop-i-test.true)
     (λ c κs. search rules)
     (λ c. omega arith)
     (λ c. omega arith)
     after-space
-    (λ c. splitting-length (head c.before.before).loop.inv)
+    (λ c. splitting-length (head c.before.before).loop-i.inv)
     word-too-many
     (λ c κs. search rules)
     begun
     (λ c. search rules)
-    (λ c. omega (arith, (head (byte (room_at (made c)))).loop.inv.few))
+    (λ c. omega (arith, (head (byte (room_at (made c)))).loop-i.inv.few))
     (λ c. room (room_at (made c)))
-    (λ c. omega (arith, (head (byte (room_at (made c)))).loop.inv.few))
+    (λ c. omega (arith, (head (byte (room_at (made c)))).loop-i.inv.few))
     less-after-word
     after-word
     (λ c. search rules)
-    (λ c. splitting-length (head (byte (room_at (bad c)))).loop.inv)
+    (λ c. splitting-length (head (byte (room_at (bad c)))).loop-i.inv)
     bad-word
-    (λ c. splitting-length c.before.loop.invariant)
-    (λ c. splitting-done c.before.loop.invariant (by-words c.before.before) c.loop-test.false))
+    (λ c. splitting-length c.loop-i.invariant)
+    (λ c. splitting-done c.loop-i.invariant (by-words c.before.before) c.loop-i-test.false))
