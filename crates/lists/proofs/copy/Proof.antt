@@ -15,29 +15,20 @@ invariant-loop from k to₀ n i₀ to i = Copying from to₀ to i × (i ≤ n)
 abbrev decreases-loop : tie.decreases-loop-i
 decreases-loop from k to₀ n i₀ to i = n - i
 
--- The places before a turn of the loop: the two calls of `least`, and the start.
-abbrev bounded : tie.At-loop-i invariant-loop decreases-loop → tie.After-least-n invariant-loop decreases-loop
-bounded c = c.before
-
-abbrev start : tie.After-least-n invariant-loop decreases-loop → tie.Start invariant-loop decreases-loop
-start c = c.before.before.before.before
-
 -- How many numbers are copied.
 bound : (c : tie.After-least-n invariant-loop decreases-loop) →
-    let args = (start c).args in
+    let args = c.args in
     c.least-n.result ≡ min args.k (min (length args.from.now) (length args.to.now))
 bound c = rw c.least.ensures at c.least-n.ensures
 
 loop-again : tie.Need-loop-i-preserved invariant-loop decreases-loop
 loop-again c =
-    let loop = c.before.before in
-    (copy_more loop.loop-i.invariant.0 (omega (arith, bound (bounded loop))), omega arith)
+    (copy_more c.loop-i.invariant.0 (omega (arith, bound c.before.before.before)), omega arith)
 
 returns : tie.Need-returns invariant-loop decreases-loop
 returns c =
-    let loop = c.before in
-    let all : loop.loop-i.i ≡ (bounded loop).least-n.result = omega arith in
-    loop.loop-i.invariant.0.stored ∙ rw all (front-stored _ _ _ _ (bound (bounded loop)))
+    let all : c.loop-i.i ≡ c.least-n.result = omega arith in
+    c.loop-i.invariant.0.stored ∙ rw all (front-stored _ _ _ _ (bound c.before.before))
 
 pub copy_spec : {M : Type 1} → statement M
 copy_spec =
@@ -49,9 +40,9 @@ copy_spec =
     (λ c κs. search rules)
     (λ c. (record { stored = refl; within = omega arith }, omega arith))
     (λ c. search rules)
-    (λ c. omega (arith, bound (bounded c.before.before)))
+    (λ c. omega (arith, bound c.before.before.before))
     (λ c. search rules)
-    (λ c. omega (arith, bound (bounded c.before.before), copy-length c.loop-i.invariant.0))
+    (λ c. omega (arith, bound c.before.before.before, copy-length c.loop-i.invariant.0))
     (λ c. search rules)
     (λ c. omega arith)
     loop-again

@@ -20,54 +20,40 @@ invariant-loop s at max first value₀ next₀ value next = DigitsRead s at max 
 abbrev decreases-loop : tie.decreases-loop-next
 decreases-loop s at max first value₀ next₀ value next = length s - next
 
--- The places before: the first byte was read, it is a digit, and a turn of the loop at a digit.
-abbrev start : tie.After-shared_slice_known-2-1 invariant-loop decreases-loop → tie.Start invariant-loop decreases-loop
-start c = c.before.before.before
-
-abbrev begun : tie.Else-not-is_digit invariant-loop decreases-loop → tie.Start invariant-loop decreases-loop
-begun c = start c.before.before.before
-
-abbrev turn : tie.Else-not-is_digit-2 invariant-loop decreases-loop → tie.At-loop-next invariant-loop decreases-loop
-turn c = c.before.before.before.before
-
 -- The first byte is a digit,
-first : (c : tie.Else-not-is_digit invariant-loop decreases-loop) → is_digit (get_or (begun c).args.s.now (begun c).args.at 0) ≡ true
-first c = sym c.before.is_digit.ensures ∙ c.if-not-is_digit.false
+first : (c : tie.Else-not-is_digit invariant-loop decreases-loop) → is_digit (get_or c.args.s.now c.args.at 0) ≡ true
+first c = sym c.is_digit.ensures ∙ c.if-not-is_digit.false
 
 -- and a later one.
 later : (c : tie.Else-not-is_digit-2 invariant-loop decreases-loop)
-    → is_digit (get_or (begun (turn c).before.before).args.s.now (turn c).loop-next.next 0) ≡ true
-later c = sym c.before.is_digit-in-loop-next.ensures ∙ c.if-not-is_digit-2.false
+    → is_digit (get_or c.args.s.now c.loop-next.next 0) ≡ true
+later c = sym c.is_digit-in-loop-next.ensures ∙ c.if-not-is_digit-2.false
 
 no_digit : tie.Need-returns-then-not-is_digit invariant-loop decreases-loop
 no_digit c =
-    numeral-none (omega arith) c.before.before.if-first-eq48.false
-    (sym c.before.is_digit.ensures ∙ c.if-not-is_digit.true)
+    numeral-none (omega arith) c.if-first-eq48.false
+    (sym c.is_digit.ensures ∙ c.if-not-is_digit.true)
 
 loop-holds : tie.Need-loop-next-init invariant-loop decreases-loop
 loop-holds c =
-    digits-begun (omega arith) c.before.before.before.if-first-eq48.false (first c.before) c.wide-value.ensures
+    digits-begun (omega arith) c.if-first-eq48.false (first c.before) c.wide-value.ensures
 
 at-other-byte : tie.Need-returns-then-not-is_digit-2 invariant-loop decreases-loop
 at-other-byte c =
-    let stop = c.before in
-    let loop = stop.before.before.before.before in
-    let other = sym stop.before.is_digit-in-loop-next.ensures ∙ stop.if-not-is_digit-2.true in
-    rw c.settled.ensures (digits-stop loop.loop-next.invariant (omega arith) other)
+    let other = sym c.is_digit-in-loop-next.ensures ∙ c.if-not-is_digit-2.true in
+    rw c.settled.ensures (digits-stop c.loop-next.invariant (omega arith) other)
 
 loop-again : tie.Need-loop-next-preserved invariant-loop decreases-loop
 loop-again c =
-    let digit = c.before in
-    let known = (turn digit).loop-next.invariant in
+    let known = c.loop-next.invariant in
     ⊎_elim
-    (λ w. digits_more known (omega arith) (later digit) _ w.if-value-max.true (omega (arith, w.wide.ensures, w.value-is)))
-    (λ w. digits-held known (omega arith) (later digit) _ w.if-value-max.false w.value-is)
+    (λ w. digits_more known (omega arith) (later c.before) _ w.if-value-max.true (omega (arith, w.wide.ensures, w.value-is)))
+    (λ w. digits-held known (omega arith) (later c.before) _ w.if-value-max.false w.value-is)
     c.if-value-max.branch-raw
 
 at-end : tie.Need-returns invariant-loop decreases-loop
 at-end c =
-    let loop = c.before.before in
-    rw c.settled-2.ensures (digits-past loop.loop-next.invariant (omega arith))
+    rw c.settled-2.ensures (digits-past c.loop-next.invariant (omega arith))
 
 pub read_decimal_spec : {M : Type 1} → statement M
 read_decimal_spec =

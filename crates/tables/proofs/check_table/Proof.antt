@@ -11,14 +11,10 @@ use borrow.Author.Rules.{rules}
 use Rattle.tables.proofs.check_table.Statement.{statement}
 use Rattle.tables.proofs.check_table.Tie as tie
 
--- The places after the test of the equations: the start of the function, and what the tests of the length say.
-abbrev start : tie.After-equations_fit → tie.Start
-start c = c.before.before.before.before.before
-
 decide : (c : tie.After-equations_fit) → (
-    let velocities = (start c).args.velocities in
-    let t = (start c).args.table.now in
-    let n = (start c).args.n in
+    let velocities = c.args.velocities in
+    let t = c.args.table.now in
+    let n = c.args.n in
     (b l : Bool) → all (equation_fits velocities t n) n ≡ b → closes t n ≡ l
     → checked velocities t n ≡ cond (b && l) Passed (Refused 11))
 decide c = long-enough _ _ _ (omega arith) (omega arith) (omega arith)
@@ -41,7 +37,7 @@ ill-formed c =
 
 -- The equations fit, where it is asked how the table closes.
 fits : (c : tie.After-closes) → (
-    let args = (start c.before.before).args in
+    let args = c.args in
     all (equation_fits args.velocities args.table.now args.n) args.n ≡ true)
 fits c =
     let fit = c.equations_fit in

@@ -25,16 +25,16 @@ loop-holds c = (omega arith, all_none _)
 one-unfit : tie.Need-returns-then-limit-parameters invariant-loop decreases-loop
 unfolding parameter_fits
 one-unfit c =
-    let args = c.before.before.before.before.args in
-    let j = c.before.before.before.loop-j.j in
+    let args = c.args in
+    let j = c.loop-j.j in
     sym (all-stop (parameter_fits args.limit args.parameters.now) j parameter_count (omega arith)
     (le-ltb (get_or args.parameters.now j 0) args.limit (omega arith)))
 
 loop-again : tie.Need-loop-j-preserved invariant-loop decreases-loop
 unfolding parameter_fits
 loop-again c =
-    let args = c.before.before.before.before.args in
-    let loop = c.before.before.before.loop-j in
+    let args = c.args in
+    let loop = c.loop-j in
     let j = loop.j in (
       omega arith,
       all_more _ j loop.invariant.1 (lt-ltb (get_or args.parameters.now j 0) args.limit (omega arith)),

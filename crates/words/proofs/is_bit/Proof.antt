@@ -6,4 +6,4 @@ use Rattle.words.proofs.is_bit.Tie as tie
 
 pub is_bit_spec : {M : Type 1} → statement M
 unfolding is_bit
-is_bit_spec = tie.close (tie.spec (λ c. search rules) (λ c κs. search rules) (λ c. c.is_Within.ensures))
+is_bit_spec = tie.close (tie.spec (λ c. search rules) (λ c κs. search rules) (λ c. c.is_within.ensures))

@@ -6,4 +6,4 @@ use Rattle.words.proofs.is_count.Tie as tie
 
 pub is_count_spec : {M : Type 1} → statement M
 unfolding is_count
-is_count_spec = tie.close (tie.spec (λ c κs. search rules) (λ c. c.is_Within.ensures))
+is_count_spec = tie.close (tie.spec (λ c κs. search rules) (λ c. c.is_within.ensures))

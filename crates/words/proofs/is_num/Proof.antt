@@ -7,11 +7,11 @@ use Rattle.words.proofs.is_num.Tie as tie
 
 a-parameter : tie.Need-returns-then-is_within
 unfolding is_num
-a-parameter c = simp (sym c.before.is_Within.ensures ∙ c.if-is_within.true)
+a-parameter c = simp (sym c.is_within.ensures ∙ c.if-is_within.true)
 
 no-parameter : tie.Need-returns
 unfolding is_num
-no-parameter c = simp (sym c.before.is_Within.ensures ∙ c.if-is_within.false)
+no-parameter c = simp (sym c.is_within.ensures ∙ c.if-is_within.false)
 
 pub is_num_spec : {M : Type 1} → statement M
 is_num_spec = tie.close (tie.spec (λ c. search rules) (λ c κs. search rules) a-parameter no-parameter)

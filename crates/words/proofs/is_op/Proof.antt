@@ -6,4 +6,4 @@ use Rattle.words.proofs.is_op.Tie as tie
 
 pub is_op_spec : {M : Type 1} → statement M
 unfolding is_op
-is_op_spec = tie.close (tie.spec (λ c κs. search rules) (λ c. c.is_Within.ensures))
+is_op_spec = tie.close (tie.spec (λ c κs. search rules) (λ c. c.is_within.ensures))

@@ -6,4 +6,4 @@ use Rattle.words.proofs.is_test.Tie as tie
 
 pub is_test_spec : {M : Type 1} → statement M
 unfolding is_test
-is_test_spec = tie.close (tie.spec (λ c κs. search rules) (λ c. c.is_Within.ensures))
+is_test_spec = tie.close (tie.spec (λ c κs. search rules) (λ c. c.is_within.ensures))

@@ -6,4 +6,4 @@ use Rattle.words.proofs.is_velocity.Tie as tie
 
 pub is_velocity_spec : {M : Type 1} → statement M
 unfolding is_velocity
-is_velocity_spec = tie.close (tie.spec (λ c. search rules) (λ c κs. search rules) (λ c. c.is_Within.ensures))
+is_velocity_spec = tie.close (tie.spec (λ c. search rules) (λ c κs. search rules) (λ c. c.is_within.ensures))

@@ -31,15 +31,13 @@ alone i = arm (one i)
 end-or-exists : tie.Need-returns-in-101
 unfolding keyword_of keyword_among
 end-or-exists c =
-    let e = c.before.before.before.before in
-    arm (λ r. spelled_as 1 r (one 11 r)) e.before e.in-98.keys2 tt (λ l. refl)
+    arm (λ r. spelled_as 1 r (one 11 r)) c.before.before.before.before.before.before.before c.in-101.is tt (λ l. refl)
     (c.spelled_or-in-101-2.ensures ∙ rw c.spelled_or-in-101.ensures)
 
 len-or-lag : tie.Need-returns-in-108
 unfolding keyword_of keyword_among
 len-or-lag c =
-    let e = c.before.before.before.before in
-    arm (λ r. spelled_as 5 r (one 8 r)) e.before e.in-98.keys6 tt (λ l. refl)
+    arm (λ r. spelled_as 5 r (one 8 r)) c.before.before.before.before.before.before.before c.in-108.is tt (λ l. refl)
     (c.spelled_or-in-108-2.ensures ∙ rw c.spelled_or-in-108.ensures)
 
 -- No keyword begins with the byte.
@@ -52,43 +50,28 @@ keyword_spec =
     tie.close
     (tie.spec
     (λ c κs. search rules)
-    (λ c. search rules)
-    (λ c κs. search rules)
-    (λ c. search rules)
-    (λ c. search rules)
     (λ c κs. search rules)
     (λ c κs. search rules)
-    (λ c. search rules)
-    (λ c κs. search rules)
-    (λ c. search rules)
-    (λ c κs. search rules)
-    (λ c. search rules)
-    (λ c κs. search rules)
-    (λ c. search rules)
-    (λ c. search rules)
     (λ c κs. search rules)
     (λ c κs. search rules)
-    (λ c. search rules)
     (λ c κs. search rules)
-    (λ c. search rules)
     (λ c κs. search rules)
-    (λ c. search rules)
     (λ c κs. search rules)
-    (λ c. search rules)
     (λ c κs. search rules)
-    (λ c. search rules)
     (λ c κs. search rules)
-    (λ c. let k = c.before.before in alone 0 k.before k.match.keys1 tt (λ l. refl) c.spelled-or.ensures)
+    (λ c κs. search rules)
+    (λ c κs. search rules)
+    (λ c κs. search rules)
+    (λ c κs. search rules)
+    (λ c. alone 0 c.before.before.before.before c.in-98.is tt (λ l. refl) c.spelled_or.ensures)
     end-or-exists
-    (λ c. let k = c.before.before in alone 2 k.before k.match.keys3 tt (λ l. refl) c.spelled-or4.ensures)
-    (λ c. let k = c.before.before in alone 3 k.before k.match.keys4 tt (λ l. refl) c.spelled-or5.ensures)
-    (λ c. let k = c.before.before in alone 4 k.before k.match.keys5 tt (λ l. refl) c.spelled-or6.ensures)
+    (λ c. alone 2 c.before.before.before.before c.in-112.is tt (λ l. refl) c.spelled_or-in-112.ensures)
+    (λ c. alone 3 c.before.before.before.before c.in-104.is tt (λ l. refl) c.spelled_or-in-104.ensures)
+    (λ c. alone 4 c.before.before.before.before c.in-107.is tt (λ l. refl) c.spelled_or-in-107.ensures)
     len-or-lag
-    (λ c. let k = c.before.before in alone 6 k.before k.match.keys7 tt (λ l. refl) c.spelled-or9.ensures)
-    (λ c. let k = c.before.before in alone 7 k.before k.match.keys8 tt (λ l. refl) c.spelled-or10.ensures)
-    (λ c. let k = c.before.before in alone 9 k.before k.match.keys9 tt (λ l. refl) c.spelled-or11.ensures)
-    (λ c. let k = c.before.before in
-    alone 10 k.before k.match.keys10 tt (λ l. refl) c.spelled-or12.ensures)
-    (λ c. let k = c.before.before in
-    alone 12 k.before k.match.keys11 tt (λ l. refl) c.spelled-or13.ensures)
+    (λ c. alone 6 c.before.before.before.before c.in-115.is tt (λ l. refl) c.spelled_or-in-115.ensures)
+    (λ c. alone 7 c.before.before.before.before c.in-97.is tt (λ l. refl) c.spelled_or-in-97.ensures)
+    (λ c. alone 9 c.before.before.before.before c.in-116.is tt (λ l. refl) c.spelled_or-in-116.ensures)
+    (λ c. alone 10 c.before.before.before.before c.in-99.is tt (λ l. refl) c.spelled_or-in-99.ensures)
+    (λ c. alone 12 c.before.before.before.before c.in-118.is tt (λ l. refl) c.spelled_or-in-118.ensures)
     none-begins)

@@ -6,28 +6,19 @@ use Rattle.words.proofs.Numbers.{number_small, number-missing, number-made, numb
 use Rattle.words.proofs.number.Statement.{statement}
 use Rattle.words.proofs.number.Tie as tie
 
--- The call of `read_decimal`, from where a number was read and from where one was above max.
-abbrev read : tie.In-Is → tie.After-read_decimal
-read c = c.before
-
-abbrev high : tie.In-Above → tie.After-read_decimal
-high c = c.before
-
 -- The number fits beside its base.
-sum_fits : tie.Need-overflow-add-t9
+sum_fits : tie.Need-overflow_add-base
 sum_fits c =
-    let small = number_small (read c).read_decimal.ensures c.before.value-1.given.1 in
-    omega (arith, small, (read c).requires)
+    let small = number_small c.read_decimal.ensures c.in-Is.is in
+    omega (arith, small, c.requires)
 
 a-number : tie.Need-returns-in-Is
 a-number c =
-    let at = c.before in
-    c.if_ended.ensures ∙ number-made _ (read at).read_decimal.ensures at.before.value-1.given.1
+    c.if_ended.ensures ∙ number-made _ c.read_decimal.ensures c.in-Is.is
 
 above-max : tie.Need-returns-in-Above
 above-max c =
-    let at = c.before in
-    c.if_ended-in-Above.ensures ∙ number-high _ (high at).read_decimal.ensures at.before.next-1.given.1
+    c.if_ended-in-Above.ensures ∙ number-high _ c.read_decimal.ensures c.in-Above.is
 
 no_number : tie.Need-returns-in-Missing
 no_number c = number-missing _ c.read_decimal.ensures c.in-Missing.is

@@ -19,33 +19,26 @@ invariant-loop text i end₀ end =
 abbrev decreases-loop : tie.decreases-loop-end
 decreases-loop text i end₀ end = length text - end
 
--- The loop's head, once a byte was looked at, and the text.
-abbrev head : tie.After-in_run invariant-loop decreases-loop → tie.At-loop-end invariant-loop decreases-loop
-head c = c.before.before.before
-
 abbrev text : tie.At-loop-end invariant-loop decreases-loop → List ℕ
 text c = c.args.text.now
 
 at-other-byte : tie.Need-returns-then-not-in_run invariant-loop decreases-loop
 at-other-byte c =
-    let at = c.before in
-    let other = sym at.in_run.ensures ∙ c.if-not-in_run.true in
-    let inside = at.before.before.loop-end-test.true in
-    let stops = run-stops (text (head at)) (head at).loop-end.end inside (eqb-false _ RUN other) in
-    omega (arith, (head at).loop-end.invariant.1, ap length stops)
+    let other = sym c.in_run.ensures ∙ c.if-not-in_run.true in
+    let inside = c.loop-end-test.true in
+    let stops = run-stops (text c.before.before.before.before) c.loop-end.end inside (eqb-false _ RUN other) in
+    omega (arith, c.loop-end.invariant.1, ap length stops)
 
 loop-again : tie.Need-loop-end-preserved invariant-loop decreases-loop
 loop-again c =
-    let at = c.before in
-    let in-run = sym at.in_run.ensures ∙ c.if-not-in_run.false in
-    let inside = at.before.before.loop-end-test.true in
-    let goes = run-goes (text (head at)) (head at).loop-end.end inside (eqb-true _ RUN in-run) in
-    (omega arith, omega (arith, (head at).loop-end.invariant.1, ap length goes))
+    let in-run = sym c.in_run.ensures ∙ c.if-not-in_run.false in
+    let inside = c.loop-end-test.true in
+    let goes = run-goes (text c.before.before.before.before) c.loop-end.end inside (eqb-true _ RUN in-run) in
+    (omega arith, omega (arith, c.loop-end.invariant.1, ap length goes))
 
 at-text-end : tie.Need-returns invariant-loop decreases-loop
 at-text-end c =
-    let at = c.before in
-    omega (arith, at.loop-end.invariant.1, ap length (run_past (text at) _ c.loop-end-test.false))
+    omega (arith, c.loop-end.invariant.1, ap length (run_past (text c.before) _ c.loop-end-test.false))
 
 pub run_end_spec : {M : Type 1} → statement M
 run_end_spec =

@@ -13,12 +13,8 @@ use Rattle.words.proofs.Runs.{run-signal, run-parameter, run-literal}
 use Rattle.words.proofs.run_word.Statement.{statement}
 use Rattle.words.proofs.run_word.Tie as tie
 
--- The start, where the run is no keyword, and the run.
-abbrev start : tie.Else-word-gt0 → tie.Start
-start c = c.before.before.before
-
 abbrev run : tie.Else-word-gt0 → List ℕ
-run c = (start c).args.run.now
+run c = c.args.run.now
 
 no-keyword : (c : tie.Else-word-gt0) → keyword_of (run c) ≡ 0
 no-keyword c = omega (arith, c.keyword-word.ensures, c.if-word-gt0.false)
@@ -31,27 +27,24 @@ a-keyword c =
 
 a-signal : tie.Need-returns-in-115
 a-signal c =
-    let at = c.before.before.before.before in
-    let args = (start at).args in
+    let args = c.args in
     let key = c.in-115.is in
-    let word = run-signal args.context args.awaited (run at) (no-keyword at) key in
-    c.number.ensures ∙ ap (number_of SIGNAL (signal_count - 1)) (part_to_end (run at) 1) ∙ sym word
+    let word = run-signal args.context args.awaited (run c.before.before.before.before) (no-keyword c.before.before.before.before) key in
+    c.number.ensures ∙ ap (number_of SIGNAL (signal_count - 1)) (part_to_end (run c.before.before.before.before) 1) ∙ sym word
 
 a-parameter : tie.Need-returns-in-107
 a-parameter c =
-    let at = c.before.before.before.before in
-    let args = (start at).args in
+    let args = c.args in
     let key = c.in-107.is in
-    let word = run-parameter args.context args.awaited (run at) (no-keyword at) key in
-    c.number-in-107.ensures ∙ ap (number_of PARAMETER (parameter_count - 1)) (part_to_end (run at) 1) ∙ sym word
+    let word = run-parameter args.context args.awaited (run c.before.before.before.before) (no-keyword c.before.before.before.before) key in
+    c.number-in-107.ensures ∙ ap (number_of PARAMETER (parameter_count - 1)) (part_to_end (run c.before.before.before.before) 1) ∙ sym word
 
 a-literal : tie.Need-returns-in_default
 a-literal c =
-    let at = c.before.before.before in
     let others = c.in_default.in_default-own.rest in
-    let args = (start at).args in
+    let args = c.args in
     c.literal_word.ensures
-    ∙ sym (run-literal args.context args.awaited (run at) (no-keyword at) others.0.1 others.1)
+    ∙ sym (run-literal args.context args.awaited (run c.before.before.before) (no-keyword c.before.before.before) others.0.1 others.1)
 
 pub run_word_spec : {M : Type 1} → statement M
 run_word_spec =

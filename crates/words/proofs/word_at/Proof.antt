@@ -14,10 +14,6 @@ use Rattle.words.proofs.Widths.{width-run, width-none, width-operator}
 use Rattle.words.proofs.word_at.Statement.{statement}
 use Rattle.words.proofs.word_at.Tie as tie
 
--- The places: the start, where the class is a run's and where it is none.
-abbrev in-run : tie.After-run_end-end → tie.Start
-in-run c = c.before.before.before
-
 abbrev no_run : tie.Else-c-eq-RUN → tie.Start
 no_run c = c.before.before
 
@@ -26,59 +22,50 @@ abbrev rest : tie.Start → List ℕ
 rest c = drop c.args.i c.args.text.now
 
 -- The run's end, whose first byte was not looked at again.
-run_ends : (c : tie.After-run_end-end) → c.run_end-end.result ≡ (in-run c).args.i + length (run (rest (in-run c)))
+run_ends : (c : tie.After-run_end-end) → c.run_end-end.result ≡ c.args.i + length (run (rest c.before.before.before))
 run_ends c =
-    let start = in-run c in
-    let first = sym start.pre.class ∙ c.if-c-eq-RUN.true in
-    let goes = run-goes start.args.text.now start.args.i start.pre.inside first in
+    let first = sym c.requires.class ∙ c.if-c-eq-RUN.true in
+    let goes = run-goes c.args.text.now c.args.i c.requires.inside first in
     omega (arith, c.run_end-end.ensures, ap length goes)
 
 part-run-word-end : tie.Need-slice_bounds-run_word-end
 part-run-word-end c =
-    let start = in-run c in
-    let fits = run_fits start.args.text.now start.args.i (omega (arith, start.pre.inside)) in
+    let fits = run_fits c.args.text.now c.args.i (omega (arith, c.requires.inside)) in
     omega (arith, fits, run_ends c)
 
 run-word-requires : tie.Need-run_word-word-requires
 run-word-requires c κs =
-    let at = c.before in
-    let start = in-run at in
-    let part = run-part start.args.text.now start.args.i at.run_end-end.result (run_ends at) in
-    let first = sym start.pre.class ∙ at.before.if-c-eq-RUN.true in
-    let some = run-some start.args.text.now start.args.i start.pre.inside first in
-    (start.pre.ranged, omega (arith, ap length part, some))
+    let part = run-part c.args.text.now c.args.i c.run_end-end.result (run_ends c.before) in
+    let first = sym c.requires.class ∙ c.if-c-eq-RUN.true in
+    let some = run-some c.args.text.now c.args.i c.requires.inside first in
+    (c.requires.ranged, omega (arith, ap length part, some))
 
 a-run : tie.Need-returns-then-c-eq-RUN
 a-run c =
-    let at = c.before.before in
-    let start = in-run at in
-    let args = start.args in
-    let part = run-part args.text.now args.i at.run_end-end.result (run_ends at) in
-    let is-run = at.before.if-c-eq-RUN.true in
-    let word = word-run args.context args.awaited (rest start) args.c is-run in
-    let width = width-run (rest start) args.c is-run in (
+    let args = c.args in
+    let part = run-part args.text.now args.i c.run_end-end.result (run_ends c.before.before) in
+    let is-run = c.if-c-eq-RUN.true in
+    let word = word-run args.context args.awaited (rest c.before.before.before.before.before) args.c is-run in
+    let width = width-run (rest c.before.before.before.before.before) args.c is-run in (
       c.run_word-word.ensures ∙ ap (run_of args.context args.awaited) part ∙ sym word,
-      run_ends at ∙ ap (λ (n : ℕ). args.i + n) (sym width),
+      run_ends c.before.before ∙ ap (λ (n : ℕ). args.i + n) (sym width),
     )
 
 no_word : tie.Need-returns-then-c-eq-OTHER
 no_word c =
-    let start = no_run c.before in
-    let args = start.args in
+    let args = c.args in
     let word = word_none args.context args.awaited _ args.c c.if-c-eq-OTHER.true in
-    let width = width-none (rest start) args.c c.if-c-eq-OTHER.true in
+    let width = width-none (rest c.before.before.before) args.c c.if-c-eq-OTHER.true in
     (sym word, ap (λ (n : ℕ). args.i + n) (sym width))
 
 an-operator : tie.Need-returns
 an-operator c =
-    let at = c.before.before in
-    let start = no_run at.before in
-    let args = start.args in
+    let args = c.args in
     let class = args.c in
     let next = c.byte_at.ensures ∙ sym (get_or-drop args.i args.text.now 1 0) in
-    let no_run = at.before.if-c-eq-RUN.false in
-    let word = word-operator args.context args.awaited (rest start) class no_run at.if-c-eq-OTHER.false in
-    let width = width-operator (rest start) class no_run in (
+    let no_run = c.if-c-eq-RUN.false in
+    let word = word-operator args.context args.awaited (rest c.before.before.before.before.before) class no_run c.if-c-eq-OTHER.false in
+    let width = width-operator (rest c.before.before.before.before.before) class no_run in (
       c.operator_at.ensures.0 ∙ ap (longest class) next ∙ sym word,
       c.operator_at.ensures.1 ∙ ap (λ (n : ℕ). args.i + n) (ap (operator_width class) next ∙ sym width),
     )
