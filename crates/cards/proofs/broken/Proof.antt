@@ -3,8 +3,8 @@ use borrow.Author.Rules.{rules}
 use Rattle.cards.proofs.broken.Statement.{statement}
 use Rattle.cards.proofs.broken.Tie as tie
 
-pub broken-spec : {M : Type 1} → statement M
-broken-spec =
+pub broken_spec : {M : Type 1} → statement M
+broken_spec =
     tie.close
     (tie.spec
     (λ c. search rules)
@@ -13,9 +13,9 @@ broken-spec =
     (λ c. search rules)
     (λ c. search rules)
     (λ c. search rules)
-    (λ c ps l. rw c.enum_told.given.1)
-    (λ c ps l. rw c.enum-told2.given.1)
-    (λ c ps l. rw c.enum-told3.given.1)
-    (λ c ps l. rw c.enum-told4.given.1)
-    (λ c ps l. rw c.enum-told5.given.1)
-    (λ c ps l. rw c.enum-told6.given.1))
+    (λ c ps l. rw c.in-Edition.is)
+    (λ c ps l. rw c.in-Parameters.is)
+    (λ c ps l. rw c.in-Rule.is)
+    (λ c ps l. rw c.in-Count.is)
+    (λ c ps l. rw c.in-Ticks.is)
+    (λ c ps l. rw c.in-Over.is))

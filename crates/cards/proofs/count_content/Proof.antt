@@ -3,14 +3,14 @@ use borrow.Author.Rules.{rules}
 use Rattle.cards.proofs.count_content.Statement.{statement}
 use Rattle.cards.proofs.count_content.Tie as tie
 
-broken : tie.Need-returns
-broken c ps l = rw (← c.before.before.count-line.ensures, c.enum_told.given.1)
+broken : tie.Need-returns-in-Broken
+broken c ps l = rw (← c.count_line-k.ensures, c.in-Broken.is)
 
-counted : tie.Need-returns-2
-counted c ps l = rw (← c.before.before.before.count-line.ensures, c.before.k.given.1)
+counted : tie.Need-returns-in-Is
+counted c ps l = rw (← c.count_line-k.ensures, c.in-Is.is)
 
-pub count-content-spec : {M : Type 1} → statement M
-count-content-spec =
+pub count_content_spec : {M : Type 1} → statement M
+count_content_spec =
     tie.close
     (tie.spec
     (λ c κs. search rules)

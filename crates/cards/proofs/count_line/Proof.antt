@@ -7,20 +7,19 @@ use Rattle.cards.specs.Numbers.{count_of}
 use Rattle.cards.proofs.count_line.Statement.{statement}
 use Rattle.cards.proofs.count_line.Tie as tie
 
-no-prefix : tie.Need-returns
+no-prefix : tie.Need-returns-then-not-has_prefix
 unfolding count_of
-no-prefix c = rw (sym c.before.has-prefix.ensures ∙ not-true _ c.if1.true)
+no-prefix c = rw (sym c.has_prefix.ensures ∙ c.if-not-has_prefix.true)
 
-by_number : tie.Need-returns-2
+by_number : tie.Need-returns
 unfolding count_of
 by_number c =
-    rw (sym c.before.before.has-prefix.ensures ∙ not-false _ c.before.if1.false) c.last-number.ensures
+    rw (sym c.has_prefix.ensures ∙ c.if-not-has_prefix.false) c.last_number.ensures
 
-pub count-line-spec : {M : Type 1} → statement M
-count-line-spec =
+pub count_line_spec : {M : Type 1} → statement M
+count_line_spec =
     tie.close
     (tie.spec
-    (λ c. search rules)
     (λ c κs. search rules)
     no-prefix
     (λ c κs. search rules)

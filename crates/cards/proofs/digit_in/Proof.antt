@@ -10,14 +10,14 @@ use Rattle.cards.proofs.Hex.{hex-most, table_at}
 use Rattle.cards.proofs.digit_in.Statement.{statement}
 use Rattle.cards.proofs.digit_in.Tie as tie
 
-value-is : (c : tie.After-result) →
-    let args = c.before.args in get_or args.hex.now args.b 0 ≡ hex_of args.b
+value-is : (c : tie.After-result-1) →
+    let args = c.args in get_or args.hex.now args.b 0 ≡ hex_of args.b
 value-is c =
-    let args = c.before.args in
-    ap (λ (l : List ℕ). get_or l args.b 0) c.before.requires ∙ table_at args.b (omega arith)
+    let args = c.args in
+    ap (λ (l : List ℕ). get_or l args.b 0) c.requires ∙ table_at args.b (omega arith)
 
-cast-result : tie.Need-overflow-cast-result
-cast-result c = omega (arith, value-is c, hex-most c.before.args.b)
+cast-result : tie.Need-overflow_cast-result-2
+cast-result c = omega (arith, value-is c, hex-most c.args.b)
 
-pub digit-in-spec : {M : Type 1} → statement M
-digit-in-spec = tie.close (tie.spec (λ c. search rules) cast-result value-is)
+pub digit_in_spec : {M : Type 1} → statement M
+digit_in_spec = tie.close (tie.spec (λ c. search rules) cast-result value-is)

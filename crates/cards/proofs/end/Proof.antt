@@ -5,19 +5,19 @@ use Rattle.cards.proofs.end.Statement.{statement}
 use Rattle.cards.proofs.end.Tie as tie
 
 -- After the last tick, with no byte left and with some; before it.
-nothing-after : tie.Need-returns
+nothing-after : tie.Need-returns-then-n-eq0
 nothing-after c ps l =
-    rw (c.before.before.enum_told.given.1, eq-eqb _ _ c.before.if1.true, eq-eqb _ _ c.if2.true)
+    rw (c.in-Ticks.is, eq-eqb _ _ c.if-left-eq0.true, eq-eqb _ _ c.if-n-eq0.true)
 
-bytes_after : tie.Need-returns-2
+bytes_after : tie.Need-returns-then-left-eq0
 bytes_after c ps l =
-    rw (c.before.before.enum_told.given.1, eq-eqb _ _ c.before.if1.true, ne_eqb _ _ c.if2.false)
+    rw (c.in-Ticks.is, eq-eqb _ _ c.if-left-eq0.true, ne_eqb _ _ c.if-n-eq0.false)
 
-ticks-left : tie.Need-returns-3
-ticks-left c ps l = rw (c.before.enum_told.given.1, ne_eqb _ _ c.if1.false)
+ticks-left : tie.Need-returns-else-left-eq0
+ticks-left c ps l = rw (c.in-Ticks.is, ne_eqb _ _ c.if-left-eq0.false)
 
-pub end-spec : {M : Type 1} → statement M
-end-spec =
+pub end_spec : {M : Type 1} → statement M
+end_spec =
     tie.close
     (tie.spec
     (λ c. search rules)
@@ -29,8 +29,8 @@ end-spec =
     (λ c. search rules)
     (λ c. search rules)
     ticks-left
-    (λ c ps l. rw c.enum-told2.given.1)
-    (λ c ps l. rw c.enum-told3.given.1)
-    (λ c ps l. rw c.enum-told4.given.1)
-    (λ c ps l. rw c.enum-told5.given.1)
-    (λ c ps l. rw c.enum-told6.given.1))
+    (λ c ps l. rw c.in-Over.is)
+    (λ c ps l. rw c.in-Edition.is)
+    (λ c ps l. rw c.in-Parameters.is)
+    (λ c ps l. rw c.in-Rule.is)
+    (λ c ps l. rw c.in-Count.is))

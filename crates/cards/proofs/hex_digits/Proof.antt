@@ -7,29 +7,29 @@ use Rattle.cards.proofs.Hex.{filled, filled_more, filled-all, digit_bytes, digit
 use Rattle.cards.proofs.hex_digits.Statement.{statement}
 use Rattle.cards.proofs.hex_digits.Tie as tie
 
-abbrev invariant-loop : tie.invariant-loop
+abbrev invariant-loop : tie.invariant-loop-k
 invariant-loop digits hex₀ k₀ hex k = (k ≤ 16) × (hex ≡ filled digits k)
 
-abbrev decreases-loop : tie.decreases-loop
+abbrev decreases-loop : tie.decreases-loop-k
 decreases-loop digits hex₀ k₀ hex k = 16 - k
 
-loop-holds : tie.Need-loop-init invariant-loop decreases-loop
+loop-holds : tie.Need-loop-k-init invariant-loop decreases-loop
 unfolding filled
 loop-holds c = (omega arith, refl)
 
-loop-again : tie.Need-loop-preserved invariant-loop decreases-loop
+loop-again : tie.Need-loop-k-preserved invariant-loop decreases-loop
 loop-again c =
-    let loop = c.before.loop in
+    let loop = c.loop-k in
     (omega arith, filled_more _ loop.hex loop.k loop.invariant.1)
 
 returns : tie.Need-returns invariant-loop decreases-loop
 returns c =
-    let loop = c.before.loop in
+    let loop = c.loop-k in
     let all : loop.k ≡ 16 = omega (arith, loop.invariant.0) in
     loop.invariant.1 ∙ ap (filled digit_bytes) all ∙ filled-all
 
-pub hex-digits-spec : {M : Type 1} → statement M
-hex-digits-spec =
+pub hex_digits_spec : {M : Type 1} → statement M
+hex_digits_spec =
     tie.close
     (tie.spec
     invariant-loop
@@ -37,8 +37,8 @@ hex-digits-spec =
     loop-holds
     (λ c. search rules)
     (λ c. omega arith)
-    (λ c. omega (arith, digit_low c.before.loop.k))
-    (λ c. omega (arith, digit_low c.before.loop.k))
+    (λ c. omega (arith, digit_low c.loop-k.k))
+    (λ c. omega (arith, digit_low c.loop-k.k))
     (λ c. omega arith)
     (λ c. omega arith)
     loop-again

@@ -4,23 +4,19 @@ use Rattle.cards.proofs.Numbers.{wholly-none, wholly-last, wholly-not}
 use Rattle.cards.proofs.last_number.Statement.{statement}
 use Rattle.cards.proofs.last_number.Tie as tie
 
--- Where the number is read, from where its value is known.
-abbrev read : tie.After-known-told → tie.After-decimal-at
-read c = c.before.before.before
+no_number : tie.Need-returns-in_default
+no_number c = wholly-none c.decimal_at.ensures c.in_default.is
 
-no_number : tie.Need-returns
-no_number c = wholly-none c.before.before.decimal-at.ensures c.enum_told.given.1
-
-bytes_after : tie.Need-returns-2
+bytes_after : tie.Need-returns-then-next-s
 bytes_after c =
-    wholly-not (read c.before).decimal-at.ensures c.before.before.value.given.1 c.if1.true
+    wholly-not c.decimal_at.ensures c.in-Is.is c.if-next-s.true
 
-at-end : tie.Need-returns-3
+at-end : tie.Need-returns
 at-end c =
-    wholly-last (read c.before).decimal-at.ensures c.before.before.value.given.1 c.if1.false
+    wholly-last c.decimal_at.ensures c.in-Is.is c.if-next-s.false
 
-pub last-number-spec : {M : Type 1} → statement M
-last-number-spec =
+pub last_number_spec : {M : Type 1} → statement M
+last_number_spec =
     tie.close
     (tie.spec
     (λ c κs. search rules)

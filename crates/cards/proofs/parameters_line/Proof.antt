@@ -12,78 +12,71 @@ use Rattle.cards.proofs.Numbers.{listing_none, listing-not, listing-last}
 use Rattle.cards.proofs.parameters_line.Statement.{statement}
 use Rattle.cards.proofs.parameters_line.Tie as tie
 
-abbrev invariant-loop : tie.invariant-loop
+abbrev invariant-loop : tie.invariant-loop-i
 invariant-loop s ps₀ at₀ i₀ ps at i = Listing s ps at i
 
-abbrev decreases-loop : tie.decreases-loop
+abbrev decreases-loop : tie.decreases-loop-i
 decreases-loop s ps₀ at₀ i₀ ps at i = 7 - i
 
--- Where the eighth number is read, from where its value is known.
-abbrev eighth : tie.After-value2 invariant-loop decreases-loop → tie.After-decimal-at invariant-loop decreases-loop
-eighth c = c.before.before
-
-no-prefix : tie.Need-returns invariant-loop decreases-loop
+no-prefix : tie.Need-returns-then-not-has_prefix invariant-loop decreases-loop
 unfolding parameters_of
 no-prefix c = (
-  rw (c.plain.ensures.0, sym c.before.before.has-prefix.ensures ∙ not-true _ c.before.if1.true),
-  λ h. c.plain.ensures.1,
+  rw (c.plain.ensures.0, sym c.has_prefix.ensures ∙ c.if-not-has_prefix.true),
+  λ h. c.plain.ensures.1)
 )
 
-loop-holds : tie.Need-loop-init invariant-loop decreases-loop
+loop-holds : tie.Need-loop-i-init invariant-loop decreases-loop
 loop-holds c =
-    listing-begun _ _ (sym c.before.has-prefix.ensures ∙ not-false _ c.if1.false) (omega arith)
+    listing-begun _ _ (sym c.has_prefix.ensures ∙ c.if-not-has_prefix.false) (omega arith)
 
 -- One of the first seven numbers: broken, or before a comma.
-early-broken : tie.Need-returns-2 invariant-loop decreases-loop
+early-broken : tie.Need-returns-in_default invariant-loop decreases-loop
 early-broken c =
-    let number = c.before.before.before in (
-      rw c.plain2.ensures.0
+    (
+      rw c.plain-in_default.ensures.0
           (ap parameters_say
-          (listing-broken number.before.before.loop.invariant (omega arith) number.decimal-before-comma.ensures
-          c.before.enum_told.given.1)),
-      λ h. c.plain2.ensures.1,
+          (listing-broken c.loop-i.invariant (omega arith) c.decimal_before_comma.ensures
+          c.in_default.is)),
+      λ h. c.plain-in_default.ensures.1,
     )
 
-loop-again : tie.Need-loop-preserved invariant-loop decreases-loop
+loop-again : tie.Need-loop-i-preserved invariant-loop decreases-loop
 loop-again c =
-    let number = c.before.before.before in
-    listing-more number.before.before.loop.invariant (omega arith) number.decimal-before-comma.ensures
-    c.before.value.given.1
+    listing-more c.loop-i.invariant (omega arith) c.decimal_before_comma.ensures
+    c.in-Is.is
 
 -- The eighth: broken, before another byte, at the end of the line.
-last-broken : tie.Need-returns-3 invariant-loop decreases-loop
+last-broken : tie.Need-returns-in_default-decimal_at invariant-loop decreases-loop
 last-broken c =
-    let number = c.before.before.before in (
-      rw c.plain3.ensures.0
+    (
+      rw c.plain-in_default-decimal_at.ensures.0
           (ap parameters_say
-          (listing_none number.before.before.loop.invariant (omega arith) number.decimal-at.ensures
-          c.before.enum-told2.given.1)),
-      λ h. c.plain3.ensures.1,
+          (listing_none c.loop-i.invariant (omega arith) c.decimal_at.ensures
+          c.in_default-decimal_at.is)),
+      λ h. c.plain-in_default-decimal_at.ensures.1,
     )
 
-bytes_after : tie.Need-returns-4 invariant-loop decreases-loop
+bytes_after : tie.Need-returns-then-next-s invariant-loop decreases-loop
 bytes_after c =
-    let value = c.before.before.before in
-    let number = eighth value in (
-      rw c.plain4.ensures.0
+    (
+      rw c.plain-then-next-s.ensures.0
           (ap parameters_say
-          (listing-not number.before.before.loop.inv (omega arith) number.decimal-at.ensures
-          value.value2.given.1 c.before.if2.true)),
-      λ h. c.plain4.ensures.1,
+          (listing-not c.loop-i.invariant (omega arith) c.decimal_at.ensures
+          c.in-Is-decimal_at.is c.if-next-s.true)),
+      λ h. c.plain-then-next-s.ensures.1,
     )
 
-eight-read : tie.Need-returns-5 invariant-loop decreases-loop
+eight-read : tie.Need-returns invariant-loop decreases-loop
 eight-read c =
-    let value = c.before.before in
-    let number = eighth value in (
+    (
       ap parameters_say
-          (listing-last number.before.before.loop.inv (omega arith) number.decimal-at.ensures
-          value.value2.given.1 c.if2.false),
+          (listing-last c.loop-i.invariant (omega arith) c.decimal_at.ensures
+          c.in-Is-decimal_at.is c.if-next-s.false),
       λ h. absurd (h refl),
     )
 
-pub parameters-line-spec : {M : Type 1} → statement M
-parameters-line-spec =
+pub parameters_line_spec : {M : Type 1} → statement M
+parameters_line_spec =
     tie.close
     (tie.spec
     invariant-loop

@@ -10,51 +10,42 @@ use Rattle.cards.proofs.Front.{lent-front, few_bytes, front-broken, plain-unende
 use Rattle.cards.proofs.plain_at.Statement.{statement}
 use Rattle.cards.proofs.plain_at.Tie as tie
 
--- The start, from where byte 10 is known to be there; and that place, from where the line is read.
-abbrev entry : tie.Else3 → tie.Start
-entry c = c.before.before.before.before.before
-
-abbrev ended : tie.After-plain-line → tie.Else3
-ended c = c.before.before
-
-few : tie.Need-returns
+few : tie.Need-returns-then-s-le-TICK_LINE
 few c velocities =
-    let args = c.before.before.args in
+    let args = c.args in
     few_bytes velocities plain_edition args.s.now args.at (omega arith)
 
-few-left : tie.Need-returns-2
+few-left : tie.Need-returns-then-s-at
 few-left c velocities =
-    let args = c.before.before.before.args in
+    let args = c.args in
     few_bytes velocities plain_edition args.s.now args.at (omega arith)
 
-unended : tie.Need-returns-3
+unended : tie.Need-returns-then-s-stop-ne-LINE_END
 unended c velocities =
-    let args = c.before.before.before.before.before.args in
-    plain-unended velocities args.s.now args.at (omega arith) c.if3.true
+    let args = c.args in
+    plain-unended velocities args.s.now args.at (omega arith) c.if-s-stop-ne-LINE_END.true
 
 -- What the line says.
-line-says : (c : tie.After-plain-line) →
-    let args = (entry (ended c)).args in
-    c.plain-line.result ≡ plain_tick (take tick_length (drop args.at args.s.now))
+line-says : (c : tie.After-plain_line) →
+    let args = c.args in
+    c.plain_line.result ≡ plain_tick (take tick_length (drop args.at args.s.now))
 line-says c =
-    let args = (entry (ended c)).args in
-    c.plain-line.ensures ∙ ap plain_tick (lent-front args.s.now args.at)
+    let args = c.args in
+    c.plain_line.ensures ∙ ap plain_tick (lent-front args.s.now args.at)
 
-broken : tie.Need-returns-4
+broken : tie.Need-returns-in_default
 broken c velocities =
-    let line = c.before.before in
-    let args = (entry (ended line)).args in
-    front-broken velocities plain_edition args.s.now args.at (sym (line-says line) ∙ c.enum_told.given.1)
+    let args = c.args in
+    front-broken velocities plain_edition args.s.now args.at (sym (line-says c.before) ∙ c.in_default.is)
 
-found : tie.Need-returns-5
+found : tie.Need-returns
 found c velocities =
-    let line = c.before.before.before in
-    let args = (entry (ended line)).args in
-    plain-found velocities args.s.now args.at (omega arith) (ended line).if3.false
-    (sym (line-says line) ∙ c.before.start.given.1)
+    let args = c.args in
+    plain-found velocities args.s.now args.at (omega arith) c.if-s-stop-ne-LINE_END.false
+    (sym (line-says c.before) ∙ c.in-Is.is)
 
-pub plain-at-spec : {M : Type 1} → statement M
-plain-at-spec =
+pub plain_at_spec : {M : Type 1} → statement M
+plain_at_spec =
     tie.close
     (tie.spec
     few

@@ -6,98 +6,92 @@ use Rattle.cards.specs.Says.{line_says}
 use Rattle.cards.proofs.read_line.Statement.{statement}
 use Rattle.cards.proofs.read_line.Tie as tie
 
--- Where the phase is known to be the rule's, from the test of its first bytes.
-abbrev rule-phase : tie.After-has-prefix → tie.After-enum-told3
-rule-phase c = c.before.before
-
 -- An over-long line.
-over-long : tie.Need-returns
+over-long : tie.Need-returns-then-s-ge-LINE
 unfolding line_says
 over-long c = (
-  rw (c.plain.ensures.0, le-leb _ _ c.before.before.if1.true) (c.before.broken.ensures _ _),
-  λ h. c.plain.ensures.1,
+  rw (c.plain.ensures.0, le-leb _ _ c.if-s-ge-LINE.true) (c.broken.ensures _ _),
+  λ h. c.plain.ensures.1)
 )
 
 -- The edition.
-edition : tie.Need-returns-3
+edition : tie.Need-returns-in-Edition
 unfolding line_says
 edition c =
-    let line = c.before.before in (
-      rw (c.plain2.ensures.0, lt-leb _ _ line.before.before.if1.false, line.enum_told.given.1)
-          (c.before.edition-content.ensures _ _),
-      λ h. c.plain2.ensures.1,
+    (
+      rw (c.plain-in-Edition.ensures.0, lt-leb _ _ c.if-s-ge-LINE.false, c.in-Edition.is)
+          (c.edition_content.ensures _ _),
+      λ h. c.plain-in-Edition.ensures.1,
     )
 
 -- The parameters.
-parameters : tie.Need-returns-4
+parameters : tie.Need-returns-in-Parameters
 unfolding line_says
 parameters c =
-    let line = c.before in (
-      rw (lt-leb _ _ line.before.before.if1.false, line.enum-told2.given.1) c.parameters-line.ensures.0,
-      c.parameters-line.ensures.1,
+    (
+      rw (lt-leb _ _ c.if-s-ge-LINE.false, c.in-Parameters.is) c.parameters_line.ensures.0,
+      c.parameters_line.ensures.1,
     )
 
 -- The rule: `watch=`, or not.
-rule-fine : tie.Need-returns-2
+rule-fine : tie.Need-returns-then-has_prefix
 unfolding line_says
 rule-fine c =
-    let begun = c.before.before in
-    let line = rule-phase begun in (
+    (
       rw (
-        c.plain3.ensures.0,
-        lt-leb _ _ line.before.before.if1.left,
-        line.enum-told3.given.1,
-        ← begun.has-prefix.ensures,
-        c.before.if2.true,
+        c.plain-then-has_prefix.ensures.0,
+        lt-leb _ _ c.if-s-ge-LINE.false,
+        c.in-Rule.is,
+        ← c.has_prefix.ensures,
+        c.if-has_prefix.true,
       ),
-      λ h. c.plain3.ensures.1,
+      λ h. c.plain-then-has_prefix.ensures.1,
     )
 
-rule-broken : tie.Need-returns-5
+rule-broken : tie.Need-returns-else-has_prefix
 unfolding line_says
 rule-broken c =
-    let begun = c.before.before in
-    let line = rule-phase begun in (
+    (
       rw (
-        c.plain4.ensures.0,
-        lt-leb _ _ line.before.before.if1.left,
-        line.enum-told3.given.1,
-        ← begun.has-prefix.ensures,
-        c.before.if2.false,
+        c.plain-in-Rule.ensures.0,
+        lt-leb _ _ c.if-s-ge-LINE.false,
+        c.in-Rule.is,
+        ← c.has_prefix.ensures,
+        c.if-has_prefix.false,
       ),
-      λ h. c.plain4.ensures.1,
+      λ h. c.plain-in-Rule.ensures.1,
     )
 
 -- The number of ticks, and a tick.
-count : tie.Need-returns-6
+count : tie.Need-returns-in-Count
 unfolding line_says
 count c =
-    let line = c.before.before in (
-      rw (c.plain5.ensures.0, lt-leb _ _ line.before.before.if1.false, line.enum-told4.given.1)
-          (c.before.count-content.ensures _ _),
-      λ h. c.plain5.ensures.1,
+    (
+      rw (c.plain-in-Count.ensures.0, lt-leb _ _ c.if-s-ge-LINE.false, c.in-Count.is)
+          (c.count_content.ensures _ _),
+      λ h. c.plain-in-Count.ensures.1,
     )
 
-tick : tie.Need-returns-7
+tick : tie.Need-returns-in-Ticks
 unfolding line_says
 tick c =
-    let line = c.before.before in (
-      rw (c.plain6.ensures.0, lt-leb _ _ line.before.before.if1.false, line.enum-told5.given.1)
-          (c.before.tick-content.ensures _ _),
-      λ h. c.plain6.ensures.1,
+    (
+      rw (c.plain-in-Ticks.ensures.0, lt-leb _ _ c.if-s-ge-LINE.false, c.in-Ticks.is)
+          (c.tick_content.ensures _ _),
+      λ h. c.plain-in-Ticks.ensures.1,
     )
 
 -- The card is over.
-over : tie.Need-returns-8
+over : tie.Need-returns-in-Over
 unfolding line_says
 over c =
-    let line = c.before in (
-      rw (c.plain7.ensures.0, lt-leb _ _ line.before.before.if1.false, line.enum-told6.given.1),
-      λ h. c.plain7.ensures.1,
+    (
+      rw (c.plain-in-Over.ensures.0, lt-leb _ _ c.if-s-ge-LINE.false, c.in-Over.is),
+      λ h. c.plain-in-Over.ensures.1,
     )
 
-pub read-line-spec : {M : Type 1} → statement M
-read-line-spec =
+pub read_line_spec : {M : Type 1} → statement M
+read_line_spec =
     tie.close
     (tie.spec
     (λ c κs. search rules)

@@ -8,15 +8,15 @@ use Rattle.cards.proofs.stage_after.Statement.{statement}
 use Rattle.cards.proofs.stage_after.Tie as tie
 
 -- A tick: the last one, where none is left, and another.
-tick-none-left : tie.Need-returns
+tick-none-left : tie.Need-returns-then-left-eq0
 tick-none-left c ps l =
-    rw (c.stage-at5.ensures, c.before.before.before.content3.given.1) (ap (stage_at P.Ticks _) (omega arith))
+    rw (c.stage_at-then-left-eq0.ensures, c.in-Tick.is) (ap (stage_at P.Ticks _) (omega arith))
 
-tick-counted : tie.Need-returns-6
-tick-counted c ps l = rw (c.stage-at6.ensures, c.before.before.before.content3.given.1)
+tick-counted : tie.Need-returns-else-left-eq0
+tick-counted c ps l = rw (c.stage_at-in-Tick.ensures, c.in-Tick.is)
 
-pub stage-after-spec : {M : Type 1} → statement M
-stage-after-spec =
+pub stage_after_spec : {M : Type 1} → statement M
+stage_after_spec =
     tie.close
     (tie.spec
     (λ c. search rules)
@@ -36,10 +36,10 @@ stage-after-spec =
     (λ c κs. search rules)
     (λ c. search rules)
     (λ c κs. search rules)
-    (λ c ps l. rw (c.Stage-at.ensures, c.before.before.content.given.1))
-    (λ c ps l. rw (c.stage-at2.ensures, c.before.enum_told.given.1))
-    (λ c ps l. rw (c.stage-at3.ensures, c.before.enum-told2.given.1))
-    (λ c ps l. rw (c.stage-at4.ensures, c.before.before.content2.given.1))
+    (λ c ps l. rw (c.Stage-at.ensures, c.in-Edition.is))
+    (λ c ps l. rw (c.stage_at-in-Parameters.ensures, c.in-Parameters.is))
+    (λ c ps l. rw (c.stage_at-in-Rule.ensures, c.in-Rule.is))
+    (λ c ps l. rw (c.stage_at-in-Count.ensures, c.in-Count.is))
     tick-counted
-    (λ c ps l. rw (c.stage-at7.ensures, c.before.before.content4.given.1))
-    (λ c ps l. rw (c.stage-at8.ensures, c.before.enum-told3.given.1)))
+    (λ c ps l. rw (c.stage_at-in-Refused.ensures, c.in-Refused.is))
+    (λ c ps l. rw (c.stage_at-in-Nothing.ensures, c.in-Nothing.is)))

@@ -19,57 +19,51 @@ use Rattle.cards.proofs.struck_line.Tie as tie
 abbrev entry : tie.After-plain-line-arg → tie.Start
 entry c = c.before.before.before
 
-abbrev front : tie.After-velocity-at → tie.After-start
-front c = c.before.before
+abbrev begun : tie.After-velocity_at → tie.Start
+begun c = entry c.before.before.before
 
-abbrev begun : tie.After-velocity-at → tie.Start
-begun c = entry (front c).before.before.before
+abbrev read : tie.In-Is-velocity_at-2 → tie.After-velocity_at
+read c = c.before
 
-abbrev read : tie.After-value → tie.After-velocity-at
-read c = c.before.before
-
-few : tie.Need-returns
+few : tie.Need-returns-then-s-le-TICK_LINE
 unfolding struck_tick velocity_in wholly
 few c =
-    let args = c.before.before.args in
+    let args = c.args in
     let short = drop_of_length-le args.s.now {i = tick_length} (omega arith) in
     rw short (sym (struck-broken (plain_tick (take tick_length args.s.now))))
 
-front_length : tie.Need-slice-aggregate-plain-line
+front_length : tie.Need-slice_bounds-plain_line-end
 front_length c = sym (length-take-le tick_length (entry c).args.s.now (omega arith))
 
-no_front : tie.Need-returns-2
+no_front : tie.Need-returns-in_default
 unfolding struck_tick
-no_front c = rw (← c.before.before.plain-line.ensures, c.enum_told.given.1)
+no_front c = rw (← c.plain_line.ensures, c.in_default.is)
 
 -- With a tick in front, what stands behind it decides.
-by-velocity : (c : tie.After-velocity-at) {k : Count} →
+by-velocity : (c : tie.After-velocity_at) {k : Count} →
     let args = (begun c).args in
-    let tick = (front c).start.given.0 in
+    let tick = (c.before.before).start-1.given.0 in
     k ≡ wholly (velocity_in args.velocities (drop tick_length args.s.now))
     → struck_by (Is tick.0 tick.1.0 tick.1.1.0) k ≡ struck_tick args.velocities args.s.now
 by-velocity c q =
     let args = (begun c).args in
-    let read = (front c).before.before.plain-line in
-    struck-of args.velocities args.s.now (sym (front c).start.given.1 ∙ read.ensures) q
+    let read = c.plain_line in
+    struck-of args.velocities args.s.now (sym c.in-Is.is ∙ read.ensures) q
 
-no-velocity : tie.Need-returns-3
+no-velocity : tie.Need-returns-in_default-velocity_at
 no-velocity c =
-    let velocity = c.before.before in
-    by-velocity velocity (wholly-none velocity.velocity-at.ensures c.enum-told2.given.1)
+    by-velocity c.before (wholly-none c.velocity_at.ensures c.in_default-velocity_at.is)
 
-bytes-behind : tie.Need-returns-4
+bytes-behind : tie.Need-returns-then-next-s
 bytes-behind c =
-    let value = c.before.before in
-    by-velocity (read value) (wholly-not (read value).velocity-at.ensures value.value.given.1 c.if2.true)
+    by-velocity c.before.before (wholly-not c.velocity_at.ensures c.in-Is-velocity_at.is c.if-next-s.true)
 
-struck : tie.Need-returns-5
+struck : tie.Need-returns
 struck c =
-    let value = c.before.before in
-    by-velocity (read value) (wholly-last (read value).velocity-at.ensures value.value.given.1 c.if2.false)
+    by-velocity c.before.before (wholly-last c.velocity_at.ensures c.in-Is-velocity_at.is c.if-next-s.false)
 
-pub struck-line-spec : {M : Type 1} → statement M
-struck-line-spec =
+pub struck_line_spec : {M : Type 1} → statement M
+struck_line_spec =
     tie.close
     (tie.spec
     few

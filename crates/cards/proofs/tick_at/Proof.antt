@@ -3,11 +3,11 @@ use borrow.Author.Rules.{rules}
 use Rattle.cards.proofs.tick_at.Statement.{statement}
 use Rattle.cards.proofs.tick_at.Tie as tie
 
-plain : tie.Need-returns
-plain c = rw c.before.if1.true (c.plain_at.ensures c.before.before.before.args.velocities)
+plain : tie.Need-returns-then-edition-eq-PLAIN_EDITION
+plain c = rw c.if-edition-eq-PLAIN_EDITION.true (c.plain_at.ensures c.args.velocities)
 
-struck : tie.Need-returns-2
-struck c = c.struck-at.ensures c.before.before.before.args.edition c.before.if1.false
+struck : tie.Need-returns
+struck c = c.struck_at.ensures c.args.edition c.if-edition-eq-PLAIN_EDITION.false
 
-pub tick-at-spec : {M : Type 1} → statement M
-tick-at-spec = tie.close (tie.spec (λ c κs. search rules) plain (λ c κs. search rules) struck)
+pub tick_at_spec : {M : Type 1} → statement M
+tick_at_spec = tie.close (tie.spec (λ c κs. search rules) plain (λ c κs. search rules) struck)

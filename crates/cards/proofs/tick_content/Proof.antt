@@ -4,30 +4,24 @@ use borrow.Author.Tests.{eq-eqb, ne_eqb}
 use Rattle.cards.proofs.tick_content.Statement.{statement}
 use Rattle.cards.proofs.tick_content.Tie as tie
 
--- Where a tick is known to be left, from where its line is read.
-abbrev some_left : tie.After-tick-line → tie.Else1
-some_left c = c.before.before.before
+none_left : tie.Need-returns-then-left-eq0
+none_left c ps l = rw (eq-eqb _ _ c.if-left-eq0.true)
 
-none_left : tie.Need-returns
-none_left c ps l = rw (eq-eqb _ _ c.if1.true)
-
-broken : tie.Need-returns-2
+broken : tie.Need-returns-in-Broken
 broken c ps l =
-    let read = c.before.before in
-    rw (ne_eqb _ _ (some_left read).if1.false, ← read.tick-line.ensures, c.enum_told.given.1)
+    rw (ne_eqb _ _ c.if-left-eq0.false, ← c.tick_line-t.ensures, c.in-Broken.is)
 
-tick : tie.Need-returns-3
+tick : tie.Need-returns-in-Is
 tick c ps l =
-    let read = c.before.before.before in
-    rw (ne_eqb _ _ (some_left read).if1.false, ← read.tick-line.ensures, c.before.t.given.1)
+    rw (ne_eqb _ _ c.if-left-eq0.false, ← c.tick_line-t.ensures, c.in-Is.is)
 
-pub tick-content-spec : {M : Type 1} → statement M
-tick-content-spec =
+pub tick_content_spec : {M : Type 1} → statement M
+tick_content_spec =
     tie.close
     (tie.spec
     none_left
     (λ c κs. search rules)
-    (λ c κs. c.before.hex-digits.ensures)
+    (λ c κs. c.hex_digits-hex.ensures)
     (λ c. search rules)
     (λ c. search rules)
     broken

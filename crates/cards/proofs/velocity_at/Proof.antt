@@ -11,56 +11,42 @@ use Rattle.cards.proofs.Velocities.{velocity-past, velocity-other, velocity-behi
 use Rattle.cards.proofs.velocity_at.Statement.{statement}
 use Rattle.cards.proofs.velocity_at.Tie as tie
 
--- The start, from where the comma is known, and from where the number behind it is read; and that place, from where
--- the number is known.
-abbrev entry : tie.Else2 → tie.Start
-entry c = c.before.before.before.before
-
-abbrev begun : tie.After-decimal-at → tie.Start
-begun c = entry c.before
-
-abbrev read : tie.After-value → tie.After-decimal-at
-read c = c.before.before
-
-no_byte : tie.Need-returns
+no_byte : tie.Need-returns-then-s-at
 no_byte c =
-    let args = c.before.before.args in
-    velocity-past args.velocities args.s.now args.at c.if1.true
+    let args = c.args in
+    velocity-past args.velocities args.s.now args.at c.if-s-at.true
 
-no-comma : tie.Need-returns-2
+no-comma : tie.Need-returns-then-s-at-ne44
 no-comma c =
-    let args = c.before.before.before.before.args in
-    velocity-other args.velocities args.s.now args.at c.before.before.if1.false c.if2.true
+    let args = c.args in
+    velocity-other args.velocities args.s.now args.at c.if-s-at.false c.if-s-at-ne44.true
 
 -- With a comma, the number behind it decides.
-by_number : (c : tie.After-decimal-at) →
-    let args = (begun c).args in
+by_number : (c : tie.After-decimal_at) →
+    let args = c.args in
     velocity_in args.velocities (drop args.at args.s.now)
     ≡ low_by args.velocities (number last_literal (drop (args.at + 1) args.s.now))
 by_number c =
-    let args = (begun c).args in
-    velocity-behind args.velocities args.s.now args.at c.before.before.before.if1.false
-    c.before.if2.false
+    let args = c.args in
+    velocity-behind args.velocities args.s.now args.at c.if-s-at.false
+    c.if-s-at-ne44.false
 
-no_number : tie.Need-returns-3
+no_number : tie.Need-returns-in_default
 no_number c =
-    let behind = c.before.before in
-    rw (by_number behind) (low-none _ behind.decimal-at.ensures c.enum_told.given.1)
+    rw (by_number c.before) (low-none _ c.decimal_at.ensures c.in_default.is)
 
-too-high : tie.Need-returns-4
+too-high : tie.Need-returns-then-velocities-value
 too-high c =
-    let value = c.before.before in
-    rw (by_number (read value))
-    (low-not _ (read value).decimal-at.ensures value.value.given.1 c.if3.true)
+    rw (by_number c.before.before)
+    (low-not _ c.decimal_at.ensures c.in-Is.is c.if-velocities-value.true)
 
-low : tie.Need-returns-5
+low : tie.Need-returns
 low c =
-    let value = c.before.before in
-    rw (by_number (read value))
-    (low-is _ (read value).decimal-at.ensures value.value.given.1 c.if3.false)
+    rw (by_number c.before.before)
+    (low-is _ c.decimal_at.ensures c.in-Is.is c.if-velocities-value.false)
 
-pub velocity-at-spec : {M : Type 1} → statement M
-velocity-at-spec =
+pub velocity_at_spec : {M : Type 1} → statement M
+velocity_at_spec =
     tie.close
     (tie.spec
     no_byte

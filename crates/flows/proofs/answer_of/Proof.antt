@@ -8,18 +8,18 @@ use borrow.Author.Rules.{rules}
 use Rattle.flows.proofs.answer_of.Statement.{statement}
 use Rattle.flows.proofs.answer_of.Tie as tie
 
-idle : tie.Need-returns
+idle : tie.Need-returns-then-flows-n-eq0
 unfolding answer_of
-idle c = rw c.if1.true
+idle c = rw c.if-flows-n-eq0.true
 
-verdict : tie.Need-returns-2
+verdict : tie.Need-returns
 unfolding answer_of
 verdict c =
-    let args = c.before.before.before.args in
+    let args = c.args in
     rw (nonzero-pos (number_at args.flows.now (started_of args.n)) (omega arith))
 
-pub answer-of-spec : {M : Type 1} → statement M
-answer-of-spec =
+pub answer_of_spec : {M : Type 1} → statement M
+answer_of_spec =
     tie.close
     (tie.spec
     (λ c. search rules)

@@ -18,24 +18,24 @@ memory-cell : (cap : ℕ) (q : Kind) (x : ℕ) (s : Sort) → is_memory q ≡ tr
 unfolding cell_fits
 memory-cell cap q x s m e = rw (m, e)
 
-boolean-cell : tie.Need-returns
+boolean-cell : tie.Need-returns-in-6
 unfolding kind_of is_memory
 boolean-cell c =
-    let key = c.before.before.match.keys1 in
-    rw key (c.in-range.ensures ∙ memory-cell _ (kind_of BOOLEAN-PRE) _ _ refl c.before.sort-of.ensures)
+    let key = c.in-6.is in
+    rw key (c.in_range.ensures ∙ memory-cell _ (kind_of BOOLEAN-PRE) _ _ refl c.sort_of.ensures)
 
-count-cell : tie.Need-returns-2
+count-cell : tie.Need-returns-in-7
 unfolding kind_of is_memory
 count-cell c =
-    let key = c.before.before.match.keys2 in
-    rw key (c.in-range2.ensures ∙ memory-cell _ (kind_of COUNT-PRE) _ _ refl c.before.sort-of2.ensures)
+    let key = c.in-7.is in
+    rw key (c.in_range-in-7.ensures ∙ memory-cell _ (kind_of COUNT-PRE) _ _ refl c.sort_of-in-7.ensures)
 
-other-cell : tie.Need-returns-3
+other-cell : tie.Need-returns-in_default
 unfolding cell_fits
-other-cell c = rw (no-memory _ c.match.rest.0.1 c.match.rest.1)
+other-cell c = rw (no-memory _ c.in_default.in_default-own.rest.0.1 c.in_default.in_default-own.rest.1)
 
-pub cell-fits-spec : {M : Type 1} → statement M
-cell-fits-spec =
+pub cell_fits_spec : {M : Type 1} → statement M
+cell_fits_spec =
     tie.close
     (tie.spec
     (λ c κs. search rules) (λ c κs. search rules) (λ c κs. search rules) (λ c κs. search rules)

@@ -8,30 +8,30 @@ use borrow.Author.Rules.{rules}
 use Rattle.flows.proofs.check_fresh.Statement.{statement}
 use Rattle.flows.proofs.check_fresh.Tie as tie
 
-table-refused : tie.Need-returns
+table-refused : tie.Need-returns-in_default
 unfolding fresh_checked
 table-refused c =
-    let args = c.before.before.before.before.before.args in
-    let told = c.enum-told2.given.1 in
+    let args = c.args in
+    let told = c.in_default.is in
     let others = drop 2 (fresh_tests args.velocities args.table.now args.n args.state.now) in
-    told ∙ sym (refused-table _ _ _ _ others (sym c.before.before.check-table.ensures ∙ told))
+    told ∙ sym (refused-table _ _ _ _ others (sym c.check_table-checked.ensures ∙ told))
 
-state-short : tie.Need-returns-2
+state-short : tie.Need-returns-then-state-n
 unfolding fresh_checked
 state-short c =
-    let told = c.before.enum_told.given.1 in
-    let p = passed-both _ _ _ (sym c.before.before.before.check-table.ensures ∙ told) in
-    rw (p.0, p.1, lt-leb _ _ c.if1.true)
+    let told = c.in-Passed.is in
+    let p = passed-both _ _ _ (sym c.check_table-checked.ensures ∙ told) in
+    rw (p.0, p.1, lt-leb _ _ c.if-state-n.true)
 
-all-passed : tie.Need-returns-3
+all-passed : tie.Need-returns
 unfolding fresh_checked
 all-passed c =
-    let told = c.before.enum_told.given.1 in
-    let p = passed-both _ _ _ (sym c.before.before.before.check-table.ensures ∙ told) in
-    rw (p.0, p.1, le-leb _ _ c.if1.false)
+    let told = c.in-Passed.is in
+    let p = passed-both _ _ _ (sym c.check_table-checked.ensures ∙ told) in
+    rw (p.0, p.1, le-leb _ _ c.if-state-n.false)
 
-pub check-fresh-spec : {M : Type 1} → statement M
-check-fresh-spec =
+pub check_fresh_spec : {M : Type 1} → statement M
+check_fresh_spec =
     tie.close
     (tie.spec
     (λ c κs. search rules) (λ c. search rules) (λ c. search rules) table-refused state-short all-passed)

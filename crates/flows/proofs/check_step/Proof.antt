@@ -14,106 +14,95 @@ use borrow.Author.Rules.{rules}
 use Rattle.flows.proofs.check_step.Statement.{statement}
 use Rattle.flows.proofs.check_step.Tie as tie
 
--- The start of the function, from the call of `check_table`; and that call, from where its answer is known.
-abbrev start : tie.After-check-table → tie.Start
-start c = c.before.before.before.before
-
-abbrev called : tie.After-enum-told → tie.After-check-table
-called c = c.before.before
-
 -- The table passed its tests.
-passed : (c : tie.After-enum-told) → (let args = (start (called c)).args in
+passed : (c : tie.In-Passed) → (let args = c.args in
     checked args.velocities args.table.now args.n ≡ Passed)
-passed c = sym (called c).check-table.ensures ∙ c.enum_told.given.1
+passed c = sym c.check_table-checked.ensures ∙ c.in-Passed.is
 
 -- What the tests of the call say.
-abbrev checked_at : tie.Else3 → Checked
+abbrev checked_at : tie.Else-not-parameters_fit → Checked
 checked_at c =
-    let args = (start (called c.before.before.before.before)).args in
+    let args = c.args in
     step_checked args.cap args.velocities args.table.now args.n args.state.now args.values.now
     args.tick
 
-table-refused : tie.Need-returns
+table-refused : tie.Need-returns-in_default
 unfolding step_checked
 table-refused c =
-    let args = (start c.before.before).args in
-    let told = c.enum-told2.given.1 in
+    let args = c.args in
+    let told = c.in_default.is in
     let t = args.table.now in
     let tests =
     step_tests args.cap args.velocities t args.n args.state.now args.values.now args.tick in
-    told ∙ sym (refused-table _ _ _ _ (drop 2 tests) (sym c.before.before.check-table.ensures ∙ told))
+    told ∙ sym (refused-table _ _ _ _ (drop 2 tests) (sym c.check_table-checked.ensures ∙ told))
 
-state-short : tie.Need-returns-2
+state-short : tie.Need-returns-then-state-n
 unfolding step_checked
 state-short c =
     let p = passed-both _ _ _ (passed c.before) in
-    rw (p.0, p.1, lt-leb _ _ c.if1.true)
+    rw (p.0, p.1, lt-leb _ _ c.if-state-n.true)
 
-values-short : tie.Need-returns-3
+values-short : tie.Need-returns-then-values-n
 unfolding step_checked
 values-short c =
     let p = passed-both _ _ _ (passed c.before.before) in
-    rw (p.0, p.1, le-leb _ _ c.before.if1.false, lt-leb _ _ c.if2.true)
+    rw (p.0, p.1, le-leb _ _ c.if-state-n.false, lt-leb _ _ c.if-values-n.true)
 
-parameter-unfit : tie.Need-returns-4
+parameter-unfit : tie.Need-returns-then-not-parameters_fit
 unfolding step_checked
 parameter-unfit c =
     let p = passed-both _ _ _ (passed c.before.before.before.before) in
-    let room = c.before.before in
-    let params = c.before.parameters-fit in
+    let params = c.parameters_fit in
     rw (
       p.0,
       p.1,
-      le-leb _ _ room.before.if1.false,
-      le-leb _ _ room.if2.false,
+      le-leb _ _ c.if-state-n.false,
+      le-leb _ _ c.if-values-n.false,
       ← params.ensures,
-      not-true params.result c.if3.true,
+      c.if-not-parameters_fit.true,
     )
 
-cells-fit-requires : tie.Need-cells-fit-requires
+cells-fit-requires : tie.Need-cells_fit-requires
 cells-fit-requires c κs =
     let fit = checked-fitting _ _ _ (passed c.before.before.before.before) in
     omega arith
 
 -- After the test of the cells, which says b, where the test of the velocity says d.
-decided : (c : tie.After-cells-fit) (b d : Bool) → c.cells_fit.result ≡ b → (
-    let args = (start (called c.before.before.before.before.before)).args in
+decided : (c : tie.After-cells_fit) (b d : Bool) → c.cells_fit.result ≡ b → (
+    let args = c.args in
     ltb args.tick.velocity args.velocities ≡ d → cond b (cond d Passed (Refused 19)) (Refused 14)
     ≡ checked_at c.before)
 unfolding step_checked
 decided c b d e f =
     let p = passed-both _ _ _ (passed c.before.before.before.before.before) in
-    let room = c.before.before.before in
-    let params = c.before.before.parameters-fit in
+    let params = c.parameters_fit in
     rw (
       p.0,
       p.1,
-      le-leb _ _ room.before.if1.false,
-      le-leb _ _ room.if2.false,
+      le-leb _ _ c.if-state-n.false,
+      le-leb _ _ c.if-values-n.false,
       ← params.ensures,
-      not-false params.result c.before.if3.false,
+      c.if-not-parameters_fit.false,
       ← c.cells_fit.ensures,
       e,
       f,
     )
 
-cell-unfit : tie.Need-returns-5
-cell-unfit c = decided c.before false _ (not-true c.before.cells_fit.result c.if4.true) refl
+cell-unfit : tie.Need-returns-then-not-cells_fit
+cell-unfit c = decided c.before false _ (c.if-not-cells_fit.true) refl
 
-velocity-above : tie.Need-returns-6
+velocity-above : tie.Need-returns-then-velocities-tick
 velocity-above c =
-    let fit = c.before.before in
-    let cells = not-false fit.before.cells_fit.result fit.if4.false in
-    decided fit.before true false cells (le-ltb _ _ c.if5.true)
+    let cells = c.if-not-cells_fit.false in
+    decided c.before.before.before true false cells (le-ltb _ _ c.if-velocities-tick.true)
 
-all-passed : tie.Need-returns-7
+all-passed : tie.Need-returns
 all-passed c =
-    let fit = c.before.before in
-    let cells = not-false fit.before.cells_fit.result fit.if4.false in
-    decided fit.before true true cells (lt-ltb _ _ c.if5.false)
+    let cells = c.if-not-cells_fit.false in
+    decided c.before.before.before true true cells (lt-ltb _ _ c.if-velocities-tick.false)
 
-pub check-step-spec : {M : Type 1} → statement M
-check-step-spec =
+pub check_step_spec : {M : Type 1} → statement M
+check_step_spec =
     tie.close
     (tie.spec
     (λ c κs. search rules)

@@ -5,7 +5,7 @@ use Rattle.flows.proofs.compare.Statement.{statement}
 use Rattle.flows.proofs.compare.Tie as tie
 
 of-operator : tie.Need-returns
-of-operator c = rw c.before.op-of.ensures.0 at c.holds.ensures.0
+of-operator c = rw c.op_of.ensures.0 at c.holds.ensures.0
 
-pub compare-spec : {M : Type 1} → statement M
-compare-spec = tie.close (tie.spec (λ c κs. search rules) (λ c κs. search rules) of-operator)
+pub compare_spec : {M : Type 1} → statement M
+compare_spec = tie.close (tie.spec (λ c κs. search rules) (λ c κs. search rules) of-operator)

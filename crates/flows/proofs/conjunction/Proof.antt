@@ -4,14 +4,14 @@ use Rattle.flows.proofs.Numbers.{nonzero-none}
 use Rattle.flows.proofs.conjunction.Statement.{statement}
 use Rattle.flows.proofs.conjunction.Tie as tie
 
-both_yes : tie.Need-returns
-both_yes c = rw (nonzero-pos _ c.before.if1.true, nonzero-pos _ c.if2.true)
+both_yes : tie.Need-returns-then-y-gt0
+both_yes c = rw (nonzero-pos _ c.if-x-gt0.true, nonzero-pos _ c.if-y-gt0.true)
 
-second-no : tie.Need-returns-2
-second-no c = rw (nonzero-pos _ c.before.if1.true, nonzero-none _ c.if2.false)
+second-no : tie.Need-returns-else-y-gt0
+second-no c = rw (nonzero-pos _ c.if-x-gt0.true, nonzero-none _ c.if-y-gt0.false)
 
-first-no : tie.Need-returns-3
-first-no c = rw (nonzero-none _ c.if1.false)
+first-no : tie.Need-returns-else-x-gt0
+first-no c = rw (nonzero-none _ c.if-x-gt0.false)
 
-pub conjunction-spec : {M : Type 1} → statement M
-conjunction-spec = tie.close (tie.spec both_yes second-no first-no)
+pub conjunction_spec : {M : Type 1} → statement M
+conjunction_spec = tie.close (tie.spec both_yes second-no first-no)

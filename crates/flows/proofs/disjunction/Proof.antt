@@ -4,14 +4,14 @@ use Rattle.flows.proofs.Numbers.{nonzero-none}
 use Rattle.flows.proofs.disjunction.Statement.{statement}
 use Rattle.flows.proofs.disjunction.Tie as tie
 
-first-yes : tie.Need-returns
-first-yes c = rw (nonzero-pos _ c.if1.true)
+first-yes : tie.Need-returns-then-x-gt0
+first-yes c = rw (nonzero-pos _ c.if-x-gt0.true)
 
-second-yes : tie.Need-returns-2
-second-yes c = rw (nonzero-none _ c.before.if1.false, nonzero-pos _ c.if2.true)
+second-yes : tie.Need-returns-then-y-gt0
+second-yes c = rw (nonzero-none _ c.if-x-gt0.false, nonzero-pos _ c.if-y-gt0.true)
 
-both-no : tie.Need-returns-3
-both-no c = rw (nonzero-none _ c.before.if1.false, nonzero-none _ c.if2.false)
+both-no : tie.Need-returns
+both-no c = rw (nonzero-none _ c.if-x-gt0.false, nonzero-none _ c.if-y-gt0.false)
 
-pub disjunction-spec : {M : Type 1} → statement M
-disjunction-spec = tie.close (tie.spec first-yes second-yes both-no)
+pub disjunction_spec : {M : Type 1} → statement M
+disjunction_spec = tie.close (tie.spec first-yes second-yes both-no)

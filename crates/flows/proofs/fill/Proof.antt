@@ -22,38 +22,34 @@ turn cap t k state values₀ values i x h inv e =
     ap (λ (l : List ℕ). set l i x) inv
     ∙ flows-store cap t k state i x values₀ h (e ∙ ap (λ (l : List ℕ). value_at cap t k state l i) before)
 
-abbrev invariant-loop : tie.invariant-loop
+abbrev invariant-loop : tie.invariant-loop-i
 invariant-loop cap table n state values₀ tick ps i₀ values i =
     (i ≤ n) × (length values ≡ length values₀) × (values ≡ flows cap table tick state i ++ drop i values₀)
 
-abbrev decreases-loop : tie.decreases-loop
+abbrev decreases-loop : tie.decreases-loop-i
 decreases-loop cap table n state values₀ tick ps i₀ values i = n - i
 
--- The start, from the loop.
-abbrev start : tie.At-loop invariant-loop decreases-loop → tie.Start invariant-loop decreases-loop
-start c = c.before.before.before.before.before
-
-loop-holds : tie.Need-loop-init invariant-loop decreases-loop
+loop-holds : tie.Need-loop-i-init invariant-loop decreases-loop
 loop-holds c =
-    let args = c.before.before.before.before.args in
+    let args = c.args in
     let none = flows-none args.cap args.table.now args.tick args.state.now in
     (omega arith, refl, ap (λ (l : List ℕ). l ++ args.values.now) (sym none))
 
-slice-aggregate-value : tie.Need-slice-aggregate-value invariant-loop decreases-loop
+slice-aggregate-value : tie.Need-slice_bounds-value-end-in-loop-i invariant-loop decreases-loop
 slice-aggregate-value c = sym (length-take-le _ _ (omega arith))
 
-loop-again : tie.Need-loop-preserved invariant-loop decreases-loop
+loop-again : tie.Need-loop-i-preserved invariant-loop decreases-loop
 loop-again c =
-    let inv = c.before.before.before.before.before.loop.invariant in
-    (omega arith, rw length-set inv.1, turn _ _ _ _ _ _ _ _ (omega arith) inv.2 c.value.ensures)
+    let inv = c.before.before.before.before.before.loop-i.invariant in
+    (omega arith, rw length-set inv.1, turn _ _ _ _ _ _ _ _ (omega arith) inv.2 c.value-v.ensures)
 
-same_length : tie.Need-same-length invariant-loop decreases-loop
-same_length c = c.before.loop.invariant.1
+same_length : tie.Need-shape_of-values invariant-loop decreases-loop
+same_length c = c.loop-i.invariant.1
 
 returns : tie.Need-returns invariant-loop decreases-loop
 returns c =
-    let loop = c.before.loop in
-    let z : loop.i ≡ (start c.before).args.n = omega arith in
+    let loop = c.loop-i in
+    let z : loop.i ≡ c.args.n = omega arith in
     rw z at loop.invariant.2
 
 pub fill_spec : {M : Type 1} → statement M

@@ -7,29 +7,24 @@ use borrow.Author.Rules.{rules}
 use Rattle.flows.proofs.fresh_state.Statement.{statement}
 use Rattle.flows.proofs.fresh_state.Tie as tie
 
--- The check, from where it is known to be passed.
-abbrev checked : tie.After-enum-told → tie.After-check-fresh
-checked c = c.before.before
-
 reset-requires : tie.Need-reset-requires
 reset-requires c κs =
-    let told = c.before.enum_told.given.1 in
-    let p = fresh-passed _ _ _ _ (sym (checked c.before).check-fresh.ensures ∙ told) in
+    let told = c.in_default.is in
+    let p = fresh-passed _ _ _ _ (sym c.check_fresh.ensures ∙ told) in
     (p.0.whole, p.1)
 
-made : tie.Need-returns
+made : tie.Need-returns-in_default
 unfolding freshened
 made c =
-    let passed = c.before.before.before.before in
-    rw (← (checked passed).check-fresh.ensures, passed.enum_told.given.1)
-    (ap (after_fresh Made) c.before.before.reset.ensures)
+    rw (← c.check_fresh.ensures, c.in_default.is)
+    (ap (after_fresh Made) c.reset.ensures)
 
-refused : tie.Need-returns-2
+refused : tie.Need-returns
 unfolding freshened
-refused c = rw (← c.before.before.before.check-fresh.ensures, c.before.number.given.1)
+refused c = rw (← c.check_fresh.ensures, c.in-Refused.is)
 
-pub fresh-state-spec : {M : Type 1} → statement M
-fresh-state-spec =
+pub fresh_state_spec : {M : Type 1} → statement M
+fresh_state_spec =
     tie.close
     (tie.spec
     (λ c κs. search rules)

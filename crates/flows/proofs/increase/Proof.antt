@@ -6,17 +6,17 @@ use borrow.Author.Rules.{rules}
 use Rattle.flows.proofs.increase.Statement.{statement}
 use Rattle.flows.proofs.increase.Tie as tie
 
-not-increased : tie.Need-returns
+not-increased : tie.Need-returns-then-y-eq0
 unfolding increased
-not-increased c = rw c.if1.true
+not-increased c = rw c.if-y-eq0.true
 
-below-cap : tie.Need-returns-2
+below-cap : tie.Need-returns-then-x-cap
 unfolding increased
-below-cap c = rw (nonzero-pos c.before.before.args.y (omega arith)) (omega arith)
+below-cap c = rw (nonzero-pos c.args.y (omega arith)) (omega arith)
 
-at_cap : tie.Need-returns-3
+at_cap : tie.Need-returns-else-x-cap
 unfolding increased
-at_cap c = rw (nonzero-pos c.before.before.args.y (omega arith)) (omega arith)
+at_cap c = rw (nonzero-pos c.args.y (omega arith)) (omega arith)
 
-pub increase-spec : {M : Type 1} → statement M
-increase-spec = tie.close (tie.spec not-increased (λ c. search rules) below-cap at_cap)
+pub increase_spec : {M : Type 1} → statement M
+increase_spec = tie.close (tie.spec not-increased (λ c. search rules) below-cap at_cap)

@@ -5,11 +5,11 @@ use borrow.Author.Rules.{rules}
 use Rattle.flows.proofs.initial_value.Statement.{statement}
 use Rattle.flows.proofs.initial_value.Tie as tie
 
-a-count : tie.Need-returns
-a-count c = initial-count _ _ (sym c.before.is-count.ensures ∙ c.if1.true)
+a-count : tie.Need-returns-then-is_count
+a-count c = initial-count _ _ (sym c.is_count.ensures ∙ c.if-is_count.true)
 
-a-boolean : tie.Need-returns-2
-a-boolean c = initial-boolean _ _ (sym c.before.is-count.ensures ∙ c.if1.false)
+a-boolean : tie.Need-returns-else-is_count
+a-boolean c = initial-boolean _ _ (sym c.is_count.ensures ∙ c.if-is_count.false)
 
-pub initial-value-spec : {M : Type 1} → statement M
-initial-value-spec = tie.close (tie.spec (λ c κs. search rules) a-count a-boolean)
+pub initial_value_spec : {M : Type 1} → statement M
+initial_value_spec = tie.close (tie.spec (λ c κs. search rules) a-count a-boolean)

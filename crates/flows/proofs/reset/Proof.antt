@@ -10,23 +10,22 @@ use Rattle.flows.proofs.Buffers.{Setting, set-none, set-memory, set_other, set_a
 use Rattle.flows.proofs.reset.Statement.{statement}
 use Rattle.flows.proofs.reset.Tie as tie
 
-abbrev invariant-loop : tie.invariant-loop
+abbrev invariant-loop : tie.invariant-loop-i
 invariant-loop table n state₀ i₀ state i = Setting table (initial_at table) n state₀ state i
 
-abbrev decreases-loop : tie.decreases-loop
+abbrev decreases-loop : tie.decreases-loop-i
 decreases-loop table n state₀ i₀ state i = n - i
 
-loop-again : tie.Need-loop-preserved invariant-loop decreases-loop
+loop-again : tie.Need-loop-i-preserved invariant-loop decreases-loop
 loop-again c =
-    let turn = c.before.before.before.before in
-    let memory = sym c.before.is-memory.ensures in
+    let memory = sym c.is_memory.ensures in
     ⊎_elim
-    (λ w. set-memory turn.loop.invariant _ (omega arith) (memory ∙ w.0.taken) w.2.ensures w.3)
-    (λ w. set_other turn.loop.invariant (omega arith) (memory ∙ w.0.left) w.1)
-    c.if1.branch
+    (λ w. set-memory c.loop-i.invariant _ (omega arith) (memory ∙ w.0.true) w.2.ensures w.3)
+    (λ w. set_other c.loop-i.invariant (omega arith) (memory ∙ w.0.false) w.1)
+    c.if-is_memory.branch-raw
 
-pub reset-spec : {M : Type 1} → statement M
-reset-spec =
+pub reset_spec : {M : Type 1} → statement M
+reset_spec =
     tie.close
     (tie.spec
     invariant-loop
@@ -46,5 +45,5 @@ reset-spec =
     (λ c. omega arith)
     (λ c. omega arith)
     loop-again
-    (λ c. c.before.loop.invariant.long)
-    (λ c. set_all c.before.loop.invariant (omega arith)))
+    (λ c. c.loop-i.invariant.long)
+    (λ c. set_all c.loop-i.invariant (omega arith)))

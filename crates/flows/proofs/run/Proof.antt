@@ -16,10 +16,6 @@ use borrow.Author.Rules.{rules}
 use Rattle.flows.proofs.run.Statement.{statement}
 use Rattle.flows.proofs.run.Tie as tie
 
--- Where the flows are filled in, from where the state is moved on.
-abbrev filled : tie.After-advance → tie.After-fill
-filled c = c.before.before.before.before.before
-
 whole : (cap : ℕ) (t : List ℕ) (n : ℕ) (k : Tick) (state₀ values₀ state values : List ℕ) (v : ℕ)
     → values ≡ flows cap t k state₀ n ++ drop n values₀ → state ≡ next_state t (take n values) n state₀
     → v ≡ answer_of n (number_at (take n values))
@@ -30,16 +26,15 @@ whole cap t n k state₀ values₀ state values v ev es ea =
     let first : take n values ≡ fs = ap (take n) ev ∙ take_at fs (drop n values₀) n (length-flows cap t k state₀ n) in
     rw (ea, es, first, ev)
 
-slice-aggregate-flows : tie.Need-slice-aggregate-flows
+slice-aggregate-flows : tie.Need-slice_bounds-flows-end-2
 slice-aggregate-flows c = sym (length-take-le _ _ (omega arith))
 
-answer-of-requires : tie.Need-answer-of-requires
+answer-of-requires : tie.Need-answer_of-requires
 answer-of-requires c κs = (omega arith, simp length-take (omega arith))
 
 returns : tie.Need-returns
 returns c =
-    let moved = c.before.before.before in
-    whole _ _ _ _ _ _ _ _ _ (filled moved).fill.ensures moved.advance.ensures c.answer-of.ensures
+    whole _ _ _ _ _ _ _ _ _ (c.before.before.before.before.before.before.before.before).fill.ensures c.advance.ensures c.answer_of.ensures
 
 pub run_spec : {M : Type 1} → statement M
 run_spec =

@@ -8,11 +8,11 @@ use borrow.Author.Rules.{rules}
 use Rattle.flows.proofs.signal_at.Statement.{statement}
 use Rattle.flows.proofs.signal_at.Tie as tie
 
-a-signal : tie.Need-returns
+a-signal : tie.Need-returns-then-j-lt-SIGNALS
 a-signal c = sym (truth-nonzero _ (omega arith))
 
-past-signals : tie.Need-returns-2
-past-signals c = rw (div-eq_of_lt (lt_of_lt_of_le c.before.ranges.signals.fits (pow_mono c.if1.false)))
+past-signals : tie.Need-returns-else-j-lt-SIGNALS
+past-signals c = rw (div-eq_of_lt (lt_of_lt_of_le c.ranges.signals.fits (pow_mono c.if-j-lt-SIGNALS.false)))
 
-pub signal-at-spec : {M : Type 1} → statement M
-signal-at-spec = tie.close (tie.spec (λ c. search rules) (λ c. search rules) a-signal past-signals)
+pub signal_at_spec : {M : Type 1} → statement M
+signal_at_spec = tie.close (tie.spec (λ c. search rules) (λ c. search rules) a-signal past-signals)

@@ -6,28 +6,19 @@ use borrow.Author.Rules.{rules}
 use Rattle.flows.proofs.step.Statement.{statement}
 use Rattle.flows.proofs.step.Tie as tie
 
--- The check, from where it is known to be passed; and that place, from the run.
-abbrev checked : tie.After-enum-told → tie.After-check-step
-checked c = c.before.before
-
-abbrev passed : tie.After-run → tie.After-enum-told
-passed c = c.before.before.before
-
 run-requires : tie.Need-run-requires
 run-requires c κs =
-    let told = c.before.before in
-    let p = step-passed _ _ _ _ _ _ _ (sym (checked told).check-step.ensures ∙ told.enum_told.given.1) in
+    let p = step-passed _ _ _ _ _ _ _ (sym c.check_step.ensures ∙ c.in_default.is) in
     (p.0.closed, p.0.whole, p.1, p.2)
 
-verdict : tie.Need-returns
+verdict : tie.Need-returns-in_default
 unfolding stepped
 verdict c =
-    let ran = c.before.before.before.before in
-    rw (← (checked (passed ran)).check-step.ensures, (passed ran).enum_told.given.1) ran.run.ensures
+    rw (← c.check_step.ensures, c.in_default.is) c.run.ensures
 
-refused : tie.Need-returns-2
+refused : tie.Need-returns
 unfolding stepped
-refused c = rw (← c.before.before.before.check-step.ensures, c.before.number.given.1)
+refused c = rw (← c.check_step.ensures, c.in-Refused.is)
 
 pub step_spec : {M : Type 1} → statement M
 step_spec =

@@ -6,19 +6,14 @@ use borrow.Author.Rules.{rules}
 use Rattle.flows.proofs.step_passed.Statement.{statement}
 use Rattle.flows.proofs.step_passed.Tie as tie
 
--- The start, from where the arrays are lent to `run`.
-abbrev start : tie.After-run-arg2 → tie.Start
-start c = c.before.before.before.before.before
-
 run-requires : tie.Need-run-requires
 run-requires c κs =
-    let p = step-passed _ _ _ _ _ _ _ (start c).requires in
+    let p = step-passed _ _ _ _ _ _ _ c.requires in
     (p.0.closed, p.0.whole, p.1, p.2)
 
 returns : tie.Need-returns
 returns c =
-    let ran = c.before.before.before.before in
-    ran.run.ensures ∙ sym (step-ticks _ _ _ _ _ _ _ (start ran.before).requires)
+    c.run.ensures ∙ sym (step-ticks _ _ _ _ _ _ _ c.requires)
 
-pub step-passed-spec : {M : Type 1} → statement M
-step-passed-spec = tie.close (tie.spec run-requires (λ c. search rules) (λ c. search rules) returns)
+pub step_passed_spec : {M : Type 1} → statement M
+step_passed_spec = tie.close (tie.spec run-requires (λ c. search rules) (λ c. search rules) returns)

@@ -11,95 +11,84 @@ use borrow.Author.Rules.{rules}
 use Rattle.flows.proofs.value.Statement.{statement}
 use Rattle.flows.proofs.value.Tie as tie
 
--- Where the kind is read, from where all of the equation is; and the start of the function.
-abbrev kind-read : tie.After-shared-slice-known6 → tie.After-shared-slice-known3
-kind-read c = c.before.before.before
-
-abbrev entry : tie.After-shared-slice-known6 → tie.Start
-entry c = (kind-read c).before.before.before
-
-of-signal : tie.Need-returns
+of-signal : tie.Need-returns-in-0
 unfolding value_of kind_of
-of-signal c = rw c.before.match.keys1 c.signal-at.ensures
+of-signal c = rw c.in-0.is c.signal_at.ensures
 
-of-start : tie.Need-returns-2
+of-start : tie.Need-returns-in-1
 unfolding value_of kind_of
 of-start c =
-    let match = c.before.before in
-    let tick = (entry match.before).args.tick in
-    rw match.match.keys2 (c.number.ensures ∙ ap truth (positive tick.start))
+    let tick = c.args.tick in
+    rw c.in-1.is (c.number.ensures ∙ ap truth (positive tick.start))
 
-of-constant : tie.Need-returns-3
+of-constant : tie.Need-returns-in-2
 unfolding value_of kind_of
-of-constant c = rw c.match.keys3
+of-constant c = rw c.in-2.is
 
-of-not : tie.Need-returns-4
+of-not : tie.Need-returns-in-3
 unfolding value_of kind_of
 of-not c =
-    let x = c.before.number_at in
-    rw (c.before.before.match.keys4, ← x.ensures) (c.number2.ensures ∙ ap truth (is_zero x.result))
+    let x = c.number_at in
+    rw (c.in-3.is, ← x.ensures) (c.number-in-3.ensures ∙ ap truth (is_zero x.result))
 
-of_and : tie.Need-returns-5
+of_and : tie.Need-returns-in-4
 unfolding value_of kind_of
 of_and c =
-    let x = c.before.before.number-at2 in
-    let y = c.before.number-at3 in
-    rw (c.before.before.before.match.keys5, ← x.ensures, ← y.ensures) c.conjunction.ensures
+    let x = c.number_at-in-4 in
+    let y = c.number_at-in-4-2 in
+    rw (c.in-4.is, ← x.ensures, ← y.ensures) c.conjunction.ensures
 
-of_or : tie.Need-returns-6
+of_or : tie.Need-returns-in-5
 unfolding value_of kind_of
 of_or c =
-    let x = c.before.before.number-at4 in
-    let y = c.before.number-at5 in
-    rw (c.before.before.before.match.keys6, ← x.ensures, ← y.ensures) c.disjunction.ensures
+    let x = c.number_at-in-5 in
+    let y = c.number_at-in-5-2 in
+    rw (c.in-5.is, ← x.ensures, ← y.ensures) c.disjunction.ensures
 
-of-boolean-pre : tie.Need-returns-7
+of-boolean-pre : tie.Need-returns-in-6
 unfolding value_of kind_of
-of-boolean-pre c = rw c.match.keys7
+of-boolean-pre c = rw c.in-6.is
 
-of-count-pre : tie.Need-returns-8
+of-count-pre : tie.Need-returns-in-7
 unfolding value_of kind_of
-of-count-pre c = rw c.match.keys8
+of-count-pre c = rw c.in-7.is
 
-of-capped : tie.Need-returns-9
+of-capped : tie.Need-returns-in-8
 unfolding value_of kind_of
 of-capped c =
-    let x = c.before.before.number-at6 in
-    let y = c.before.number-at7 in
-    rw (c.before.before.before.match.keys9, ← x.ensures, ← y.ensures) c.increase.ensures
+    let x = c.number_at-in-8 in
+    let y = c.number_at-in-8-2 in
+    rw (c.in-8.is, ← x.ensures, ← y.ensures) c.increase.ensures
 
-of-if : tie.Need-returns-10
+of-if : tie.Need-returns-in-9
 unfolding value_of kind_of
 of-if c =
-    let x = c.before.before.number-at8 in
-    let y = c.before.number-at9 in
-    rw (c.before.before.before.match.keys10, ← x.ensures, ← y.ensures) c.gate.ensures
+    let x = c.number_at-in-9 in
+    let y = c.number_at-in-9-2 in
+    rw (c.in-9.is, ← x.ensures, ← y.ensures) c.gate.ensures
 
-of-compare-literal : tie.Need-returns-11
+of-compare-literal : tie.Need-returns-in-10
 unfolding value_of kind_of
 of-compare-literal c =
-    let x = c.before.before.number-at10 in
-    rw (c.before.before.before.match.keys11, ← x.ensures)
-    (c.number3.ensures ∙ ap truth c.before.compare.ensures)
+    let x = c.number_at-in-10 in
+    rw (c.in-10.is, ← x.ensures)
+    (c.number-in-10.ensures ∙ ap truth c.compare.ensures)
 
-of-compare-parameter : tie.Need-returns-12
+of-compare-parameter : tie.Need-returns-in-11
 unfolding value_of kind_of
 of-compare-parameter c =
-    let second = c.before.before in
-    let first = second.before.before in
-    let match = first.before in
-    let tick = (entry match.before).requires.1 in
-    rw (match.match.keys12, ← first.number-at11.ensures, ← tick, ← second.number-at12.ensures)
-    (c.number4.ensures ∙ ap truth c.before.compare2.ensures)
+    let tick = c.requires.1 in
+    rw (c.in-11.is, ← c.number_at-in-11.ensures, ← tick, ← c.number_at-in-11-2.ensures)
+    (c.number-in-11.ensures ∙ ap truth c.compare-in-11.ensures)
 
-of-velocity : tie.Need-returns-13
+of-velocity : tie.Need-returns-in-12
 unfolding value_of kind_of
 of-velocity c =
-    rw c.before.before.match.keys13 (c.number5.ensures ∙ ap truth c.before.compare3.ensures)
+    rw c.in-12.is (c.number-in-12.ensures ∙ ap truth c.compare-in-12.ensures)
 
-of-no-kind : tie.Need-returns-14
+of-no-kind : tie.Need-returns-in_default
 unfolding value_of
-of-no-kind c = rw (kind-beyond _ (none_below _ kind_count c.match.rest))
+of-no-kind c = rw (kind-beyond _ (none_below _ kind_count c.in_default.in_default-own.rest))
 
 pub value_spec : {M : Type 1} → statement M
 value_spec =

@@ -8,5 +8,5 @@ returns : tie.Need-returns
 unfolding padded forms
 returns c = refl
 
-pub all-forms-spec : {M : Type 1} → statement M
-all-forms-spec = tie.close (tie.spec returns)
+pub all_forms_spec : {M : Type 1} → statement M
+all_forms_spec = tie.close (tie.spec returns)

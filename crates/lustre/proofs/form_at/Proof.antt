@@ -9,8 +9,8 @@ returns : tie.Need-returns
 unfolding padded forms form_at
 returns c = refl
 
-pub form-at-spec : {M : Type 1} → statement M
-form-at-spec =
+pub form_at_spec : {M : Type 1} → statement M
+form_at_spec =
     tie.close
     (tie.spec
     (λ c. search rules)

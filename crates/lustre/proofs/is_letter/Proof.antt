@@ -3,14 +3,14 @@ use borrow.Author.Tests.{le-leb, lt-leb}
 use Rattle.lustre.proofs.is_letter.Statement.{statement}
 use Rattle.lustre.proofs.is_letter.Tie as tie
 
-from-a : tie.Need-returns
-from-a c = simp (le-leb _ _ c.if1.true)
+from-a : tie.Need-returns-then-x-ge65
+from-a c = simp (le-leb _ _ c.if-x-ge65.true)
 
-below-a : tie.Need-returns-2
-below-a c = simp (lt-leb _ _ c.if1.false)
+below-a : tie.Need-returns-else-x-ge65
+below-a c = simp (lt-leb _ _ c.if-x-ge65.false)
 
-pub is-letter-spec : {M : Type 1} → statement M
-is-letter-spec =
+pub is_letter_spec : {M : Type 1} → statement M
+is_letter_spec =
     tie.close
     (tie.spec
     from-a

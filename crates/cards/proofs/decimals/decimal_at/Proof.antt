@@ -4,14 +4,14 @@ use Rattle.cards.proofs.Numbers.{number_is, number-above, number-missing}
 use Rattle.cards.proofs.decimals.decimal_at.Statement.{statement}
 use Rattle.cards.proofs.decimals.decimal_at.Tie as tie
 
-pub decimal-at-spec : {M : Type 1} → statement M
-decimal-at-spec =
+pub decimal_at_spec : {M : Type 1} → statement M
+decimal_at_spec =
     tie.close
     (tie.spec
     (λ c κs. search rules)
     (λ c. search rules)
     (λ c. search rules)
     (λ c. search rules)
-    (λ c. number_is c.before.before.before.read-decimal.ensures c.before.value.given.1)
-    (λ c. number-above c.before.before.before.read-decimal.ensures c.before.next.given.1)
-    (λ c. number-missing c.before.before.read-decimal.ensures c.enum_told.given.1))
+    (λ c. number_is c.read_decimal.ensures c.in-Is.is)
+    (λ c. number-above c.read_decimal.ensures c.in-Above.is)
+    (λ c. number-missing c.read_decimal.ensures c.in-Missing.is))

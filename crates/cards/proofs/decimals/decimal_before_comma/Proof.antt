@@ -5,32 +5,25 @@ use Rattle.cards.proofs.Numbers.{comma-missing, comma-short, comma-unlike, comma
 use Rattle.cards.proofs.decimals.decimal_before_comma.Statement.{statement}
 use Rattle.cards.proofs.decimals.decimal_before_comma.Tie as tie
 
--- Where the number is read, from where its value is known.
-abbrev read : tie.After-value → tie.After-decimal-at
-read c = c.before.before
-
 -- No number; no byte after it; another byte than a comma; a comma.
-no_number : tie.Need-returns
-no_number c = comma-missing c.before.before.decimal-at.ensures c.enum_told.given.1
+no_number : tie.Need-returns-in_default
+no_number c = comma-missing c.decimal_at.ensures c.in_default.is
 
-no_byte : tie.Need-returns-2
+no_byte : tie.Need-returns-then-s-next
 no_byte c =
-    let value = c.before.before in
-    comma-short (read value).decimal-at.ensures value.value.given.1 c.if1.true
+    comma-short c.decimal_at.ensures c.in-Is.is c.if-s-next.true
 
-no-comma : tie.Need-returns-3
+no-comma : tie.Need-returns-then-s-next-ne44
 no-comma c =
-    let value = c.before.before.before.before in
-    comma-unlike (read value).decimal-at.ensures value.value.given.1 c.before.before.if1.false
-    c.if2.true
+    comma-unlike c.decimal_at.ensures c.in-Is.is c.if-s-next.false
+    c.if-s-next-ne44.true
 
-comma : tie.Need-returns-4
+comma : tie.Need-returns
 comma c =
-    let value = c.before.before.before.before in
-    comma-found (read value).decimal-at.ensures value.value.given.1 c.before.before.if1.false c.if2.false
+    comma-found c.decimal_at.ensures c.in-Is.is c.if-s-next.false c.if-s-next-ne44.false
 
-pub decimal-before-comma-spec : {M : Type 1} → statement M
-decimal-before-comma-spec =
+pub decimal_before_comma_spec : {M : Type 1} → statement M
+decimal_before_comma_spec =
     tie.close
     (tie.spec
     (λ c κs. search rules)

@@ -8,30 +8,30 @@ use Rattle.cards.proofs.Numbers.{Matching, match-all, match-short, match-miss, m
 use Rattle.cards.proofs.decimals.has_prefix.Statement.{statement}
 use Rattle.cards.proofs.decimals.has_prefix.Tie as tie
 
-abbrev invariant-loop : tie.invariant-loop
+abbrev invariant-loop : tie.invariant-loop-k
 invariant-loop s w k₀ k = Matching w s k
 
-abbrev decreases-loop : tie.decreases-loop
+abbrev decreases-loop : tie.decreases-loop-k
 decreases-loop s w k₀ k = length w - k
 
-too_short : tie.Need-returns invariant-loop decreases-loop
-too_short c = match-short c.before.before.loop.invariant (omega arith) (omega arith)
+too_short : tie.Need-returns-then-s-k invariant-loop decreases-loop
+too_short c = match-short c.loop-k.invariant (omega arith) (omega arith)
 
-unlike : tie.Need-returns-2 invariant-loop decreases-loop
+unlike : tie.Need-returns-then-s-k-2 invariant-loop decreases-loop
 unlike c =
-    let loop = c.before.before.before.before.before.loop in
-    match-miss loop.invariant (omega arith) (omega arith) c.if2.true
+    let loop = c.loop-k in
+    match-miss loop.invariant (omega arith) (omega arith) c.if-s-k-2.true
 
-loop-again : tie.Need-loop-preserved invariant-loop decreases-loop
+loop-again : tie.Need-loop-k-preserved invariant-loop decreases-loop
 loop-again c =
-    let loop = c.before.before.before.before.before.loop in
-    match-more loop.invariant (omega arith) (omega arith) c.if2.false
+    let loop = c.loop-k in
+    match-more loop.invariant (omega arith) (omega arith) c.if-s-k-2.false
 
-all_alike : tie.Need-returns-3 invariant-loop decreases-loop
-all_alike c = match-all c.before.loop.invariant (omega arith)
+all_alike : tie.Need-returns invariant-loop decreases-loop
+all_alike c = match-all c.loop-k.invariant (omega arith)
 
-pub has-prefix-spec : {M : Type 1} → statement M
-has-prefix-spec =
+pub has_prefix_spec : {M : Type 1} → statement M
+has_prefix_spec =
     tie.close
     (tie.spec
     invariant-loop
