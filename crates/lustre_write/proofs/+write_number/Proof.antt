@@ -59,8 +59,8 @@ module _ (t : ℕ) where
       number_more _ _ _ _ _ more.if1.left more.before.before.fits.x.fits
       (others last).write-number.ensures last.store2.ensures
 
-pub +write-number-spec : {M : Type 1} → statement M
-+write-number-spec = close μ-write-number λ t. write-number-lts.spec
+pub +write_number_spec : {M : Type 1} → statement M
++write_number_spec = close μ-write-number λ t. write-number-lts.spec
     (calls t)
     (write-number-at t)
     write-number.Post
