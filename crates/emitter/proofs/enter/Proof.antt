@@ -5,17 +5,13 @@ use Rattle.emitter.proofs.Stack.{entered}
 use Rattle.emitter.proofs.enter.Statement.{statement}
 use Rattle.emitter.proofs.enter.Tie as tie
 
-abbrev start : tie.After-values_at-vs → tie.Start
-start c = c.before.before.before.before.before
-
 add-node-requires : tie.Need-add_node-requires
 add-node-requires c κs =
-    let entry = start c.before.before.before in
-    (entry.requires.0, rw entry.requires.1 (node-sized entry.args.x.kind))
+    (c.requires.0, rw c.requires.1 (node-sized c.args.x.kind))
 
 returns : tie.Need-returns
 returns c =
-    entered (start c.before.before.before.before.before.before.before.before).requires.1 c.values_at-vs.ensures c.add_node.ensures
+    entered c.requires.1 c.values_at-vs.ensures c.add_node.ensures
 
 pub enter_spec : {M : Type 1} → statement M
 enter_spec =

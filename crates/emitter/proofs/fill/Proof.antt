@@ -43,7 +43,7 @@ loop-again c =
     let test = c.loop-j-test in
     let loop = c.loop-j in (
       omega (arith, test.true),
-      put.auto.0 ∙ loop.invariant.1,
+      put.auto.t ∙ loop.invariant.1,
       rows_more args.t.now args.vs.now args.o loop.j args.d.rows _
           (omega (arith, test.true, c.requires.1.few, c.requires.1.room)) loop.invariant.2 put.ensures,
     )

@@ -20,7 +20,7 @@ loop-holds c = marking-none
 loop-again : tie.Need-loop-k-preserved invariant-loop decreases-loop
 loop-again c =
     marking-one c.loop-k.invariant c.loop-k-test.true c.record_at-x.ensures
-    c.mark.ensures c.mark.auto.0
+    c.mark.ensures c.mark.auto.named
 
 returns : tie.Need-returns invariant-loop decreases-loop
 returns c = marking-all c.loop-k.invariant c.loop-k-test.false
@@ -32,7 +32,7 @@ mark_all_spec =
     invariant-loop
     decreases-loop
     loop-holds
-    (λ c. omega (arith, c.well-formed.0.1))
+    (λ c. omega (arith, c.well_formed.0.1))
     (λ c κs. omega arith)
     (λ c κs. search rules)
     (λ c. omega arith)

@@ -19,7 +19,7 @@ loop-holds c = testing-none
 loop-again : tie.Need-loop-k-preserved invariant-loop decreases-loop
 loop-again c =
     testing-one c.loop-k.invariant c.loop-k-test.true c.record_at-x.ensures
-    c.put_test-next.ensures c.put_test-next.auto.0
+    c.put_test-next.ensures c.put_test-next.auto.table
 
 returns : tie.Need-returns invariant-loop decreases-loop
 returns c = testing-all c.loop-k.invariant c.loop-k-test.false

@@ -4,18 +4,15 @@ use Rattle.emitter.proofs.Header.{signal-named, signal-other}
 use Rattle.emitter.proofs.settle.Statement.{statement}
 use Rattle.emitter.proofs.settle.Tie as tie
 
-abbrev start : tie.After-number_at-flag → tie.Start
-start c = c.before.before.before.before
-
 not_named : tie.Need-returns-then-flag-eq0
 not_named c =
-    let args = (start c.before.before.before.before.before).args in
+    let args = c.args in
     signal-other args.table.now args.named.now args.j args.next c.number_at-flag.ensures
     c.if-flag-eq0.true c.store.ensures
 
 is-named : tie.Need-returns
 is-named c =
-    let args = (start c.before.before.before.before.before.before.before.before.before).args in
+    let args = c.args in
     signal-named args.table.now args.named.now args.j args.next c.number_at-flag.result
     c.number_at-flag.ensures c.if-flag-eq0.false c.store.ensures c.put.ensures
 

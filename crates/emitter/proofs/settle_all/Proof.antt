@@ -20,8 +20,8 @@ loop-holds c = settling-none
 
 loop-again : tie.Need-loop-j-preserved invariant-loop decreases-loop
 loop-again c =
-    settling-one c.loop-j.invariant c.loop-j-test.true c.settle-next.ensures c.settle-next.auto.0
-    c.settle-next.auto.1.0
+    settling-one c.loop-j.invariant c.loop-j-test.true c.settle-next.ensures c.settle-next.auto.table
+    c.settle-next.auto.named
 
 same_length : tie.Need-shape_of-table invariant-loop decreases-loop
 same_length c =
