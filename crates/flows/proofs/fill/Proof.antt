@@ -40,7 +40,7 @@ slice-aggregate-value c = sym (length-take-le _ _ (omega arith))
 
 loop-again : tie.Need-loop-i-preserved invariant-loop decreases-loop
 loop-again c =
-    let inv = c.before.before.before.before.before.loop-i.invariant in
+    let inv = c.loop-i.invariant in
     (omega arith, rw length-set inv.1, turn _ _ _ _ _ _ _ _ (omega arith) inv.2 c.value-v.ensures)
 
 same_length : tie.Need-shape_of-values invariant-loop decreases-loop

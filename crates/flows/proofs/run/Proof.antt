@@ -34,7 +34,7 @@ answer-of-requires c κs = (omega arith, simp length-take (omega arith))
 
 returns : tie.Need-returns
 returns c =
-    whole _ _ _ _ _ _ _ _ _ (c.before.before.before.before.before.before.before.before).fill.ensures c.advance.ensures c.answer_of.ensures
+    whole _ _ _ _ _ _ _ _ _ c.fill.ensures c.advance.ensures c.answer_of.ensures
 
 pub run_spec : {M : Type 1} → statement M
 run_spec =
