@@ -1,4 +1,5 @@
--- The first line of a card: it is an edition's line exactly if the test (`edition_of`) has the edition. Assumes nothing.
+-- The first line of a card: it is an edition's line exactly if the test (`edition_of`) has the edition. Assumes
+-- nothing.
 use mathlib.Core.Path.{◌≡◌, refl, ◌∙◌, sym, ap, subst}
 use mathlib.Core.Bool.{Bool, true, false, cond, false≢true}
 use mathlib.Core.List.Memᴰ

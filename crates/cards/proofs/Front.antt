@@ -3,7 +3,7 @@
 use mathlib.Core.Path.{◌≡◌, refl, ◌∙◌, sym, ap}
 use mathlib.Core.Bool.{Bool, true, false}
 use mathlib.Core.List.{List, [], ◌∷◌}
-use Prim.Native.Nat.{ℕ, zero, suc, ◌+◌, ◌-◌, ◌≤◌, ◌<◌}
+use Prim.Native.Nat.{ℕ, zero, suc, ◌+◌, ◌*◌, ◌-◌, ◌≤◌, ◌<◌}
 use native.Mathlib.Omega.{arith}
 use lib.Dec.{eqb, ltb}
 use lib.ListN.{length, get_or, take, drop, length-drop}
@@ -40,7 +40,7 @@ unfolding hexes line
 hexes-line start x [] e = refl
 hexes-line start x (b ∷ l) e =
     let p = not-failed (ltb 15 (hex_of b)) e in
-    rw (ne_eqb b line_end (not_end b p.0)) (ap (λ (r : List ℕ). b ∷ r) (hexes-line start _ l p.1))
+    rw (ne_eqb b line_end (not_end b p.0)) (ap (λ (r : List ℕ). b ∷ r) (hexes-line start (x * 16 + hex_of b) l p.1))
 
 plain-line : (l : List ℕ) {i j v : ℕ} → plain_tick l ≡ Is i j v → line l ≡ l
 unfolding plain_tick line

@@ -2,7 +2,6 @@
 -- nothing.
 use mathlib.Core.Path.{sym, ◌∙◌}
 use borrow.Author.Rules.{rules}
-use borrow.Author.Tests.{not-true, not-false}
 use Rattle.cards.specs.Numbers.{count_of}
 use Rattle.cards.proofs.count_line.Statement.{statement}
 use Rattle.cards.proofs.count_line.Tie as tie

@@ -4,7 +4,6 @@ use mathlib.Core.Path.{refl, sym, ◌∙◌, ap}
 use Prim.Native.Nat.{◌-◌}
 use native.Mathlib.Omega.{arith}
 use borrow.Author.Rules.{rules}
-use borrow.Author.Tests.{not-true, not-false}
 use Rattle.cards.specs.Numbers.{parameters_of}
 use Rattle.cards.specs.Says.{parameters_say}
 use Rattle.cards.proofs.Numbers.{Listing, listing-begun, listing-broken, listing-more}
@@ -22,7 +21,7 @@ no-prefix : tie.Need-returns-then-not-has_prefix invariant-loop decreases-loop
 unfolding parameters_of
 no-prefix c = (
   rw (c.plain.ensures.0, sym c.has_prefix.ensures ∙ c.if-not-has_prefix.true),
-  λ h. c.plain.ensures.1)
+  λ h. c.plain.ensures.1,
 )
 
 loop-holds : tie.Need-loop-i-init invariant-loop decreases-loop
@@ -31,14 +30,13 @@ loop-holds c =
 
 -- One of the first seven numbers: broken, or before a comma.
 early-broken : tie.Need-returns-in_default invariant-loop decreases-loop
-early-broken c =
-    (
-      rw c.plain-in_default.ensures.0
-          (ap parameters_say
-          (listing-broken c.loop-i.invariant (omega arith) c.decimal_before_comma.ensures
-          c.in_default.is)),
-      λ h. c.plain-in_default.ensures.1,
-    )
+early-broken c = (
+  rw c.plain-in_default.ensures.0
+      (ap parameters_say
+      (listing-broken c.loop-i.invariant (omega arith) c.decimal_before_comma.ensures
+      c.in_default.is)),
+  λ h. c.plain-in_default.ensures.1,
+)
 
 loop-again : tie.Need-loop-i-preserved invariant-loop decreases-loop
 loop-again c =
@@ -47,33 +45,30 @@ loop-again c =
 
 -- The eighth: broken, before another byte, at the end of the line.
 last-broken : tie.Need-returns-in_default-decimal_at invariant-loop decreases-loop
-last-broken c =
-    (
-      rw c.plain-in_default-decimal_at.ensures.0
-          (ap parameters_say
-          (listing_none c.loop-i.invariant (omega arith) c.decimal_at.ensures
-          c.in_default-decimal_at.is)),
-      λ h. c.plain-in_default-decimal_at.ensures.1,
-    )
+last-broken c = (
+  rw c.plain-in_default-decimal_at.ensures.0
+      (ap parameters_say
+      (listing_none c.loop-i.invariant (omega arith) c.decimal_at.ensures
+      c.in_default-decimal_at.is)),
+  λ h. c.plain-in_default-decimal_at.ensures.1,
+)
 
 bytes_after : tie.Need-returns-then-next-s invariant-loop decreases-loop
-bytes_after c =
-    (
-      rw c.plain-then-next-s.ensures.0
-          (ap parameters_say
-          (listing-not c.loop-i.invariant (omega arith) c.decimal_at.ensures
-          c.in-Is-decimal_at.is c.if-next-s.true)),
-      λ h. c.plain-then-next-s.ensures.1,
-    )
+bytes_after c = (
+  rw c.plain-then-next-s.ensures.0
+      (ap parameters_say
+      (listing-not c.loop-i.invariant (omega arith) c.decimal_at.ensures
+      c.in-Is-decimal_at.is c.if-next-s.true)),
+  λ h. c.plain-then-next-s.ensures.1,
+)
 
 eight-read : tie.Need-returns invariant-loop decreases-loop
-eight-read c =
-    (
-      ap parameters_say
-          (listing-last c.loop-i.invariant (omega arith) c.decimal_at.ensures
-          c.in-Is-decimal_at.is c.if-next-s.false),
-      λ h. absurd (h refl),
-    )
+eight-read c = (
+  ap parameters_say
+      (listing-last c.loop-i.invariant (omega arith) c.decimal_at.ensures
+      c.in-Is-decimal_at.is c.if-next-s.false),
+  λ h. absurd (h refl),
+)
 
 pub parameters_line_spec : {M : Type 1} → statement M
 parameters_line_spec =
@@ -81,7 +76,6 @@ parameters_line_spec =
     (tie.spec
     invariant-loop
     decreases-loop
-    (λ c. search rules)
     (λ c κs. search rules)
     (λ c κs. search rules)
     no-prefix

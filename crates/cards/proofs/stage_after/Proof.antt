@@ -36,7 +36,7 @@ stage_after_spec =
     (λ c κs. search rules)
     (λ c. search rules)
     (λ c κs. search rules)
-    (λ c ps l. rw (c.Stage-at.ensures, c.in-Edition.is))
+    (λ c ps l. rw (c.stage_at.ensures, c.in-Edition.is))
     (λ c ps l. rw (c.stage_at-in-Parameters.ensures, c.in-Parameters.is))
     (λ c ps l. rw (c.stage_at-in-Rule.ensures, c.in-Rule.is))
     (λ c ps l. rw (c.stage_at-in-Count.ensures, c.in-Count.is))

@@ -4,11 +4,11 @@ use Rattle.emitter.proofs.Stack.{before-is}
 use Rattle.emitter.proofs.before.Statement.{statement}
 use Rattle.emitter.proofs.before.Tie as tie
 
-before-other : tie.Need-returns-2
-before-other c = before-is c.before.args.n c.if1.false
+before-other : tie.Need-returns-else-n-eq0
+before-other c = before-is c.args.n c.if-n-eq0.false
 
-pub before-spec : {M : Type 1} → statement M
-before-spec =
+pub before_spec : {M : Type 1} → statement M
+before_spec =
     tie.close
     (tie.spec
     (λ c. search rules)

@@ -5,23 +5,13 @@ use Rattle.emitter.proofs.Stack.{entered}
 use Rattle.emitter.proofs.enter.Statement.{statement}
 use Rattle.emitter.proofs.enter.Tie as tie
 
--- The places of the code: the values are at hand; the start.
-abbrev valued : tie.After-vs → tie.After-values-at
-valued c = c.before.before.before
-
-abbrev start : tie.After-values-at → tie.Start
-start c = c.before.before.before.before.before
-
-add-node-requires : tie.Need-add-node-requires
+add-node-requires : tie.Need-add_node-requires
 add-node-requires c κs =
-    let entry = start (valued c) in
-    (entry.pre.0, rw entry.pre.1 (node-sized entry.args.x.kind))
+    (c.requires.0, rw c.requires.1 (node-sized c.args.x.kind))
 
 returns : tie.Need-returns
 returns c =
-    let call = c.before.before.before.before in
-    let values = valued call.before in
-    entered (start values).pre.1 values.values-at.ensures call.add-node.ensures
+    entered c.requires.1 c.values_at-vs.ensures c.add_node.ensures
 
 pub enter_spec : {M : Type 1} → statement M
 enter_spec =

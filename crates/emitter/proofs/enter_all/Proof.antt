@@ -10,60 +10,44 @@ use Rattle.emitter.proofs.Records.{Entering, entering-none, entering-one, enteri
 use Rattle.emitter.proofs.enter_all.Statement.{statement}
 use Rattle.emitter.proofs.enter_all.Tie as tie
 
-abbrev invariant-loop : tie.invariant-loop
+abbrev invariant-loop : tie.invariant-loop-i
 invariant-loop arena places table₀ tests next nodes stack₀ m₀ i₀ table stack m i =
     Entering arena places table₀ tests next table stack m i
 
-abbrev decreases-loop : tie.decreases-loop
+abbrev decreases-loop : tie.decreases-loop-i
 decreases-loop arena places table₀ tests next nodes stack₀ m₀ i₀ table stack m i = length arena - i
 
--- The places: a record is entered; its place is known; it is read; the turn begins.
-abbrev entered : tie.After-stack2 invariant-loop decreases-loop → tie.After-enter invariant-loop decreases-loop
-entered c = c.before.before.before
-
-abbrev placed : tie.After-stack invariant-loop decreases-loop → tie.After-place-of invariant-loop decreases-loop
-placed c = c.before.before.before
-
-abbrev read : tie.After-place-of invariant-loop decreases-loop → tie.After-record-from invariant-loop decreases-loop
-read c = c.before
-
-loop-holds : tie.Need-loop-init invariant-loop decreases-loop
+loop-holds : tie.Need-loop-i-init invariant-loop decreases-loop
 loop-holds c = entering-none refl
 
-slice-aggregate-enter : tie.Need-slice-aggregate-enter invariant-loop decreases-loop
-slice-aggregate-enter c = sym (read (placed c)).before.loop.inv.room
+slice-aggregate-enter : tie.Need-slice_bounds-enter-end invariant-loop decreases-loop
+slice-aggregate-enter c = sym c.loop-i.invariant.room
 
 -- There is room for one more node, and the node is the record's.
-enter-requires : tie.Need-enter-requires invariant-loop decreases-loop
+enter-requires : tie.Need-enter-m-requires invariant-loop decreases-loop
 enter-requires c κs =
-    let place = placed c in
-    let nodes = (read place).before.before.all-nodes in (
+    let nodes = c.all_nodes-nodes in (
       record { near = omega arith; tested = omega arith; low = omega arith },
-      node-found _ (read place).record-from.result.kind place.place_of.result _ nodes.ensures
-          place.place_of.ensures,
+      node-found _ c.record_from-x.result.kind c.place_of.result _ nodes.ensures
+          c.place_of.ensures,
     )
 
-same_length : tie.Need-same-length invariant-loop decreases-loop
+same_length : tie.Need-shape_of-table-then-arena-i invariant-loop decreases-loop
 same_length c =
-    let call = entered c.before in
-    call.enter.kept.0 ∙ (read (placed call.before)).before.loop.inv.same
+    c.enter-m.auto.table ∙ c.loop-i.invariant.same
 
-returns : tie.Need-returns invariant-loop decreases-loop
+returns : tie.Need-returns-then-arena-i invariant-loop decreases-loop
 returns c =
-    let call = entered c.before in
-    let record-read = read (placed call.before) in
-    entering-all record-read.before.loop.inv c.if1.true record-read.record-from.ensures
-    call.enter.ensures
+    entering-all c.loop-i.invariant c.if-arena-i.true c.record_from-x.ensures
+    c.enter-m.ensures
 
-loop-again : tie.Need-loop-preserved invariant-loop decreases-loop
+loop-again : tie.Need-loop-i-preserved invariant-loop decreases-loop
 loop-again c =
-    let call = entered c.before in
-    let record-read = read (placed call.before) in
-    entering-one record-read.before.loop.inv c.if1.false record-read.record-from.ensures
-    call.enter.ensures call.enter.kept.0 call.enter.kept.1.0
+    entering-one c.loop-i.invariant c.if-arena-i.false c.record_from-x.ensures
+    c.enter-m.ensures c.enter-m.auto.table c.enter-m.auto.stack
 
-pub enter-all-spec : {M : Type 1} → statement M
-enter-all-spec =
+pub enter_all_spec : {M : Type 1} → statement M
+enter_all_spec =
     tie.close
     (tie.spec
     invariant-loop

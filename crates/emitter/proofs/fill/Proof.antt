@@ -12,62 +12,48 @@ use Rattle.emitter.proofs.Equations.{equations-none, rows_more}
 use Rattle.emitter.proofs.fill.Statement.{statement}
 use Rattle.emitter.proofs.fill.Tie as tie
 
-abbrev invariant-loop : tie.invariant-loop
+abbrev invariant-loop : tie.invariant-loop-j
 invariant-loop t₀ o vs d rows j₀ t j =
     (j ≤ d.count) × (length t ≡ length t₀) × (t ≡ with_equations t₀ o (take j (map (looked_up vs) d.rows)))
 
-abbrev decreases-loop : tie.decreases-loop
+abbrev decreases-loop : tie.decreases-loop-j
 decreases-loop t₀ o vs d rows j₀ t j = d.count - j
 
--- The places: a turn has put its row; it has passed its test; it begins; the start.
-abbrev tested : tie.After-slice-known2 invariant-loop decreases-loop → tie.Then1 invariant-loop decreases-loop
-tested c = c.before.before.before.before.before
-
-abbrev turn : tie.After-slice-known2 invariant-loop decreases-loop → tie.After-struct-known invariant-loop decreases-loop
-turn c = (tested c).before
-
-abbrev start : tie.After-struct-known invariant-loop decreases-loop → tie.Start invariant-loop decreases-loop
-start c = c.before.before.before.before
-
 -- The row's place is no number out of range, there is such a row, and it is a known one.
-place-fits : tie.Need-overflow-add-put-row invariant-loop decreases-loop
+place-fits : tie.Need-overflow_add-o invariant-loop decreases-loop
 place-fits c =
-    let entry = start c.before.before in
-    omega (arith, entry.pre.0, entry.pre.1.few, c.before.if1.true)
+    omega (arith, c.requires.0, c.requires.1.few, c.loop-j-test.true)
 
-row-there : tie.Need-array-copy-out-put-row invariant-loop decreases-loop
-row-there c = omega (arith, (start c.before.before).pre.1.few, c.before.if1.true)
+row-there : tie.Need-bounds-rows-j invariant-loop decreases-loop
+row-there c = omega (arith, c.requires.1.few, c.loop-j-test.true)
 
-row-known : tie.Need-put-row-requires invariant-loop decreases-loop
+row-known : tie.Need-put_row-requires invariant-loop decreases-loop
 row-known c κs =
-    let here = c.before.before.before in
-    (start here).requires.1.known here.before.loop.j
+    c.requires.1.known c.loop-j.j
 
-loop-holds : tie.Need-loop-init invariant-loop decreases-loop
+loop-holds : tie.Need-loop-j-init invariant-loop decreases-loop
 loop-holds c =
-    let args = c.before.before.args in
+    let args = c.args in
     (omega arith, refl, sym (equations-none args.t.now args.o))
 
-loop-again : tie.Need-loop-preserved invariant-loop decreases-loop
+loop-again : tie.Need-loop-j-preserved invariant-loop decreases-loop
 loop-again c =
-    let here = turn c in
-    let args = (start here).args in
-    let put = c.before.before.put-row in
-    let test = (tested c).if1 in
-    let loop = here.before.loop in (
-      omega (arith, test.taken),
-      put.auto.0 ∙ loop.inv.1,
+    let args = c.args in
+    let put = c.put_row in
+    let test = c.loop-j-test in
+    let loop = c.loop-j in (
+      omega (arith, test.true),
+      put.auto.t ∙ loop.invariant.1,
       rows_more args.t.now args.vs.now args.o loop.j args.d.rows _
-          (omega (arith, test.taken, (start here).pre.1.few, (start here).pre.1.room)) loop.inv.2 put.ensures,
+          (omega (arith, test.true, c.requires.1.few, c.requires.1.room)) loop.invariant.2 put.ensures,
     )
 
 returns : tie.Need-returns invariant-loop decreases-loop
 returns c =
-    let here = c.before in
-    let args = (start here).args in
-    let loop = here.before.loop in
+    let args = c.args in
+    let loop = c.loop-j in
     let rows = map (looked_up args.vs.now) args.d.rows in
-    let all : loop.j ≡ args.d.count = omega (arith, c.if1.false, loop.invariant.0) in
+    let all : loop.j ≡ args.d.count = omega (arith, c.loop-j-test.false, loop.invariant.0) in
     loop.invariant.2
     ∙ ap (λ (n : ℕ). with_equations args.t.now args.o (take n rows)) all
 
@@ -83,8 +69,8 @@ fill_spec =
     (λ c. search rules)
     row-there
     row-known
-    (λ c. omega (arith, (start (turn c)).pre.1.few, (tested c).if1.true))
-    (λ c. omega (arith, (tested c).if1.true))
+    (λ c. omega (arith, c.requires.1.few, c.loop-j-test.true))
+    (λ c. omega (arith, c.loop-j-test.true))
     loop-again
-    (λ c. c.before.before.loop.invariant.1)
+    (λ c. c.loop-j.invariant.1)
     returns)

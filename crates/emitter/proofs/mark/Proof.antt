@@ -4,20 +4,15 @@ use Rattle.emitter.proofs.Records.{marked-signal, marked_other}
 use Rattle.emitter.proofs.mark.Statement.{statement}
 use Rattle.emitter.proofs.mark.Tie as tie
 
--- Where the record is known to be a signal's, from the end.
-abbrev is-signal : tie.After-slice-known2 → tie.Then1
-is-signal c = c.before.before.before.before.before
-
-of-signal : tie.Need-returns
+of-signal : tie.Need-returns-then-x-eq-SIGNAL
 of-signal c =
-    let test = is-signal c in
-    let args = test.before.before.before.args in
-    marked-signal args.x args.named.now test.if1.taken c.before.before.store.ensures
+    let args = c.args in
+    marked-signal args.x args.named.now c.if-x-eq-SIGNAL.true c.store.ensures
 
-of_other : tie.Need-returns-2
+of_other : tie.Need-returns-else-x-eq-SIGNAL
 of_other c =
-    let args = c.before.before.before.args in
-    marked_other args.x args.named.now c.if1.false
+    let args = c.args in
+    marked_other args.x args.named.now c.if-x-eq-SIGNAL.false
 
 pub mark_spec : {M : Type 1} → statement M
 mark_spec =

@@ -6,18 +6,18 @@ use Rattle.emitter.proofs.Stack.{operand_in, operand-out}
 use Rattle.emitter.proofs.operand.Statement.{statement}
 use Rattle.emitter.proofs.operand.Tie as tie
 
-is-there : tie.Need-returns
+is-there : tie.Need-returns-then-back-height
 is-there c =
-    let args = c.before.before.before.args in
-    c.number_at.ensures ∙ operand_in args.stack.now args.height args.back c.before.if1.true
+    let args = c.args in
+    c.number_at.ensures ∙ operand_in args.stack.now args.height args.back c.if-back-height.true
 
-is_none : tie.Need-returns-2
+is_none : tie.Need-returns
 is_none c =
-    let args = c.before.before.args in
-    operand-out args.stack.now args.height args.back c.if1.false
+    let args = c.args in
+    operand-out args.stack.now args.height args.back c.if-back-height.false
 
-pub operand-spec : {M : Type 1} → statement M
-operand-spec =
+pub operand_spec : {M : Type 1} → statement M
+operand_spec =
     tie.close
     (tie.spec
     (λ c. search rules)

@@ -4,14 +4,9 @@ use Rattle.emitter.proofs.Stack.{restacked}
 use Rattle.emitter.proofs.push.Statement.{statement}
 use Rattle.emitter.proofs.push.Tie as tie
 
--- Where the height is lowered, from the end.
-abbrev low : tie.After-slice-known2 → tie.After-lowered
-low c = c.before.before.before.before
-
 returns : tie.Need-returns
 returns c =
-    let height = low c in
-    restacked height.before.before.pre height.lowered.ensures c.before.before.store.ensures
+    restacked c.requires c.lowered-low.ensures c.store.ensures
 
 pub push_spec : {M : Type 1} → statement M
 push_spec =

@@ -7,27 +7,14 @@ use Rattle.emitter.proofs.Equations.{equation-one}
 use Rattle.emitter.proofs.put.Statement.{statement}
 use Rattle.emitter.proofs.put.Tie as tie
 
--- The places of the code where the table ends: after each number, the last one first, and the start.
-abbrev third : tie.After-store4 → tie.After-store3
-third c = c.before.before.before.before
-
-abbrev second : tie.After-store3 → tie.After-store2
-second c = c.before.before.before.before
-
-abbrev first : tie.After-store2 → tie.After-store
-first c = c.before.before.before.before
-
-abbrev start : tie.After-store → tie.Start
-start c = c.before.before.before.before
-
 -- Four numbers where there is room.
-in_table : tie.Need-returns
+in_table : tie.Need-returns-then-i-t
 in_table c = equation-one _ _ _ _ _ _
 
 -- At the end of the table each number by itself.
-at-end : tie.Need-returns-2
+at-end : tie.Need-returns
 at-end c =
-    let args = (start (first (second (third c.before.before)))).args in
+    let args = c.args in
     cc (equation-one args.t.now args.o args.kind args.a args.b args.c)
 
 pub put_spec : {M : Type 1} → statement M

@@ -6,21 +6,21 @@ use lib.ListN.{length}
 use Rattle.emitter.proofs.record_from.Statement.{statement}
 use Rattle.emitter.proofs.record_from.Tie as tie
 
-of-arena : tie.Need-returns
+of-arena : tie.Need-returns-then-i-arena
 of-arena c =
-    let args = c.before.before.before.args in
-    rw (le-leb (args.i + 4) (length args.arena.now) c.before.if1.true) c.record-at.ensures
+    let args = c.args in
+    rw (le-leb (args.i + 4) (length args.arena.now) c.if-i-arena.true) c.record_at.ensures
 
-of-whole : tie.Need-returns-2
+of-whole : tie.Need-returns
 of-whole c =
-    let args = c.before.before.args in
-    rw (lt-leb (args.i + 4) (length args.arena.now) c.if1.false)
+    let args = c.args in
+    rw (lt-leb (args.i + 4) (length args.arena.now) c.if-i-arena.false)
 
-pub record-from-spec : {M : Type 1} → statement M
-record-from-spec =
+pub record_from_spec : {M : Type 1} → statement M
+record_from_spec =
     tie.close
     (tie.spec
-    (λ c. omega (arith, c.before.requires))
-    (λ c κs. omega (arith, c.if1.true))
+    (λ c. omega (arith, c.requires))
+    (λ c κs. omega (arith, c.if-i-arena.true))
     of-arena
     of-whole)

@@ -9,50 +9,31 @@ use Rattle.emitter.proofs.Header.{starts-are, Settling, settling-none, settling-
 use Rattle.emitter.proofs.settle_all.Statement.{statement}
 use Rattle.emitter.proofs.settle_all.Tie as tie
 
-abbrev invariant-loop : tie.invariant-loop
+abbrev invariant-loop : tie.invariant-loop-j
 invariant-loop table₀ named₀ next₀ j₀ table named next j = Settling signal_count table₀ named₀ next₀ table named next j
 
-abbrev decreases-loop : tie.decreases-loop
+abbrev decreases-loop : tie.decreases-loop-j
 decreases-loop table₀ named₀ next₀ j₀ table named next j = signal_count - j
 
--- The places of the code: the second equation is put; the first; the start.
-abbrev second : tie.At-loop invariant-loop decreases-loop → tie.After-put2 invariant-loop decreases-loop
-second c = c.before.before.before
-
-abbrev first : tie.After-put2 invariant-loop decreases-loop → tie.After-put invariant-loop decreases-loop
-first c = c.before.before.before.before
-
-abbrev start : tie.After-put invariant-loop decreases-loop → tie.Start invariant-loop decreases-loop
-start c = c.before.before.before.before
-
--- A turn passed its test, from where its signal is settled.
-abbrev tested : tie.After-settle invariant-loop decreases-loop → tie.In-loop invariant-loop decreases-loop
-tested c = c.before.before.before
-
-loop-holds : tie.Need-loop-init invariant-loop decreases-loop
+loop-holds : tie.Need-loop-j-init invariant-loop decreases-loop
 loop-holds c = settling-none
 
-loop-again : tie.Need-loop-preserved invariant-loop decreases-loop
+loop-again : tie.Need-loop-j-preserved invariant-loop decreases-loop
 loop-again c =
-    let call = c.before.before.before.before in
-    let test = tested call in
-    settling-one test.before.loop.inv test.loop-test.taken call.settle.ensures call.settle.auto.0
-    call.settle.auto.1.0
+    settling-one c.loop-j.invariant c.loop-j-test.true c.settle-next.ensures c.settle-next.auto.table
+    c.settle-next.auto.named
 
-same_length : tie.Need-same-length invariant-loop decreases-loop
+same_length : tie.Need-shape_of-table invariant-loop decreases-loop
 same_length c =
-    let two = second c.before in
-    c.before.loop.invariant.same ∙ two.put2.kept.0 ∙ (first two).put.kept.0
+    c.loop-j.invariant.same ∙ c.put-2.auto.t ∙ c.put.auto.t
 
 returns : tie.Need-returns invariant-loop decreases-loop
 returns c =
-    let two = second c.before in
-    let one = first two in
-    settling-all (starts-are (start one).args.table.now one.put.ensures two.put2.ensures)
-    c.before.loop.invariant c.loop-test.false
+    settling-all (starts-are c.args.table.now c.put.ensures c.put-2.ensures)
+    c.loop-j.invariant c.loop-j-test.false
 
-pub settle-all-spec : {M : Type 1} → statement M
-settle-all-spec =
+pub settle_all_spec : {M : Type 1} → statement M
+settle_all_spec =
     tie.close
     (tie.spec
     invariant-loop
@@ -60,10 +41,10 @@ settle-all-spec =
     (λ c κs. search rules)
     (λ c κs. search rules)
     loop-holds
-    (λ c κs. (c.before.before.loop-test.true, omega arith))
+    (λ c κs. (c.loop-j-test.true, omega arith))
     (λ c. omega arith)
     (λ c. omega arith)
     loop-again
     same_length
-    (λ c. c.before.loop.invariant.same-named)
+    (λ c. c.loop-j.invariant.same-named)
     returns)

@@ -6,10 +6,10 @@ use lib.Seq.{set_out}
 use Rattle.emitter.proofs.store.Statement.{statement}
 use Rattle.emitter.proofs.store.Tie as tie
 
-no_room : tie.Need-returns-2
+no_room : tie.Need-returns-else-i-t
 no_room c =
-    let args = c.before.args in
-    sym (set_out args.t.now args.i args.v c.if1.false)
+    let args = c.args in
+    sym (set_out args.t.now args.i args.v c.if-i-t.false)
 
 pub store_spec : {M : Type 1} → statement M
 store_spec =

@@ -5,21 +5,14 @@ use Rattle.emitter.specs.Machine.{values_at}
 use Rattle.emitter.proofs.values_at.Statement.{statement}
 use Rattle.emitter.proofs.values_at.Tie as tie
 
--- The places of the code: after the first of the calls, and the start.
-abbrev begun : tie.After-comparison-of → tie.After-before2
-begun c = c.before.before.before.before.before
-
-abbrev start : tie.After-before2 → tie.Start
-start c = c.before.before.before
-
 returns : tie.Need-returns
 unfolding values_at
 returns c =
-    let o = (start (begun c)).args.m.next in
+    let o = c.args.m.next in
     cc (add-one o, add-two o, add-three o, add-four o)
 
-pub values-at-spec : {M : Type 1} → statement M
-values-at-spec =
+pub values_at_spec : {M : Type 1} → statement M
+values_at_spec =
     tie.close
     (tie.spec
     (λ c κs. search rules)

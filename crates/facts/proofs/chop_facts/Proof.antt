@@ -6,8 +6,8 @@ use Rattle.facts.proofs.chop_facts.Tie as tie
 returns : tie.Need-returns
 returns c = cc
 
-pub chop-facts-spec : {M : Type 1} → statement M
-chop-facts-spec =
+pub chop_facts_spec : {M : Type 1} → statement M
+chop_facts_spec =
     tie.close
     (tie.spec
     (λ c. search rules) (λ c κs. search rules) returns)

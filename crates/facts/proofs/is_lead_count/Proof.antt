@@ -6,5 +6,5 @@ use Rattle.facts.proofs.is_lead_count.Tie as tie
 returns : tie.Need-returns
 returns c = count-lead c.args.k c.requires
 
-pub is-lead-count-spec : {M : Type 1} → statement M
-is-lead-count-spec = tie.close (tie.spec returns)
+pub is_lead_count_spec : {M : Type 1} → statement M
+is_lead_count_spec = tie.close (tie.spec returns)

@@ -8,15 +8,15 @@ use Rattle.grammar.proofs.Words.{test-lead}
 use Rattle.facts.proofs.is_lead_test.Statement.{statement}
 use Rattle.facts.proofs.is_lead_test.Tie as tie
 
-is-begin : tie.Need-returns
+is-begin : tie.Need-returns-then-k-eq-BEGIN
 is-begin c =
-    let k = c.before.args.k in
-    ap (λ (b : Bool). b || eqb k KEPT) (sym (eq-eqb k BEGIN c.if1.true)) ∙ test-lead k c.before.requires
+    let k = c.args.k in
+    ap (λ (b : Bool). b || eqb k KEPT) (sym (eq-eqb k BEGIN c.if-k-eq-BEGIN.true)) ∙ test-lead k c.requires
 
-no-begin : tie.Need-returns-2
+no-begin : tie.Need-returns
 no-begin c =
-    let k = c.before.args.k in
-    ap (λ (b : Bool). b || eqb k KEPT) (sym (ne_eqb k BEGIN c.if1.false)) ∙ test-lead k c.before.requires
+    let k = c.args.k in
+    ap (λ (b : Bool). b || eqb k KEPT) (sym (ne_eqb k BEGIN c.if-k-eq-BEGIN.false)) ∙ test-lead k c.requires
 
-pub is-lead-test-spec : {M : Type 1} → statement M
-is-lead-test-spec = tie.close (tie.spec is-begin no-begin)
+pub is_lead_test_spec : {M : Type 1} → statement M
+is_lead_test_spec = tie.close (tie.spec is-begin no-begin)

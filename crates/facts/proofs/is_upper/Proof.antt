@@ -6,5 +6,5 @@ use Rattle.facts.proofs.is_upper.Tie as tie
 returns : tie.Need-returns
 returns c = op-upper c.args.o c.requires
 
-pub is-upper-spec : {M : Type 1} → statement M
-is-upper-spec = tie.close (tie.spec returns)
+pub is_upper_spec : {M : Type 1} → statement M
+is_upper_spec = tie.close (tie.spec returns)

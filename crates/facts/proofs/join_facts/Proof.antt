@@ -6,8 +6,8 @@ use Rattle.facts.proofs.join_facts.Tie as tie
 returns : tie.Need-returns
 returns c = cc
 
-pub join-facts-spec : {M : Type 1} → statement M
-join-facts-spec =
+pub join_facts_spec : {M : Type 1} → statement M
+join_facts_spec =
     tie.close
     (tie.spec
     (λ c. search rules) (λ c. search rules) (λ c κs. search rules) (λ c κs. search rules) returns)

@@ -4,11 +4,11 @@ use Rattle.words.specs.Word.{LITERAL}
 use Rattle.facts.proofs.num_kind.Statement.{statement}
 use Rattle.facts.proofs.num_kind.Tie as tie
 
-parameter : tie.Need-returns
-parameter c = simp (lt-leb LITERAL c.before.args.n c.if1.true)
+parameter : tie.Need-returns-then-n-lt-LITERAL
+parameter c = simp (lt-leb LITERAL c.args.n c.if-n-lt-LITERAL.true)
 
-literal : tie.Need-returns-2
-literal c = simp (le-leb LITERAL c.before.args.n c.if1.false)
+literal : tie.Need-returns
+literal c = simp (le-leb LITERAL c.args.n c.if-n-lt-LITERAL.false)
 
-pub num-kind-spec : {M : Type 1} → statement M
-num-kind-spec = tie.close (tie.spec parameter literal)
+pub num_kind_spec : {M : Type 1} → statement M
+num_kind_spec = tie.close (tie.spec parameter literal)

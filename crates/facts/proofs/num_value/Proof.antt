@@ -6,14 +6,14 @@ use Rattle.grammar.proofs.Position.{num_pos}
 use Rattle.facts.proofs.num_value.Statement.{statement}
 use Rattle.facts.proofs.num_value.Tie as tie
 
-sub-parameter : tie.Need-overflow-sub-result
-sub-parameter c = omega (arith, num_pos c.before.args.n c.before.requires)
+sub-parameter : tie.Need-overflow_sub-result
+sub-parameter c = omega (arith, num_pos c.args.n c.requires)
 
-parameter : tie.Need-returns
-parameter c = simp (lt-leb LITERAL c.before.args.n c.if1.true)
+parameter : tie.Need-returns-then-n-lt-LITERAL
+parameter c = simp (lt-leb LITERAL c.args.n c.if-n-lt-LITERAL.true)
 
-literal : tie.Need-returns-2
-literal c = simp (le-leb LITERAL c.before.args.n c.if1.false)
+literal : tie.Need-returns
+literal c = simp (le-leb LITERAL c.args.n c.if-n-lt-LITERAL.false)
 
-pub num-value-spec : {M : Type 1} → statement M
-num-value-spec = tie.close (tie.spec sub-parameter parameter literal)
+pub num_value_spec : {M : Type 1} → statement M
+num_value_spec = tie.close (tie.spec sub-parameter parameter literal)

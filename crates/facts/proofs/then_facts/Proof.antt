@@ -6,8 +6,8 @@ use Rattle.facts.proofs.then_facts.Tie as tie
 returns : tie.Need-returns
 returns c = cc
 
-pub then-facts-spec : {M : Type 1} → statement M
-then-facts-spec =
+pub then_facts_spec : {M : Type 1} → statement M
+then_facts_spec =
     tie.close
     (tie.spec
     (λ c. search rules) (λ c. search rules) (λ c κs. search rules) (λ c κs. search rules) returns)

@@ -3,17 +3,17 @@ use borrow.Author.Tests.{ne_eqb}
 use Rattle.lustre_read.proofs.put_in.Statement.{statement}
 use Rattle.lustre_read.proofs.put_in.Tie as tie
 
-letter-a : tie.Need-returns
-letter-a c = rw c.match.keys1
+letter-a : tie.Need-returns-in-65
+letter-a c = rw c.in-65.is
 
-letter-b : tie.Need-returns-2
-letter-b c = rw c.match.keys2
+letter-b : tie.Need-returns-in-66
+letter-b c = rw c.in-66.is
 
-letter-c : tie.Need-returns-3
-letter-c c = rw (ne_eqb _ _ c.match.rest.0.1, ne_eqb _ _ c.match.rest.1)
+letter-c : tie.Need-returns-in_default
+letter-c c = rw (ne_eqb _ _ c.in_default.in_default-own.rest.0.1, ne_eqb _ _ c.in_default.in_default-own.rest.1)
 
-pub put-in-spec : {M : Type 1} → statement M
-put-in-spec =
+pub put_in_spec : {M : Type 1} → statement M
+put_in_spec =
     tie.close
     (tie.spec
     letter-a

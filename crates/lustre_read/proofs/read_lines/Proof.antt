@@ -12,66 +12,49 @@ use Rattle.lustre_read.proofs.Lined.{lines_none, lines_next, lines-stop, lines-f
 use Rattle.lustre_read.proofs.read_lines.Statement.{statement}
 use Rattle.lustre_read.proofs.read_lines.Tie as tie
 
-abbrev invariant-loop : tie.invariant-loop
+abbrev invariant-loop : tie.invariant-loop-i
 invariant-loop text p table₀ next₀ i₀ table next i = (length table ≡ length table₀) × LinesAt text p table i next
 
-abbrev decreases-loop : tie.decreases-loop
+abbrev decreases-loop : tie.decreases-loop-i
 decreases-loop text p table₀ next₀ i₀ table next i = equation_limit - i
 
--- The places of a turn: the line is read, and found; the turn begins; the start.
-abbrev line : tie.After-store-equation-arg invariant-loop decreases-loop → tie.After-read-line invariant-loop decreases-loop
-line c = c.before.before.before.before
-
-abbrev turn : tie.After-read-line invariant-loop decreases-loop → tie.At-loop invariant-loop decreases-loop
-turn c = c.before.before
-
-abbrev start : tie.At-loop invariant-loop decreases-loop → tie.Start invariant-loop decreases-loop
-start c = c.before.before.before
-
-loop-holds : tie.Need-loop-init invariant-loop decreases-loop
+loop-holds : tie.Need-loop-i-init invariant-loop decreases-loop
 loop-holds c = (refl, lines_none _ _ _)
 
-same-length-stopped : tie.Need-same-length invariant-loop decreases-loop
-same-length-stopped c = (turn c.before.before).loop.inv.0
+same-length-stopped : tie.Need-shape_of-table-in_default invariant-loop decreases-loop
+same-length-stopped c = c.loop-i.invariant.0
 
-stopped : tie.Need-returns invariant-loop decreases-loop
+stopped : tie.Need-returns-in_default invariant-loop decreases-loop
 stopped c =
-    let read = c.before.before in
-    let loop = (turn read).loop in
-    lines-stop loop.inv.1
-    (no-line-told (start (turn read)).args.text.now loop.next loop.i read.read-line.result
-    c.enum_told.given.1 read.read-line.ensures)
+    let loop = c.loop-i in
+    lines-stop loop.invariant.1
+    (no-line-told c.args.text.now loop.next loop.i c.read_line-s.result
+    c.in_default.is c.read_line-s.ensures)
 
-store-equation-requires : tie.Need-store-equation-requires invariant-loop decreases-loop
+store-equation-requires : tie.Need-store_equation-requires invariant-loop decreases-loop
 store-equation-requires c κs =
-    let read = line c in
-    let here = turn read in
-    omega (arith, here.loop.inv.0, (start here).pre, read.before.loop-test.taken)
+    omega (arith, c.loop-i.invariant.0, c.requires, c.loop-i-test.true)
 
-loop-again : tie.Need-loop-preserved invariant-loop decreases-loop
+loop-again : tie.Need-loop-i-preserved invariant-loop decreases-loop
 loop-again c =
-    let store = c.before.before in
-    let read = line store.before in
-    let here = turn read in
-    let loop = here.loop in
-    let given = store.before.before.before.s.given in
+    let loop = c.loop-i in
     let found =
-    line-told (start here).args.text.now loop.next loop.i given.0.1.0 given.0.0
-    read.read-line.result given.1 read.read-line.ensures in
-    let same = stored-length loop.table loop.i given.0.0 in (
-      ap length store.store-equation.ensures ∙ same ∙ loop.inv.0,
-      lines_next _ given.0.0 loop.inv.1 found read.before.loop-test.taken
-          (omega (arith, loop.inv.0, (start here).pre)) store.store-equation.ensures,
+    line-told c.args.text.now loop.next loop.i c.in-Found.q c.in-Found.numbers
+    c.read_line-s.result c.in-Found.is c.read_line-s.ensures in
+    let same = stored-length loop.table loop.i c.in-Found.numbers in (
+      ap length c.store_equation.ensures ∙ same ∙ loop.invariant.0,
+      lines_next _ c.in-Found.numbers loop.invariant.1 found c.loop-i-test.true
+          (omega (arith, loop.invariant.0, c.requires)) c.store_equation.ensures,
     )
 
-same-length-full : tie.Need-same-length-2 invariant-loop decreases-loop
-same-length-full c = c.before.loop.invariant.0
+same-length-full : tie.Need-shape_of-table invariant-loop decreases-loop
+same-length-full c = c.loop-i.invariant.0
 
-full : tie.Need-returns-2 invariant-loop decreases-loop
-full c = lines-full c.before.loop.invariant.1 c.loop-test.false
+full : tie.Need-returns invariant-loop decreases-loop
+full c = lines-full c.loop-i.invariant.1 c.loop-i-test.false
 
-pub read-lines-spec : {M : Type 1} → statement M
-read-lines-spec =
+pub read_lines_spec : {M : Type 1} → statement M
+read_lines_spec =
     tie.close
     (tie.spec
     invariant-loop

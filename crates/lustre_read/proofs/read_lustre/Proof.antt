@@ -7,40 +7,24 @@ use Rattle.lustre_read.proofs.Answers.{none_read, some_read, few-equations, copi
 use Rattle.lustre_read.proofs.read_lustre.Statement.{statement}
 use Rattle.lustre_read.proofs.read_lustre.Tie as tie
 
--- The places: the start; the text is read into a table of its own; a table is found; the lent one has room.
-abbrev start : tie.After-read-table → tie.Start
-start c = c.before.before.before.before
+no_table : tie.Need-returns-in_default
+no_table c = unread (none_read _ c.in_default.is c.read_table-found.ensures)
 
-abbrev read : tie.After-known-told → tie.After-read-table
-read c = c.before.before.before.before
-
-abbrev room : tie.After-copy → tie.Else1
-room c = c.before.before.before
-
-no_table : tie.Need-returns
-no_table c = unread (none_read _ c.enum_told.given.1 c.before.before.before.read_table.ensures)
-
-short-table : tie.Need-returns-2
+short-table : tie.Need-returns-then-table-lt-TABLE
 short-table c =
-    let told = c.before in
-    no_room (some_read told.before.found.given.1 (read told).read_table.ensures) c.if1.true
+    no_room (some_read c.in-Table.is c.read_table-found.ensures) c.if-table-lt-TABLE.true
 
-mul-copy : tie.Need-overflow-mul-copy
+mul-copy : tie.Need-overflow_mul-n
 mul-copy c =
-    let told = c.before.before in
-    omega (arith, few-equations (some_read told.before.found.given.1 (read told).read_table.ensures))
+    omega (arith, few-equations (some_read c.in-Table.is c.read_table-found.ensures))
 
-table-read : tie.Need-returns-3
+table-read : tie.Need-returns
 table-read c =
-    let copy = c.before.before in
-    let there = room copy in
-    let told = there.before in
-    let table = read told in
-    copied (start table).args.table.now _ (some_read told.before.found.given.1 table.read_table.ensures)
-    there.if1.left copy.copy.ensures
+    copied c.args.table.now _ (some_read c.in-Table.is c.read_table-found.ensures)
+    c.if-table-lt-TABLE.false c.copy.ensures
 
-pub read-lustre-spec : {M : Type 1} → statement M
-read-lustre-spec =
+pub read_lustre_spec : {M : Type 1} → statement M
+read_lustre_spec =
     tie.close
     (tie.spec
     (λ c. search rules)

@@ -8,43 +8,27 @@ use Rattle.lustre_read.proofs.Answers.{none-proposed, some-proposed, can-propose
 use Rattle.lustre_read.proofs.read_table.Statement.{statement}
 use Rattle.lustre_read.proofs.read_table.Tie as tie
 
--- The places: the start; the text is read; a table is proposed; it is checked.
-abbrev start : tie.After-read-proposal → tie.Start
-start c = c.before.before.before.before
-
-abbrev read : tie.After-known-told → tie.After-read-proposal
-read c = c.before.before.before.before.before
-
-abbrev told : tie.After-check-table → tie.After-known-told
-told c = c.before.before
-
 -- What the text proposes.
-proposed : (c : tie.After-known-told) →
-    let here = read c in
-    Proposed (start here).args.text.now here.read-proposal.last.1.0 c.before.proposal.given.0.0
-proposed c = some-proposed c.before.proposal.given.1 (read c).read-proposal.ensures
+proposed : (c : tie.In-Table) →
+    Proposed c.args.text.now c.read_proposal-proposal.new.table c.in-Table.n
+proposed c = some-proposed c.in-Table.is c.read_proposal-proposal.ensures
 
-nothing-proposed : tie.Need-returns
+nothing-proposed : tie.Need-returns-in_default
 nothing-proposed c =
-    let here = c.before.before.before.before in
-    let none = none-proposed _ c.enum_told.given.1 here.read-proposal.ensures in
-    λ t n s. none t n (can-propose (start here).requires.0 s)
+    let none = none-proposed _ c.in_default.is c.read_proposal-proposal.ensures in
+    λ t n s. none t n (can-propose c.requires.0 s)
 
-check-failed : tie.Need-returns-2
+check-failed : tie.Need-returns-in_default-check_table
 check-failed c =
-    let check = c.before.before in
-    let there = told check in
-    let failed = c.enum-told3.given in
-    ill-formed failed.0.0 (start (read there)).requires.0 (proposed there) (omega arith)
-    (sym failed.1 ∙ check.check-table.ensures)
+    ill-formed c.in_default-check_table.field-0 c.requires.0 (proposed c.before.before) (omega arith)
+    (sym c.in_default-check_table.is ∙ c.check_table.ensures)
 
-check-passed : tie.Need-returns-3
+check-passed : tie.Need-returns
 check-passed c =
-    let check = c.before.before in
-    well-formed (proposed (told check)) (sym check.check-table.ensures ∙ c.enum-told2.given.1)
+    well-formed (proposed c.before.before) (sym c.check_table.ensures ∙ c.in-Passed.is)
 
-pub read-table-spec : {M : Type 1} → statement M
-read-table-spec =
+pub read_table_spec : {M : Type 1} → statement M
+read_table_spec =
     tie.close
     (tie.spec
     (λ c κs. search rules)

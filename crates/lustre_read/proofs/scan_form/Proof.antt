@@ -11,57 +11,45 @@ use Rattle.lustre_read.proofs.Reading.{found-told, unlike-told, scan-goes, scan-
 use Rattle.lustre_read.proofs.scan_form.Statement.{statement}
 use Rattle.lustre_read.proofs.scan_form.Tie as tie
 
-abbrev invariant-loop : tie.invariant-loop
+abbrev invariant-loop : tie.invariant-loop-j
 invariant-loop form text p numbers₀ next₀ j₀ numbers next j =
     scan (drop j form) (drop next text) (equation_of numbers) ≡ scan form (drop next₀ text) (equation_of numbers₀)
 
-abbrev decreases-loop : tie.decreases-loop
+abbrev decreases-loop : tie.decreases-loop-j
 decreases-loop form text p numbers₀ next₀ j₀ numbers next j = length form - j
 
--- The places: a turn in which a byte of the form is scanned; the start.
-abbrev turn : tie.After-scan-piece invariant-loop decreases-loop → tie.In-loop invariant-loop decreases-loop
-turn c = c.before.before
-
-abbrev start : tie.At-loop invariant-loop decreases-loop → tie.Start invariant-loop decreases-loop
-start c = c.before.before.before
-
-loop-holds : tie.Need-loop-init invariant-loop decreases-loop
+loop-holds : tie.Need-loop-j-init invariant-loop decreases-loop
 loop-holds c = refl
 
-piece-unlike : tie.Need-returns invariant-loop decreases-loop
+piece-unlike : tie.Need-returns-in_default invariant-loop decreases-loop
 piece-unlike c =
-    let piece = c.before.before in
-    let here = turn piece in
-    let args = (start here.before).args in
-    let loop = here.before.loop in
+    let args = c.args in
+    let loop = c.loop-j in
     scan-stuck args.form.now args.text.now loop.j loop.next (equation_of loop.numbers)
-    here.loop-test.taken
-    (unlike-told args.text.now piece.scan-piece.result c.enum_told.given.1 piece.scan-piece.ensures)
-    ∙ loop.inv
-
-loop-again : tie.Need-loop-preserved invariant-loop decreases-loop
-loop-again c =
-    let piece = c.before.before.before in
-    let here = turn piece in
-    let args = (start here.before).args in
-    let loop = here.before.loop in
-    let found = c.before.m.given in
-    scan-goes args.form.now args.text.now loop.j loop.next (equation_of loop.numbers) found.0.1.0
-    (equation_of found.0.0) here.loop-test.taken
-    (found-told args.text.now piece.scan-piece.result found.0.0 found.0.1.0 found.1
-    piece.scan-piece.ensures)
-    ∙ loop.inv
-
-all_found : tie.Need-returns-2 invariant-loop decreases-loop
-all_found c =
-    let args = (start c.before).args in
-    let loop = c.before.loop in
-    scan-ends args.form.now args.text.now loop.j loop.next (equation_of loop.numbers)
-    c.loop-test.false
+    c.loop-j-test.true
+    (unlike-told args.text.now c.scan_piece.result c.in_default.is c.scan_piece.ensures)
     ∙ loop.invariant
 
-pub scan-form-spec : {M : Type 1} → statement M
-scan-form-spec =
+loop-again : tie.Need-loop-j-preserved invariant-loop decreases-loop
+loop-again c =
+    let args = c.args in
+    let loop = c.loop-j in
+    scan-goes args.form.now args.text.now loop.j loop.next (equation_of loop.numbers) c.in-Found.q
+    (equation_of c.in-Found.m) c.loop-j-test.true
+    (found-told args.text.now c.scan_piece.result c.in-Found.m c.in-Found.q c.in-Found.is
+    c.scan_piece.ensures)
+    ∙ loop.invariant
+
+all_found : tie.Need-returns invariant-loop decreases-loop
+all_found c =
+    let args = c.args in
+    let loop = c.loop-j in
+    scan-ends args.form.now args.text.now loop.j loop.next (equation_of loop.numbers)
+    c.loop-j-test.false
+    ∙ loop.invariant
+
+pub scan_form_spec : {M : Type 1} → statement M
+scan_form_spec =
     tie.close
     (tie.spec
     invariant-loop

@@ -8,67 +8,45 @@ use Rattle.lustre_read.proofs.Reading.{piece-end, piece-other, piece-same}
 use Rattle.lustre_read.proofs.scan_piece.Statement.{statement}
 use Rattle.lustre_read.proofs.scan_piece.Tie as tie
 
--- The places: the start; the byte's test; the number is read, or the text has a byte there.
-abbrev start : tie.After-is-letter → tie.Start
-start c = c.before.before
-
-abbrev tested : tie.After-read-decimal → tie.After-is-letter
-tested c = c.before.before
-
-abbrev compared : tie.Else2 → tie.After-is-letter
-compared c = c.before.before
-
-letter-number : tie.Need-returns
+letter-number : tie.Need-returns-in-Is
 letter-number c =
-    let read = c.before.before.before.before in
-    let test = tested read in
-    let args = (start test).args in
-    let number = c.before.before.number.given in
-    piece-number args.x args.text.now args.p (equation_of args.e) _ number.0.0 number.0.1.0 _
-    test.is-letter.ensures read.before.if1.true (is-of read.read-decimal.ensures number.1)
+    let args = c.args in
+    piece-number args.x args.text.now args.p (equation_of args.e) _ c.in-Is.value c.in-Is.next _
+    c.is_letter.ensures c.if-is_letter.true (is-of c.read_decimal-number.ensures c.in-Is.is)
     c.put_in.ensures
 
-letter-above : tie.Need-returns-2
+letter-above : tie.Need-returns-in-Above
 letter-above c =
-    let read = c.before.before in
-    let test = tested read in
-    let args = (start test).args in
-    piece-above args.x args.text.now args.p (equation_of args.e) _ _ test.is-letter.ensures
-    read.before.if1.true (above_of read.read-decimal.ensures c.enum_told.given.1)
+    let args = c.args in
+    piece-above args.x args.text.now args.p (equation_of args.e) _ _ c.is_letter.ensures
+    c.if-is_letter.true (above_of c.read_decimal-number.ensures c.in-Above.is)
 
-letter-missing : tie.Need-returns-3
+letter-missing : tie.Need-returns-in-Missing
 letter-missing c =
-    let read = c.before.before in
-    let test = tested read in
-    let args = (start test).args in
-    piece-missing args.x args.text.now args.p (equation_of args.e) _ test.is-letter.ensures
-    read.before.if1.true (missing-of read.read-decimal.ensures c.enum-told2.given.1)
+    let args = c.args in
+    piece-missing args.x args.text.now args.p (equation_of args.e) _ c.is_letter.ensures
+    c.if-is_letter.true (missing-of c.read_decimal-number.ensures c.in-Missing.is)
 
-byte-past-end : tie.Need-returns-4
+byte-past-end : tie.Need-returns-then-text-p
 byte-past-end c =
-    let test = c.before.before in
-    let args = (start test).args in
-    piece-end args.x args.text.now args.p (equation_of args.e) _ test.is-letter.ensures
-    c.before.if1.false c.if2.true
+    let args = c.args in
+    piece-end args.x args.text.now args.p (equation_of args.e) _ c.is_letter.ensures
+    c.if-is_letter.false c.if-text-p.true
 
-byte-unlike : tie.Need-returns-5
+byte-unlike : tie.Need-returns-then-text-p-2
 byte-unlike c =
-    let there = c.before.before in
-    let test = compared there in
-    let args = (start test).args in
-    piece-other args.x args.text.now args.p (equation_of args.e) _ test.is-letter.ensures
-    there.before.if1.false there.if2.false c.if3.true
+    let args = c.args in
+    piece-other args.x args.text.now args.p (equation_of args.e) _ c.is_letter.ensures
+    c.if-is_letter.false c.if-text-p.false c.if-text-p-2.true
 
-byte-found : tie.Need-returns-6
+byte-found : tie.Need-returns
 byte-found c =
-    let there = c.before.before in
-    let test = compared there in
-    let args = (start test).args in
-    piece-same args.x args.text.now args.p (equation_of args.e) _ test.is-letter.ensures
-    there.before.if1.false there.if2.false c.if3.false
+    let args = c.args in
+    piece-same args.x args.text.now args.p (equation_of args.e) _ c.is_letter.ensures
+    c.if-is_letter.false c.if-text-p.false c.if-text-p-2.false
 
-pub scan-piece-spec : {M : Type 1} → statement M
-scan-piece-spec =
+pub scan_piece_spec : {M : Type 1} → statement M
+scan_piece_spec =
     tie.close
     (tie.spec
     (λ c κs. search rules)

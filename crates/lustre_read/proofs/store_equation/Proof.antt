@@ -7,13 +7,13 @@ use Rattle.lists.proofs.Buffers.{sets-four}
 use Rattle.lustre_read.proofs.store_equation.Statement.{statement}
 use Rattle.lustre_read.proofs.store_equation.Tie as tie
 
-write-a : tie.Need-slice-write-table-2
+write-a : tie.Need-bounds-table-i-2
 write-a c = simp length-set (omega arith)
 
-write-b : tie.Need-slice-write-table-3
+write-b : tie.Need-bounds-table-i-3
 write-b c = simp length-set (omega arith)
 
-write-c : tie.Need-slice-write-table-4
+write-c : tie.Need-bounds-table-i-4
 write-c c = simp length-set (omega arith)
 
 returns : tie.Need-returns
@@ -21,8 +21,8 @@ returns c =
     let args = c.args in
     sets-four args.table.now (4 * args.i) args.e.kind args.e.a args.e.b args.e.c
 
-pub store-equation-spec : {M : Type 1} → statement M
-store-equation-spec =
+pub store_equation_spec : {M : Type 1} → statement M
+store_equation_spec =
     tie.close
     (tie.spec
     (λ c. search rules)

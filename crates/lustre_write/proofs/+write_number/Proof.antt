@@ -32,35 +32,21 @@ module _ (t : ℕ) where
       → Type 0) → Type 0
   Here place = place (calls t) (write-number-at t) write-number.Post
 
-  -- The places: the other digits are written, from where the last one is; and the number has others, from there.
-  abbrev others : Here write-number-lts.After-store2 → Here write-number-lts.After-write-number
-  others c = c.before.before.before.before
+  returns_one : Here write-number-lts.Need-returns-then-x-lt10
+  returns_one c = number-one _ _ _ c.if-x-lt10.true c.store.ensures
 
-  abbrev long : Here write-number-lts.After-write-number → Here write-number-lts.Else1
-  long c = c.before.before
+  add-result : Here write-number-lts.Need-overflow_add-result
+  add-result c = omega (arith, c.write_number-at.ensures.short)
 
-  returns_one : Here write-number-lts.Need-returns
-  returns_one c =
-      let digit = c.before.before in
-      number-one _ _ _ digit.before.before.if1.true digit.store.ensures
+  same_length : Here write-number-lts.Need-shape_of-out
+  same_length c = number-length _ _ _ c.write_number-at.ensures c.store-2.ensures
 
-  add-result : Here write-number-lts.Need-overflow-add-result
-  add-result c = omega (arith, (others c.before.before).write-number.ensures.short)
-
-  same_length : Here write-number-lts.Need-same-length-2
-  same_length c =
-      let last = c.before.before in
-      number-length _ _ _ (others last).write-number.ensures last.store2.ensures
-
-  returns-more : Here write-number-lts.Need-returns-2
+  returns-more : Here write-number-lts.Need-returns
   returns-more c =
-      let last = c.before.before in
-      let more = long (others last) in
-      number_more _ _ _ _ _ more.if1.left more.before.before.fits.x.fits
-      (others last).write-number.ensures last.store2.ensures
+      number_more _ _ _ _ _ c.if-x-lt10.false c.ranges.x.fits c.write_number-at.ensures c.store-2.ensures
 
-pub +write-number-spec : {M : Type 1} → statement M
-+write-number-spec = close μ-write-number λ t. write-number-lts.spec
+pub +write_number_spec : {M : Type 1} → statement M
++write_number_spec = close μ-write-number λ t. write-number-lts.spec
     (calls t)
     (write-number-at t)
     write-number.Post
@@ -69,7 +55,7 @@ pub +write-number-spec : {M : Type 1} → statement M
     (λ c κs. search rules)
     (λ c. search rules)
     (returns_one t)
-    (λ c κs. omega (arith, c.before.before.before.requires.0))
+    (λ c κs. omega (arith, c.requires.0))
     (λ c. omega arith)
     (λ c. omega arith)
     (λ c κs. search rules)

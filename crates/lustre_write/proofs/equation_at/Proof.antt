@@ -5,11 +5,10 @@ use Rattle.lustre_write.proofs.equation_at.Tie as tie
 
 returns : tie.Need-returns
 returns c =
-    let b = c.before.before in
-    rw (b.before.number_at.ensures, b.number-at2.ensures, c.before.number-at3.ensures, c.number-at4.ensures)
+    rw (c.number_at.ensures, c.number_at-2.ensures, c.number_at-3.ensures, c.number_at-4.ensures)
 
-pub equation-at-spec : {M : Type 1} → statement M
-equation-at-spec =
+pub equation_at_spec : {M : Type 1} → statement M
+equation_at_spec =
     tie.close
     (tie.spec
     (λ c. search rules)

@@ -10,65 +10,65 @@ use Rattle.lustre_write.proofs.form_of.Statement.{statement}
 use Rattle.lustre_write.proofs.form_of.Tie as tie
 
 -- Kind by kind, in the order of their numbers.
-of-signal : tie.Need-returns
+of-signal : tie.Need-returns-in-0
 unfolding kind_of forms first_of first_form form_number
-of-signal c = rw c.match.keys1
+of-signal c = rw c.in-0.is
 
-of-start : tie.Need-returns-2
+of-start : tie.Need-returns-in-1
 unfolding kind_of forms first_of first_form form_number
-of-start c = rw c.match.keys2
+of-start c = rw c.in-1.is
 
-of-constant : tie.Need-returns-3
+of-constant : tie.Need-returns-in-2
 unfolding kind_of forms first_of first_form form_number
-of-constant c = rw c.before.match.keys3
+of-constant c = rw c.in-2.is
 
-of-not : tie.Need-returns-4
+of-not : tie.Need-returns-in-3
 unfolding kind_of forms first_of first_form form_number
-of-not c = rw c.match.keys4
+of-not c = rw c.in-3.is
 
-of_and : tie.Need-returns-5
+of_and : tie.Need-returns-in-4
 unfolding kind_of forms first_of first_form form_number
-of_and c = rw c.match.keys5
+of_and c = rw c.in-4.is
 
-of_or : tie.Need-returns-6
+of_or : tie.Need-returns-in-5
 unfolding kind_of forms first_of first_form form_number
-of_or c = rw c.match.keys6
+of_or c = rw c.in-5.is
 
-of-boolean-pre : tie.Need-returns-7
+of-boolean-pre : tie.Need-returns-in-6
 unfolding kind_of forms first_of first_form form_number
-of-boolean-pre c = rw c.before.match.keys7
+of-boolean-pre c = rw c.in-6.is
 
-of-count-pre : tie.Need-returns-8
+of-count-pre : tie.Need-returns-in-7
 unfolding kind_of forms first_of first_form form_number
-of-count-pre c = rw c.match.keys8
+of-count-pre c = rw c.in-7.is
 
-of-capped : tie.Need-returns-9
+of-capped : tie.Need-returns-in-8
 unfolding kind_of forms first_of first_form form_number
-of-capped c = rw c.match.keys9
+of-capped c = rw c.in-8.is
 
-of-if : tie.Need-returns-10
+of-if : tie.Need-returns-in-9
 unfolding kind_of forms first_of first_form form_number
-of-if c = rw c.match.keys10
+of-if c = rw c.in-9.is
 
-of-compare-literal : tie.Need-returns-11
+of-compare-literal : tie.Need-returns-in-10
 unfolding kind_of forms first_of first_form form_number
-of-compare-literal c = rw c.before.match.keys11
+of-compare-literal c = rw c.in-10.is
 
-of-compare-parameter : tie.Need-returns-12
+of-compare-parameter : tie.Need-returns-in-11
 unfolding kind_of forms first_of first_form form_number
-of-compare-parameter c = rw c.before.match.keys12
+of-compare-parameter c = rw c.in-11.is
 
-of-velocity : tie.Need-returns-13
+of-velocity : tie.Need-returns-in-12
 unfolding kind_of forms first_of first_form form_number
-of-velocity c = rw c.before.match.keys13
+of-velocity c = rw c.in-12.is
 
 -- No other number is that of a kind.
-of_other : tie.Need-returns-14
+of_other : tie.Need-returns-in_default
 unfolding form_number
-of_other c = rw (kind-beyond _ (none_below _ kind_count c.match.rest))
+of_other c = rw (kind-beyond _ (none_below _ kind_count c.in_default.in_default-own.rest))
 
-pub form-of-spec : {M : Type 1} → statement M
-form-of-spec =
+pub form_of_spec : {M : Type 1} → statement M
+form_of_spec =
     tie.close
     (tie.spec
     (λ c. search rules)

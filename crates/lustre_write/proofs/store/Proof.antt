@@ -5,8 +5,8 @@ use lib.Seq.{set_out}
 use Rattle.lustre_write.proofs.store.Statement.{statement}
 use Rattle.lustre_write.proofs.store.Tie as tie
 
-past_end : tie.Need-returns-2
-past_end c = sym (set_out _ _ _ c.if1.false)
+past_end : tie.Need-returns-else-i-out
+past_end c = sym (set_out _ _ _ c.if-i-out.false)
 
 pub store_spec : {M : Type 1} → statement M
 store_spec =

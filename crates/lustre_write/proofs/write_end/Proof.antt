@@ -11,53 +11,35 @@ use Rattle.lustre_write.proofs.Writing.{fetched-known, fetched-room, fetched-sho
 use Rattle.lustre_write.proofs.write_end.Statement.{statement}
 use Rattle.lustre_write.proofs.write_end.Tie as tie
 
--- The places: the form is fetched; the start.
-abbrev fetched : tie.After-write-form-arg → tie.After-form-at
-fetched c = c.before.before.before
-
-abbrev start : tie.After-form-of → tie.Start
-start c = c.before.before
-
-form-at-requires : tie.Need-form-at-requires
+form-at-requires : tie.Need-form_at-form-requires
 form-at-requires c κs =
-    let entry = start c in
-    fetched-known (equation_of entry.args.e) c.form_of.result _ entry.pre c.form_of.ensures refl
+    fetched-known (equation_of c.args.e) c.form_of.result _ c.requires c.form_of.ensures refl
 
 -- The form has room for its text,
-room : (c : tie.After-form-at) → c.form-at.result.len ≤ length c.form-at.result.text
+room : (c : tie.After-form_at-form) → c.form_at-form.result.len ≤ length c.form_at-form.result.text
 room c =
-    let number = c.before in
-    let entry = start number in
-    fetched-room (equation_of entry.args.e) number.form_of.result c.form-at.result entry.pre
-    number.form_of.ensures c.form-at.ensures
+    fetched-room (equation_of c.args.e) c.form_of.result c.form_at-form.result c.requires
+    c.form_of.ensures c.form_at-form.ensures
 
-slice-aggregate-write-form : tie.Need-slice-aggregate-write-form
+slice-aggregate-write-form : tie.Need-slice_bounds-write_form-end
 slice-aggregate-write-form c =
-    let form = c.before.before in
-    sym (length-take-le form.form-at.result.len form.form-at.result.text (room form))
+    sym (length-take-le c.form_at-form.result.len c.form_at-form.result.text (room c.before.before))
 
 -- which is no longer than a form can be.
-write-form-requires : tie.Need-write-form-requires
+write-form-requires : tie.Need-write_form-requires
 write-form-requires c κs =
-    let form = fetched c in
-    let number = form.before in
-    let entry = start number in
-    rw (length-take-le form.form-at.result.len form.form-at.result.text (room form))
-    (fetched-short (equation_of entry.args.e) number.form_of.result form.form-at.result entry.pre
-    number.form_of.ensures form.form-at.ensures)
+    rw (length-take-le c.form_at-form.result.len c.form_at-form.result.text (room c.before.before.before))
+    (fetched-short (equation_of c.args.e) c.form_of.result c.form_at-form.result c.requires
+    c.form_of.ensures c.form_at-form.ensures)
 
 returns : tie.Need-returns
 returns c =
-    let written = c.before.before in
-    let form = fetched written.before in
-    let number = form.before in
-    let entry = start number in
     placed-as
-    (fetched-text (equation_of entry.args.e) number.form_of.result form.form-at.result entry.pre
-    number.form_of.ensures form.form-at.ensures) written.write-form.ensures
+    (fetched-text (equation_of c.args.e) c.form_of.result c.form_at-form.result c.requires
+    c.form_of.ensures c.form_at-form.ensures) c.write_form.ensures
 
-pub write-end-spec : {M : Type 1} → statement M
-write-end-spec =
+pub write_end_spec : {M : Type 1} → statement M
+write_end_spec =
     tie.close
     (tie.spec
     (λ c κs. search rules)

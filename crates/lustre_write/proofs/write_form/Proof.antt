@@ -11,45 +11,36 @@ use Rattle.lustre_write.proofs.Placing.{placed-length, form-none, form-more, for
 use Rattle.lustre_write.proofs.write_form.Statement.{statement}
 use Rattle.lustre_write.proofs.write_form.Tie as tie
 
-abbrev invariant-loop : tie.invariant-loop
+abbrev invariant-loop : tie.invariant-loop-j
 invariant-loop form e out₀ at₀ j₀ out at j =
     (j ≤ length form) × Placed (piece_room * j) (render (equation_of e) (take j form)) out₀ out at
 
-abbrev decreases-loop : tie.decreases-loop
+abbrev decreases-loop : tie.decreases-loop-j
 decreases-loop form e out₀ at₀ j₀ out at j = length form - j
 
--- The places of a turn: where the unfilled tail begins, and the byte's text in it.
-abbrev cut : tie.After-write-piece invariant-loop decreases-loop → tie.After-least invariant-loop decreases-loop
-cut c = c.before.before.before
+loop-holds : tie.Need-loop-j-init invariant-loop decreases-loop
+loop-holds c = (omega arith, form-none _ c.args.form.now _)
 
-abbrev turn : tie.After-least invariant-loop decreases-loop → tie.At-loop invariant-loop decreases-loop
-turn c = c.before.before
-
-loop-holds : tie.Need-loop-init invariant-loop decreases-loop
-loop-holds c = (omega arith, form-none _ c.before.before.args.form.now _)
-
-add_at : tie.Need-overflow-add-at invariant-loop decreases-loop
+add_at : tie.Need-overflow_add-at invariant-loop decreases-loop
 add_at c =
-    let piece = c.before.before in
-    omega (arith, (turn (cut piece)).loop.inv.1.short, piece.write-piece.ensures.short)
+    omega (arith, c.loop-j.invariant.1.short, c.write_piece-at.ensures.short)
 
-loop-again : tie.Need-loop-preserved invariant-loop decreases-loop
+loop-again : tie.Need-loop-j-preserved invariant-loop decreases-loop
 loop-again c =
-    let piece = c.before.before in
-    let tail = cut piece in (
+    (
       omega arith,
-      form-more _ _ _ _ (turn tail).loop.inv.1 tail.before.loop-test.taken refl tail.least.ensures
-          piece.write-piece.ensures,
+      form-more _ _ _ _ c.loop-j.invariant.1 c.loop-j-test.true refl c.least-q.ensures
+          c.write_piece-at.ensures,
     )
 
-same_length : tie.Need-same-length invariant-loop decreases-loop
-same_length c = placed-length c.before.loop.invariant.1
+same_length : tie.Need-shape_of-out invariant-loop decreases-loop
+same_length c = placed-length c.loop-j.invariant.1
 
 returns : tie.Need-returns invariant-loop decreases-loop
-returns c = form-all _ _ c.before.loop.invariant.1 (omega arith) (omega arith)
+returns c = form-all _ _ c.loop-j.invariant.1 (omega arith) (omega arith)
 
-pub write-form-spec : {M : Type 1} → statement M
-write-form-spec =
+pub write_form_spec : {M : Type 1} → statement M
+write_form_spec =
     tie.close
     (tie.spec
     invariant-loop
@@ -57,8 +48,8 @@ write-form-spec =
     loop-holds
     (λ c κs. search rules)
     (λ c. omega arith)
-    (λ c. omega (arith, c.before.least.ensures))
-    (λ c. omega (arith, c.before.least.ensures))
+    (λ c. omega (arith, c.least-q.ensures))
+    (λ c. omega (arith, c.least-q.ensures))
     (λ c. omega arith)
     (λ c κs. search rules)
     add_at

@@ -10,62 +10,47 @@ use Rattle.lustre_write.proofs.Placing.{placed-length, lines_none, lines_more}
 use Rattle.lustre_write.proofs.write_lines.Statement.{statement}
 use Rattle.lustre_write.proofs.write_lines.Tie as tie
 
-abbrev invariant-loop : tie.invariant-loop
+abbrev invariant-loop : tie.invariant-loop-i
 invariant-loop table n out₀ at₀ i₀ out at i = (i ≤ n) × Placed (line_room * i) (lines table i) out₀ out at
 
-abbrev decreases-loop : tie.decreases-loop
+abbrev decreases-loop : tie.decreases-loop-i
 decreases-loop table n out₀ at₀ i₀ out at i = n - i
 
--- The places of a turn: the unfilled tail begins, and the line is written in it; the start.
-abbrev cut : tie.After-write-line invariant-loop decreases-loop → tie.After-least invariant-loop decreases-loop
-cut c = c.before.before
-
-abbrev turn : tie.After-least invariant-loop decreases-loop → tie.At-loop invariant-loop decreases-loop
-turn c = c.before.before
-
-abbrev start : tie.At-loop invariant-loop decreases-loop → tie.Start invariant-loop decreases-loop
-start c = c.before.before.before
-
-loop-holds : tie.Need-loop-init invariant-loop decreases-loop
+loop-holds : tie.Need-loop-i-init invariant-loop decreases-loop
 loop-holds c = (omega arith, lines_none _ _)
 
-write-line-requires : tie.Need-write-line-requires invariant-loop decreases-loop
+write-line-requires : tie.Need-write_line-at-requires invariant-loop decreases-loop
 write-line-requires c κs =
-    let here = turn c.before in
-    let plain = (start here).pre in
-    let inside = c.before.before.loop-test.true in
-    (omega (arith, plain.few, inside), plain.plain here.loop.i inside)
+    let plain = c.requires in
+    let inside = c.loop-i-test.true in
+    (omega (arith, plain.few, inside), plain.plain c.loop-i.i inside)
 
-add_at : tie.Need-overflow-add-at invariant-loop decreases-loop
+add_at : tie.Need-overflow_add-at invariant-loop decreases-loop
 add_at c =
-    let line = c.before.before in
-    let here = turn (cut line) in
-    omega (arith, here.loop.inv.1.short, line.write-line.ensures.short, (start here).pre.few)
+    omega (arith, c.loop-i.invariant.1.short, c.write_line-at.ensures.short, c.requires.few)
 
-loop-again : tie.Need-loop-preserved invariant-loop decreases-loop
+loop-again : tie.Need-loop-i-preserved invariant-loop decreases-loop
 loop-again c =
-    let line = c.before.before in
-    let tail = cut line in
-    (omega arith, lines_more _ _ _ (turn tail).loop.inv.1 tail.least.ensures line.write-line.ensures)
+    (omega arith, lines_more _ _ _ c.loop-i.invariant.1 c.least-q.ensures c.write_line-at.ensures)
 
-same_length : tie.Need-same-length invariant-loop decreases-loop
-same_length c = placed-length c.before.loop.invariant.1
+same_length : tie.Need-shape_of-out invariant-loop decreases-loop
+same_length c = placed-length c.loop-i.invariant.1
 
 returns : tie.Need-returns invariant-loop decreases-loop
 returns c =
-    let loop = c.before.loop in
-    let z : loop.i ≡ (start c.before).args.n = omega arith in rw z at loop.invariant.1
+    let loop = c.loop-i in
+    let z : loop.i ≡ c.args.n = omega arith in rw z at loop.invariant.1
 
-pub write-lines-spec : {M : Type 1} → statement M
-write-lines-spec =
+pub write_lines_spec : {M : Type 1} → statement M
+write_lines_spec =
     tie.close
     (tie.spec
     invariant-loop
     decreases-loop
     loop-holds
     (λ c κs. search rules)
-    (λ c. omega (arith, c.least.ensures))
-    (λ c. omega (arith, c.least.ensures))
+    (λ c. omega (arith, c.least-q.ensures))
+    (λ c. omega (arith, c.least-q.ensures))
     (λ c. omega arith)
     write-line-requires
     add_at

@@ -7,19 +7,19 @@ use Rattle.lustre_write.proofs.Writing.{write-refused}
 use Rattle.lustre_write.proofs.write_lustre.Statement.{statement}
 use Rattle.lustre_write.proofs.write_lustre.Tie as tie
 
-write-checked-requires : tie.Need-write-checked-requires
+write-checked-requires : tie.Need-write_checked-requires
 write-checked-requires c κs =
-    (omega arith, sym c.before.before.before.check-table.ensures ∙ c.before.enum_told.given.1)
+    (omega arith, sym c.check_table.ensures ∙ c.in_default.is)
 
-passed : tie.Need-returns
-passed c = c.before.before.write_checked.ensures
+passed : tie.Need-returns-in_default
+passed c = c.write_checked.ensures
 
-refused : tie.Need-returns-2
+refused : tie.Need-returns
 refused c =
-    write-refused _ _ _ _ _ (sym c.before.before.before.check-table.ensures ∙ c.before.number.given.1)
+    write-refused _ _ _ _ _ (sym c.check_table.ensures ∙ c.in-Refused.is)
 
-pub write-lustre-spec : {M : Type 1} → statement M
-write-lustre-spec =
+pub write_lustre_spec : {M : Type 1} → statement M
+write_lustre_spec =
     tie.close
     (tie.spec
     (λ c κs. search rules)

@@ -7,30 +7,20 @@ use Rattle.lustre_write.proofs.Placing.{piece-letter, piece_byte}
 use Rattle.lustre_write.proofs.write_piece.Statement.{statement}
 use Rattle.lustre_write.proofs.write_piece.Tie as tie
 
--- The places: the byte's test after the start, and the number that is looked up for a letter.
-abbrev start : tie.After-is-letter → tie.Start
-start c = c.before.before
-
-abbrev looked-up : tie.After-write-number → tie.After-number-of
-looked-up c = c.before.before
-
-letter : tie.Need-returns
+letter : tie.Need-returns-then-is_letter
 letter c =
-    let number = looked-up c.before.before in
-    let test = number.before.before in
-    let args = (start test).args in
-    piece-letter (equation_of args.e) args.x _ (sym test.is-letter.ensures ∙ number.before.if1.taken)
-    number.number_of.ensures c.before.before.write-number.ensures
+    let args = c.args in
+    piece-letter (equation_of args.e) args.x _ (sym c.is_letter.ensures ∙ c.if-is_letter.true)
+    c.number_of.ensures c.write_number.ensures
 
-other_byte : tie.Need-returns-2
+other_byte : tie.Need-returns
 other_byte c =
-    let byte = c.before.before.before.before in
-    let args = (start byte.before).args in
-    piece_byte (equation_of args.e) args.x _ _ (sym byte.before.is-letter.ensures ∙ byte.if1.false)
-    c.before.before.store.ensures
+    let args = c.args in
+    piece_byte (equation_of args.e) args.x _ _ (sym c.is_letter.ensures ∙ c.if-is_letter.false)
+    c.store.ensures
 
-pub write-piece-spec : {M : Type 1} → statement M
-write-piece-spec =
+pub write_piece_spec : {M : Type 1} → statement M
+write_piece_spec =
     tie.close
     (tie.spec
     (λ c κs. search rules)

@@ -8,5 +8,5 @@ returns : tie.Need-returns
 unfolding node_table
 returns c = refl
 
-pub all-nodes-spec : {M : Type 1} → statement M
-all-nodes-spec = tie.close (tie.spec returns)
+pub all_nodes_spec : {M : Type 1} → statement M
+all_nodes_spec = tie.close (tie.spec returns)

@@ -4,11 +4,11 @@ use Rattle.formulas.specs.Arena.{LITERAL}
 use Rattle.node_table.proofs.comparison_of.Statement.{statement}
 use Rattle.node_table.proofs.comparison_of.Tie as tie
 
-of-literal : tie.Need-returns
-of-literal c = simp (eq-eqb c.before.args.b LITERAL c.if1.true)
+of-literal : tie.Need-returns-then-b-eq-LITERAL
+of-literal c = simp (eq-eqb c.args.b LITERAL c.if-b-eq-LITERAL.true)
 
-of-parameter : tie.Need-returns-2
-of-parameter c = simp (ne_eqb c.before.args.b LITERAL c.if1.false)
+of-parameter : tie.Need-returns
+of-parameter c = simp (ne_eqb c.args.b LITERAL c.if-b-eq-LITERAL.false)
 
-pub comparison-of-spec : {M : Type 1} → statement M
-comparison-of-spec = tie.close (tie.spec of-literal of-parameter)
+pub comparison_of_spec : {M : Type 1} → statement M
+comparison_of_spec = tie.close (tie.spec of-literal of-parameter)

@@ -4,11 +4,11 @@ use Rattle.node_table.specs.Numbers.{COMPARISON}
 use Rattle.node_table.proofs.kind_by.Statement.{statement}
 use Rattle.node_table.proofs.kind_by.Tie as tie
 
-as-asked : tie.Need-returns
-as-asked c = simp (eq-eqb c.before.args.k COMPARISON c.if1.true)
+as-asked : tie.Need-returns-then-k-eq-COMPARISON
+as-asked c = simp (eq-eqb c.args.k COMPARISON c.if-k-eq-COMPARISON.true)
 
-its_own : tie.Need-returns-2
-its_own c = simp (ne_eqb c.before.args.k COMPARISON c.if1.false)
+its_own : tie.Need-returns-else-k-eq-COMPARISON
+its_own c = simp (ne_eqb c.args.k COMPARISON c.if-k-eq-COMPARISON.false)
 
-pub kind-by-spec : {M : Type 1} → statement M
-kind-by-spec = tie.close (tie.spec as-asked its_own)
+pub kind_by_spec : {M : Type 1} → statement M
+kind_by_spec = tie.close (tie.spec as-asked its_own)

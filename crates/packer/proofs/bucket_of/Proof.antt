@@ -11,28 +11,21 @@ use Rattle.packer.proofs.Spread.{part-below, bucket-below, bucket-is}
 use Rattle.packer.proofs.bucket_of.Statement.{statement}
 use Rattle.packer.proofs.bucket_of.Tie as tie
 
--- The start, and the place where the kind is read.
-abbrev kind_at : tie.After-wide4 → tie.After-wide
-kind_at c = c.before.before.before
-
-abbrev start : tie.After-wide4 → tie.Start
-start c = (kind_at c).before
-
 -- The product fits.
 part-fits : (x n : ℕ) → 0 < n → n ≤ equation_limit → Fits w64 ((x % spread) * n)
 part-fits x n h l = omega (arith, part-below x n h)
 
 returns : tie.Need-returns
 returns c =
-    let n = (start c).args.n in
-    let key = key_of (start c).args.x in
+    let n = c.args.n in
+    let key = key_of c.args.x in
     let is =
-    bucket-is n key (kind_at c).wide.ensures.0 c.before.before.wide2.ensures.0 c.before.wide3.ensures.0
-    c.wide4.ensures.0 in
-    (is, rw is (bucket-below n key (start c).requires.0))
+    bucket-is n key c.wide.ensures.0 c.wide-2.ensures.0 c.wide-3.ensures.0
+    c.wide-4.ensures.0 in
+    (is, rw is (bucket-below n key c.requires.0))
 
-pub bucket-of-spec : {M : Type 1} → statement M
-bucket-of-spec =
+pub bucket_of_spec : {M : Type 1} → statement M
+bucket_of_spec =
     tie.close
     (tie.spec
     (λ c κs. search rules)
@@ -46,5 +39,5 @@ bucket-of-spec =
     (λ c. search rules)
     (λ c. search rules)
     (λ c. search rules)
-    (λ c. part-fits _ _ (start c).requires.0 (start c).requires.1)
+    (λ c. part-fits _ _ c.requires.0 c.requires.1)
     returns)

@@ -15,89 +15,52 @@ use Rattle.packer.proofs.Rounds.{next-cleared, heads-cleared, rounding-done, rou
 use Rattle.packer.proofs.classify.Statement.{statement}
 use Rattle.packer.proofs.classify.Tie as tie
 
-abbrev invariant-loop : tie.invariant-loop
+abbrev invariant-loop : tie.invariant-loop-before
 invariant-loop table n names₀ before₀ next₀ heads₀ names before next heads =
     Rounding table n (chains names₀ next₀ heads₀) before₀ (chains names next heads) before
 
-abbrev decreases-loop : tie.decreases-loop
+abbrev decreases-loop : tie.decreases-loop-before
 decreases-loop table n names₀ before₀ next₀ heads₀ names before next heads = n * n - total (number_at before) n
 
--- The places before the loop: the first call of `clear`, the loans for it, and the start.
-abbrev first-clear : tie.At-loop invariant-loop decreases-loop → tie.After-clear invariant-loop decreases-loop
-first-clear c = c.before.before.before
-
-abbrev lent : tie.After-clear invariant-loop decreases-loop → tie.After-slice-known3 invariant-loop decreases-loop
-lent c = c.before.before.before
-
-abbrev start : tie.After-clear invariant-loop decreases-loop → tie.Start invariant-loop decreases-loop
-start c = (lent c).before.before.before.before
-
--- Those in a turn: its start, its round, and the test after that.
-abbrev turn_at : tie.After-round invariant-loop decreases-loop → tie.At-loop invariant-loop decreases-loop
-turn_at c = c.before.before.before.before.before
-
-abbrev heads-at : tie.After-same-arg2 invariant-loop decreases-loop → tie.After-heads invariant-loop decreases-loop
-heads-at c = c.before.before.before
-
-abbrev round-at : tie.After-same-arg2 invariant-loop decreases-loop → tie.After-round invariant-loop decreases-loop
-round-at c = (heads-at c).before.before.before.before.before
-
--- Those after the test: the copy, where the round changes a class; the three calls of `clear`, where it changes none.
-abbrev copy_test : tie.After-copy invariant-loop decreases-loop → tie.After-same invariant-loop decreases-loop
-copy_test c = c.before.before.before.before
-
-abbrev before-test : tie.After-clear2 invariant-loop decreases-loop → tie.After-same invariant-loop decreases-loop
-before-test c = c.before.before.before
-
-abbrev before-clear : tie.After-clear3 invariant-loop decreases-loop → tie.After-clear2 invariant-loop decreases-loop
-before-clear c = c.before.before.before.before
-
-abbrev next-clear : tie.After-clear4 invariant-loop decreases-loop → tie.After-clear3 invariant-loop decreases-loop
-next-clear c = c.before.before.before.before
-
-loop-holds : tie.Need-loop-init invariant-loop decreases-loop
-loop-holds c = rounding-none _ _ _ _ c.before.before.clear.ensures
+loop-holds : tie.Need-loop-before-init invariant-loop decreases-loop
+loop-holds c = rounding-none _ _ _ _ c.clear.ensures
 
 -- The buffers after a round, and what is known of it.
 abbrev after : tie.After-round invariant-loop decreases-loop → Chains
 after c =
-    let last = c.round.new in
-    chains last.1.1.0 last.1.1.1.1.0 last.1.1.1.1.1.0
+    chains c.round.new.names c.round.new.next c.round.new.heads
 
 -- The first call of `clear` keeps the length, and what clearing again would leave.
 first-cleared : (c : tie.After-clear invariant-loop decreases-loop) →
-    let args = (start c).args in
-    let first = c.clear.new.0 in
+    let args = c.args in
+    let first = c.clear.new.numbers in
     let given = args.before.now in
     (length first ≡ length given) × (cleared args.n first ≡ cleared args.n given)
-first-cleared c = cleared_by _ _ c.clear.ensures (start c).requires.rooms.in-before
+first-cleared c = cleared_by _ _ c.clear.ensures c.requires.rooms.in-before
 
 known : (c : tie.After-round invariant-loop decreases-loop) →
-    let turn = (turn_at c).loop in
-    let first = first-clear (turn_at c) in
-    let args = (start first).args in
+    let turn = c.loop-before in
+    let args = c.args in
     OneRound args.table.now args.n (chains args.names.now args.next.now args.heads.now)
-    first.clear.last.0 (chains turn.names turn.next turn.heads) turn.before (after c)
+    c.clear.new.numbers (chains turn.names turn.next turn.heads) turn.before (after c)
 known c =
-    let first = first-clear (turn_at c) in
-    let pre = (start first).pre in
+    let pre = c.requires in
     record {
       fitted = pre.fitted;
       rooms = record {
         in-names = pre.rooms.in-names;
-        in-before = omega (arith, (first-cleared first).0, pre.rooms.in-before);
+        in-before = omega (arith, (first-cleared c.before.before.before.before.before.before.before).0, pre.rooms.in-before);
         in-next = pre.rooms.in-next;
         in-heads = pre.rooms.in-heads;
       };
-      from = (turn_at c).loop.invariant;
+      from = c.loop-before.invariant;
       round = c.round.ensures;
     }
 
 round-requires : tie.Need-round-requires invariant-loop decreases-loop
 round-requires c κs =
-    let turn = c.before.before.before.before in
-    let pre = (start (first-clear turn)).pre in
-    let inv = turn.loop.invariant in (
+    let pre = c.requires in
+    let inv = c.loop-before.invariant in (
       pre.fitted,
       omega (arith, pre.rooms.in-names, inv.length-names),
       omega (arith, pre.rooms.in-next, inv.length-next),
@@ -106,39 +69,31 @@ round-requires c κs =
 
 same-requires : tie.Need-same-requires invariant-loop decreases-loop
 same-requires c κs =
-    let round = known (round-at c) in (
+    let round = known c.before.before.before.before.before.before in (
       omega (arith, round.rooms.in-before, round.from.length_before),
       omega (arith, round.rooms.in-names, names-kept round),
     )
 
-returns : tie.Need-returns invariant-loop decreases-loop
+returns : tie.Need-returns-then-same invariant-loop decreases-loop
 returns c =
-    let heads = c.before.before in
-    let next = next-clear heads in
-    let before = before-clear next in
-    let test = before-test before in
-    let at = round-at test.before in
-    let round = known at in (
-      rounding-done round (sym test.same.ensures ∙ before.before.before.if1.taken),
-      before.clear2.ensures ∙ round.from.rest-before ∙ (first-cleared (first-clear (turn_at at))).1,
-      next.clear3.ensures ∙ next-cleared round,
-      heads.clear4.ensures ∙ heads-cleared round,
+    let round = known c.before.before.before.before.before.before.before.before.before.before.before.before.before.before.before.before.before.before.before.before in (
+      rounding-done round (sym c.same.ensures ∙ c.if-same.true),
+      c.clear-then-same.ensures ∙ round.from.rest-before ∙ (first-cleared c.before.before.before.before.before.before.before.before.before.before.before.before.before.before.before.before.before.before.before.before.before.before.before.before.before.before.before).1,
+      c.clear-then-same-2.ensures ∙ next-cleared round,
+      c.clear-then-same-3.ensures ∙ heads-cleared round,
     )
 
-loop-less : tie.Need-loop-smaller invariant-loop decreases-loop
+loop-less : tie.Need-loop-before-smaller invariant-loop decreases-loop
 loop-less c =
-    let copy = c.before.before in
-    let test = copy_test copy in
-    rounding-less (known (round-at test.before)) copy.copy.ensures
-    (sym test.same.ensures ∙ copy.before.before.before.if1.false)
+    rounding-less (known c.before.before.before.before.before.before.before.before.before.before.before.before) c.copy.ensures
+    (sym c.same.ensures ∙ c.if-same.false)
 
-loop-again : tie.Need-loop-preserved invariant-loop decreases-loop
+loop-again : tie.Need-loop-before-preserved invariant-loop decreases-loop
 loop-again c =
-    let copy = c.before.before in
-    rounding-more (known (round-at (copy_test copy).before)) copy.copy.ensures
+    rounding-more (known c.before.before.before.before.before.before.before.before.before.before.before.before) c.copy.ensures
 
-pub classify-spec : {M : Type 1} → statement M
-classify-spec =
+pub classify_spec : {M : Type 1} → statement M
+classify_spec =
     tie.close
     (tie.spec
     invariant-loop

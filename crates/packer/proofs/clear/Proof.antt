@@ -9,16 +9,16 @@ use Rattle.packer.proofs.Cleared.{cleared_more}
 use Rattle.packer.proofs.clear.Statement.{statement}
 use Rattle.packer.proofs.clear.Tie as tie
 
-abbrev invariant-loop : tie.invariant-loop
+abbrev invariant-loop : tie.invariant-loop-i
 invariant-loop numbers₀ n i₀ numbers i =
     (i ≤ n) × (length numbers ≡ length numbers₀) × (numbers ≡ cleared i numbers₀)
 
-abbrev decreases-loop : tie.decreases-loop
+abbrev decreases-loop : tie.decreases-loop-i
 decreases-loop numbers₀ n i₀ numbers i = n - i
 
-loop-again : tie.Need-loop-preserved invariant-loop decreases-loop
+loop-again : tie.Need-loop-i-preserved invariant-loop decreases-loop
 loop-again c =
-    let loop = c.before.loop in (
+    let loop = c.loop-i in (
       omega arith,
       rw length-set loop.invariant.1,
       ap (λ (l : List ℕ). set l loop.i 0) loop.invariant.2 ∙ cleared_more _ loop.i (omega arith),
@@ -26,8 +26,8 @@ loop-again c =
 
 returns : tie.Need-returns invariant-loop decreases-loop
 returns c =
-    let loop = c.before.loop in
-    let all : loop.i ≡ c.before.before.args.n = omega arith in
+    let loop = c.loop-i in
+    let all : loop.i ≡ c.args.n = omega arith in
     rw all at loop.invariant.2
 
 pub clear_spec : {M : Type 1} → statement M
@@ -42,5 +42,5 @@ clear_spec =
     (λ c. omega arith)
     (λ c. omega arith)
     loop-again
-    (λ c. c.before.loop.invariant.1)
+    (λ c. c.loop-i.invariant.1)
     returns)

@@ -9,53 +9,44 @@ use Rattle.packer.proofs.Emits.{emit-few, emit-other, emit-all}
 use Rattle.packer.proofs.emit.Statement.{statement}
 use Rattle.packer.proofs.emit.Tie as tie
 
-abbrev invariant-loop : tie.invariant-loop
+abbrev invariant-loop : tie.invariant-loop-i
 invariant-loop table n marks places second₀ size₀ i₀ second size i = Emitting table n second₀ second size i
 
-abbrev decreases-loop : tie.decreases-loop
+abbrev decreases-loop : tie.decreases-loop-i
 decreases-loop table n marks places second₀ size₀ i₀ second size i = n - i
 
--- The start.
-abbrev start : tie.At-loop invariant-loop decreases-loop → tie.Start invariant-loop decreases-loop
-start c = c.before.before.before.before.before
-
-loop-holds : tie.Need-loop-init invariant-loop decreases-loop
-loop-holds c = emit-none _ _ c.before.before.before.before.requires.fitted _
+loop-holds : tie.Need-loop-i-init invariant-loop decreases-loop
+loop-holds c = emit-none _ _ c.requires.fitted _
 
 room : tie.Need-put-requires invariant-loop decreases-loop
 room c κs =
-    let at = c.before.before.before.before.before in
-    let pre = (start at).requires in
-    emit-room _ _ pre.fitted _ at.loop.invariant pre.room c.before.before.before.before.loop-test.true
+    let pre = c.requires in
+    emit-room _ _ pre.fitted _ c.loop-i.invariant pre.room c.loop-i-test.true
 
-more-fits : tie.Need-overflow-add-size invariant-loop decreases-loop
+more-fits : tie.Need-overflow_add-size invariant-loop decreases-loop
 more-fits c =
-    let key = c.before.before.before in
-    let at = key.before.before.before.before.before in
-    let pre = (start at).requires in
-    omega (arith, emit-few _ _ pre.fitted _ at.loop.invariant, at.loop.invariant.within, pre.fitted.few)
+    let pre = c.requires in
+    omega (arith, emit-few _ _ pre.fitted _ c.loop-i.invariant, c.loop-i.invariant.within, pre.fitted.few)
 
-loop-again : tie.Need-loop-preserved invariant-loop decreases-loop
+loop-again : tie.Need-loop-i-preserved invariant-loop decreases-loop
 loop-again c =
-    let at = c.before.before.before in
-    let taken = c.before.before.loop-test.true in
-    let pre = (start at).requires in
-    let args = (start at).args in
+    let taken = c.loop-i-test.true in
+    let pre = c.requires in
+    let args = c.args in
     let marks = args.marks.now in
     ⊎_elim
-    (λ w. emit-more _ _ pre.fitted _ at.loop.invariant taken (not-zero _ _ marks pre.marks _ taken w.0.taken)
-    args.places.now pre.places w.2.result w.2.ensures (w.6 ∙ w.3.ensures) w.7)
-    (λ w. emit-other _ _ pre.fitted _ at.loop.invariant taken (is_zero _ _ marks pre.marks _ taken w.0.left)
-    w.1 w.2)
-    c.if1.branch
+    (λ w. emit-more _ _ pre.fitted _ c.loop-i.invariant taken (not-zero _ _ marks pre.marks _ taken w.if-marks-i-ne0.true)
+    args.places.now pre.places w.key_at.result w.key_at.ensures (w.second-is ∙ w.put.ensures) w.size-is)
+    (λ w. emit-other _ _ pre.fitted _ c.loop-i.invariant taken (is_zero _ _ marks pre.marks _ taken w.if-marks-i-ne0.false)
+    w.second-is w.size-is)
+    c.if-marks-i-ne0.branch-raw
 
 returns : tie.Need-returns invariant-loop decreases-loop
 returns c =
-    let at = c.before in
-    emit-all _ _ (start at).requires.fitted _ at.loop.invariant (omega arith)
+    emit-all _ _ c.requires.fitted _ c.loop-i.invariant (omega arith)
 
-pub emit-spec : {M : Type 1} → statement M
-emit-spec =
+pub emit_spec : {M : Type 1} → statement M
+emit_spec =
     tie.close
     (tie.spec
     invariant-loop
@@ -69,5 +60,5 @@ emit-spec =
     (λ c. search rules)
     (λ c. search rules)
     loop-again
-    (λ c. emit-length _ _ (start c.before).pre.fitted _ c.before.loop.invariant)
+    (λ c. emit-length _ _ c.requires.fitted _ c.loop-i.invariant)
     returns)

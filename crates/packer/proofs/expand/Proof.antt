@@ -6,28 +6,6 @@ use Rattle.packer.proofs.Marks.{expand-b, expand-c, expand-all}
 use Rattle.packer.proofs.expand.Statement.{statement}
 use Rattle.packer.proofs.expand.Tie as tie
 
--- The places of the three visits, each by the one before it: the row is read, and the call is made.
-abbrev row : tie.After-shared-slice-known4 → tie.After-row-of
-row c = c.before.before.before
-
-abbrev known : tie.After-row-of → tie.After-slice-known
-known c = c.before.before.before
-
-abbrev start : tie.After-row-of → tie.Start
-start c = (known c).before.before.before
-
-abbrev left : tie.After-shared-slice-known5 → tie.After-found
-left c = c.before.before.before.before
-
-abbrev first : tie.After-shared-slice-known5 → tie.After-visit
-first c = (left c).before.before.before
-
-abbrev left' : tie.After-shared-slice-known6 → tie.After-found2
-left' c = c.before.before.before.before
-
-abbrev second : tie.After-shared-slice-known6 → tie.After-visit2
-second c = (left' c).before.before.before
-
 -- The marking and the equation that are given.
 abbrev given : tie.Start → Marking
 given c = marking c.args.marks.now c.args.found.now c.args.size
@@ -35,38 +13,26 @@ given c = marking c.args.marks.now c.args.found.now c.args.size
 abbrev equation : tie.Start → Equation
 equation c = equation_at c.args.table.now c.args.j
 
-visit-a : tie.Need-visit-requires
-visit-a c κs = rw (row c).row_of.ensures (start (row c)).requires.a
+visit-a : tie.Need-visit-first-requires
+visit-a c κs = rw c.row_of-row.ensures c.requires.a
 
-visit-b : tie.Need-visit-requires-2
+visit-b : tie.Need-visit-second-requires
 visit-b c κs =
-    let one = first c in
-    let at = row one.before in
-    let begin = start at in
-    expand-b begin.args.classes.now (given begin) (equation begin) at.row_of.ensures one.visit.ensures
-    begin.pre.b
+    expand-b c.args.classes.now (given c.before.before.before.before.before.before.before.before.before.before.before.before.before.before.before.before.before) (equation c.before.before.before.before.before.before.before.before.before.before.before.before.before.before.before.before.before) c.row_of-row.ensures c.visit-first.ensures
+    c.requires.b
 
-visit-c : tie.Need-visit-requires-3
+visit-c : tie.Need-visit-requires
 visit-c c κs =
-    let two = second c in
-    let one = first two.before in
-    let at = row one.before in
-    let begin = start at in
-    expand-c begin.args.classes.now (given begin) (equation begin) at.row_of.ensures one.visit.ensures
-    two.visit2.ensures begin.pre.c
+    expand-c c.args.classes.now (given c.before.before.before.before.before.before.before.before.before.before.before.before.before.before.before.before.before.before.before.before.before.before.before.before.before) (equation c.before.before.before.before.before.before.before.before.before.before.before.before.before.before.before.before.before.before.before.before.before.before.before.before.before) c.row_of-row.ensures c.visit-first.ensures
+    c.visit-second.ensures c.requires.c
 
 returns : tie.Need-returns
 returns c =
-    let three = c.before.before.before.before in
-    let two = second three.before in
-    let one = first two.before in
-    let at = row one.before in
-    let begin = start at in
-    expand-all begin.args.classes.now (given begin) (equation begin) at.row_of.ensures one.visit.ensures
-    two.visit2.ensures three.visit3.ensures
+    expand-all c.args.classes.now (given c.before.before.before.before.before.before.before.before.before.before.before.before.before.before.before.before.before.before.before.before.before.before.before.before.before.before.before.before.before.before) (equation c.before.before.before.before.before.before.before.before.before.before.before.before.before.before.before.before.before.before.before.before.before.before.before.before.before.before.before.before.before.before) c.row_of-row.ensures c.visit-first.ensures
+    c.visit-second.ensures c.visit.ensures
 
-pub expand-spec : {M : Type 1} → statement M
-expand-spec =
+pub expand_spec : {M : Type 1} → statement M
+expand_spec =
     tie.close
     (tie.spec
     (λ c. search rules)

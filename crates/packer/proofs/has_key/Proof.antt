@@ -6,15 +6,15 @@ use Rattle.packer.proofs.Quick.{differ}
 use Rattle.packer.proofs.has_key.Statement.{statement}
 use Rattle.packer.proofs.has_key.Tie as tie
 
-other-kind : tie.Need-returns
+other-kind : tie.Need-returns-then-table-j
 unfolding mixed
-other-kind c = differ _ _ (λ q. c.if1.true (ap (λ e. e.kind) q))
+other-kind c = differ _ _ (λ q. c.if-table-j.true (ap (λ e. e.kind) q))
 
-compared : tie.Need-returns-2
-compared c = c.same_key.ensures ∙ rw c.before.key-at.ensures
+compared : tie.Need-returns
+compared c = c.same_key.ensures ∙ rw c.key_at.ensures
 
-pub has-key-spec : {M : Type 1} → statement M
-has-key-spec =
+pub has_key_spec : {M : Type 1} → statement M
+has_key_spec =
     tie.close
     (tie.spec
     (λ c. search rules)

@@ -4,11 +4,11 @@ use borrow.Author.Tests.{eq-eqb, ne_eqb}
 use Rattle.packer.proofs.head_after.Statement.{statement}
 use Rattle.packer.proofs.head_after.Tie as tie
 
-new-head : tie.Need-returns
-new-head c = rw (eq-eqb _ _ c.if1.true)
+new-head : tie.Need-returns-then-j-i
+new-head c = rw (eq-eqb _ _ c.if-j-i.true)
 
-old-head : tie.Need-returns-2
-old-head c = rw (ne_eqb _ _ c.if1.false)
+old-head : tie.Need-returns-else-j-i
+old-head c = rw (ne_eqb _ _ c.if-j-i.false)
 
-pub head-after-spec : {M : Type 1} → statement M
-head-after-spec = tie.close (tie.spec (λ c. search rules) (λ c. search rules) new-head old-head)
+pub head_after_spec : {M : Type 1} → statement M
+head_after_spec = tie.close (tie.spec (λ c. search rules) (λ c. search rules) new-head old-head)

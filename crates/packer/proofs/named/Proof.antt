@@ -4,28 +4,28 @@ use borrow.Author.Rules.{rules}
 use Rattle.packer.proofs.named.Statement.{statement}
 use Rattle.packer.proofs.named.Tie as tie
 
-unused : tie.Need-returns
+unused : tie.Need-returns-in-Unused
 unfolding mixed_number
-unused c = rw c.enum_told.given.1
+unused c = rw c.in-Unused.is
 
-earlier : tie.Need-returns-2
+earlier : tie.Need-returns-in-Earlier
 unfolding mixed_number
-earlier c = rw c.before.enum-told2.given.1 c.number_at.ensures
+earlier c = rw c.in-Earlier.is c.number_at.ensures
 
-anywhere : tie.Need-returns-3
+anywhere : tie.Need-returns-in-Anywhere
 unfolding mixed_number
-anywhere c = rw c.before.enum-told3.given.1 c.number-at2.ensures
+anywhere c = rw c.in-Anywhere.is c.number_at-in-Anywhere.ensures
 
-below : tie.Need-returns-4
+below : tie.Need-returns-in-Below
 unfolding mixed_number
-below c = rw c.enum-told4.given.1
+below c = rw c.in-Below.is
 
-a-velocity : tie.Need-returns-5
+a-velocity : tie.Need-returns-in-Velocity
 unfolding mixed_number
-a-velocity c = rw c.enum-told5.given.1
+a-velocity c = rw c.in-Velocity.is
 
-pub named-spec : {M : Type 1} → statement M
-named-spec =
+pub named_spec : {M : Type 1} → statement M
+named_spec =
     tie.close
     (tie.spec
     (λ c. search rules)

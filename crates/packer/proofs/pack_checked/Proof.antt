@@ -6,35 +6,26 @@ use Rattle.packer.proofs.Whole.{pack-no-room, pack-stored}
 use Rattle.packer.proofs.pack_checked.Statement.{statement}
 use Rattle.packer.proofs.pack_checked.Tie as tie
 
--- The start, from where there is room.
-abbrev start : tie.Else1 → tie.Start
-start c = c.before.before.before
+no_room : tie.Need-returns-then-second-lt-TABLE
+no_room c = pack-no-room _ _ _ c.if-second-lt-TABLE.true
 
-no_room : tie.Need-returns
-no_room c = pack-no-room _ _ _ c.if1.true
-
-small : tie.Need-pack-small-requires
+small : tie.Need-pack_small-requires
 small c κs =
-    let room = c.before.before in
-    ((start room).requires, omega (arith, room.if1.false), omega (arith, c.before.if2.true))
+    (c.requires, omega (arith, c.if-second-lt-TABLE.false), omega (arith, c.if-n-le-RULE_EQUATIONS.true))
 
-large : tie.Need-pack-large-requires
-large c κs = let room = c.before.before in ((start room).requires, omega (arith, room.if1.false))
+large : tie.Need-pack_large-requires
+large c κs = (c.requires, omega (arith, c.if-second-lt-TABLE.false))
 
-small-stored : tie.Need-returns-2
+small-stored : tie.Need-returns-then-n-le-RULE_EQUATIONS
 small-stored c =
-    let call = c.before.before in
-    let room = call.before.before.before in
-    pack-stored _ _ _ (start room).requires (omega (arith, room.if1.false)) call.pack-small.ensures
+    pack-stored _ _ _ c.requires (omega (arith, c.if-second-lt-TABLE.false)) c.pack_small.ensures
 
-large-stored : tie.Need-returns-3
+large-stored : tie.Need-returns
 large-stored c =
-    let call = c.before.before in
-    let room = call.before.before.before in
-    pack-stored _ _ _ (start room).requires (omega (arith, room.if1.false)) call.pack-large.ensures
+    pack-stored _ _ _ c.requires (omega (arith, c.if-second-lt-TABLE.false)) c.pack_large.ensures
 
-pub pack-checked-spec : {M : Type 1} → statement M
-pack-checked-spec =
+pub pack_checked_spec : {M : Type 1} → statement M
+pack_checked_spec =
     tie.close
     (tie.spec
     no_room

@@ -10,64 +10,57 @@ use Rattle.packer.proofs.Places.{place-more, place-all}
 use Rattle.packer.proofs.place.Statement.{statement}
 use Rattle.packer.proofs.place.Tie as tie
 
-abbrev invariant-loop : tie.invariant-loop
+abbrev invariant-loop : tie.invariant-loop-i
 invariant-loop table n marks names₀ size₀ i₀ names size i = Placing table n names₀ names size i
 
-abbrev decreases-loop : tie.decreases-loop
+abbrev decreases-loop : tie.decreases-loop-i
 decreases-loop table n marks names₀ size₀ i₀ names size i = n - i
 
--- The start, and what is known of the names and of how many are kept before a turn.
-abbrev start : tie.At-loop invariant-loop decreases-loop → tie.Start invariant-loop decreases-loop
-start c = c.before.before.before.before
+long : (c : tie.At-loop-i invariant-loop decreases-loop) → length c.loop-i.names ≡ length c.args.names.now
+long c = let pre = c.requires in place-length _ _ pre.fitted _ pre.names pre.named c.loop-i.invariant
 
-long : (c : tie.At-loop invariant-loop decreases-loop) → length c.loop.names ≡ length (start c).args.names.now
-long c = let pre = (start c).requires in place-length _ _ pre.fitted _ pre.names pre.named c.loop.invariant
-
-few : (c : tie.At-loop invariant-loop decreases-loop) → c.loop.size ≤ c.loop.i
-few c = let pre = (start c).requires in place-few _ _ pre.fitted _ pre.names pre.named c.loop.invariant
+few : (c : tie.At-loop-i invariant-loop decreases-loop) → c.loop-i.size ≤ c.loop-i.i
+few c = let pre = c.requires in place-few _ _ pre.fitted _ pre.names pre.named c.loop-i.invariant
 
 -- The class of the equation of this turn stands not after it.
-least : (c : tie.In-loop invariant-loop decreases-loop) → number_at c.before.loop.names c.before.loop.i ≤ c.before.loop.i
+least : (c : tie.In-loop-i invariant-loop decreases-loop) → number_at c.loop-i.names c.loop-i.i ≤ c.loop-i.i
 least c =
-    let pre = (start c.before).pre in
-    place-least _ _ pre.fitted _ pre.names pre.named c.before.loop.invariant c.loop-test.true
+    let pre = c.requires in
+    place-least _ _ pre.fitted _ pre.names pre.named c.loop-i.invariant c.loop-i-test.true
 
-loop-holds : tie.Need-loop-init invariant-loop decreases-loop
-loop-holds c = let pre = c.before.before.before.requires in place_none _ _ pre.fitted _ pre.names pre.named
+loop-holds : tie.Need-loop-i-init invariant-loop decreases-loop
+loop-holds c = let pre = c.requires in place_none _ _ pre.fitted _ pre.names pre.named
 
-class-read : tie.Need-slice-reshared-read-place-of invariant-loop decreases-loop
-class-read c = omega (arith, long c.before.before)
+class-read : tie.Need-slice_reshared_read-place_of invariant-loop decreases-loop
+class-read c = omega (arith, long c.before)
 
-place_read : tie.Need-place-of-requires invariant-loop decreases-loop
-place_read c κs = omega (arith, long c.before.before, least c.before)
+place_read : tie.Need-place_of-requires invariant-loop decreases-loop
+place_read c κs = omega (arith, long c.before, least c)
 
-place-write : tie.Need-slice-write-names invariant-loop decreases-loop
-place-write c = omega (arith, long c.before.before.before)
+place-write : tie.Need-bounds-names-i invariant-loop decreases-loop
+place-write c = omega (arith, long c.before.before)
 
-count_fits : tie.Need-counted-requires invariant-loop decreases-loop
+count_fits : tie.Need-counted-size-requires invariant-loop decreases-loop
 count_fits c κs =
-    let at = c.before.before.before.before in
-    omega (arith, few at, (start at).requires.fitted.few)
+    omega (arith, few c.before.before.before, c.requires.fitted.few)
 
-loop-again : tie.Need-loop-preserved invariant-loop decreases-loop
+loop-again : tie.Need-loop-i-preserved invariant-loop decreases-loop
 loop-again c =
-    let at = c.before.before.before.before.before in
-    let pre = (start at).requires in
-    let taken = c.before.before.before.before.loop-test.true in
-    place-more _ _ pre.fitted _ pre.names pre.named at.loop.invariant taken
-    (start at).args.marks.now pre.marks c.before.before.place_of.ensures c.counted.ensures
+    let pre = c.requires in
+    let taken = c.loop-i-test.true in
+    place-more _ _ pre.fitted _ pre.names pre.named c.loop-i.invariant taken
+    c.args.marks.now pre.marks c.place_of.ensures c.counted-size.ensures
 
-size_fits : tie.Need-overflow-cast-result invariant-loop decreases-loop
-size_fits c = omega (arith, few c.before, (start c.before).pre.fitted.few, c.before.loop.invariant.within)
+size_fits : tie.Need-overflow_cast-result invariant-loop decreases-loop
+size_fits c = omega (arith, few c.before, c.requires.fitted.few, c.loop-i.invariant.within)
 
 returns : tie.Need-returns invariant-loop decreases-loop
 returns c =
-    let at = c.before in
-    let pre = (start at).requires in
-    place-all _ _ pre.fitted _ pre.names pre.named at.loop.invariant (omega arith)
+    let pre = c.requires in
+    place-all _ _ pre.fitted _ pre.names pre.named c.loop-i.invariant (omega arith)
 
-pub place-spec : {M : Type 1} → statement M
-place-spec =
+pub place_spec : {M : Type 1} → statement M
+place_spec =
     tie.close
     (tie.spec
     invariant-loop

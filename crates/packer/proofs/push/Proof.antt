@@ -8,20 +8,20 @@ use Rattle.packer.proofs.push.Statement.{statement}
 use Rattle.packer.proofs.push.Tie as tie
 
 -- Where x is not marked yet, there is a place for it.
-place : (c : tie.Else1) → c.before.before.args.size < length c.before.before.args.found.now
-place c = c.before.before.requires.1 (eq-eqb _ 0 c.if1.false)
+place : (c : tie.Else-marks-i-ne0) → c.args.size < length c.args.found.now
+place c = c.requires.1 (eq-eqb _ 0 c.if-marks-i-ne0.false)
 
-place-fits : tie.Need-overflow-mul-found
+place-fits : tie.Need-offset_bounds-found-size
 place-fits c = let l = place c in search rules
 
-more-fits : tie.Need-overflow-add-result
+more-fits : tie.Need-overflow_add-result
 more-fits c = let l = place c in search rules
 
-marked : tie.Need-returns
-marked c = push-marked _ _ c.if1.true
+marked : tie.Need-returns-then-marks-i-ne0
+marked c = push-marked _ _ c.if-marks-i-ne0.true
 
-new : tie.Need-returns-2
-new c = push-new _ _ c.if1.false
+new : tie.Need-returns
+new c = push-new _ _ c.if-marks-i-ne0.false
 
 pub push_spec : {M : Type 1} → statement M
 push_spec =

@@ -7,13 +7,13 @@ use Rattle.lists.proofs.Buffers.{sets-four}
 use Rattle.packer.proofs.put.Statement.{statement}
 use Rattle.packer.proofs.put.Tie as tie
 
-write-a : tie.Need-slice-write-second-2
+write-a : tie.Need-bounds-second-p-2
 write-a c = simp length-set (omega arith)
 
-write-b : tie.Need-slice-write-second-3
+write-b : tie.Need-bounds-second-p-3
 write-b c = simp length-set (omega arith)
 
-write-c : tie.Need-slice-write-second-4
+write-c : tie.Need-bounds-second-p-4
 write-c c = simp length-set (omega arith)
 
 returns : tie.Need-returns

@@ -10,26 +10,26 @@ use Rattle.packer.specs.Round.{same_number}
 use Rattle.packer.proofs.same.Statement.{statement}
 use Rattle.packer.proofs.same.Tie as tie
 
-abbrev invariant-loop : tie.invariant-loop
+abbrev invariant-loop : tie.invariant-loop-i
 invariant-loop n x y i₀ i = (i ≤ n) × (all (same_number x y) i ≡ true)
 
-abbrev decreases-loop : tie.decreases-loop
+abbrev decreases-loop : tie.decreases-loop-i
 decreases-loop n x y i₀ i = n - i
 
-one-differs : tie.Need-returns invariant-loop decreases-loop
+one-differs : tie.Need-returns-then-x-i invariant-loop decreases-loop
 one-differs c =
-    let loop = c.before.before.before.before.loop in
-    sym (all-stop _ loop.i _ (omega arith) (ne_eqb _ _ c.if1.true))
+    let loop = c.loop-i in
+    sym (all-stop _ loop.i _ (omega arith) (ne_eqb _ _ c.if-x-i.true))
 
-loop-again : tie.Need-loop-preserved invariant-loop decreases-loop
+loop-again : tie.Need-loop-i-preserved invariant-loop decreases-loop
 loop-again c =
-    let loop = c.before.before.before.before.loop in
-    (omega arith, all_more _ loop.i loop.invariant.1 (eq-eqb _ _ c.if1.false))
+    let loop = c.loop-i in
+    (omega arith, all_more _ loop.i loop.invariant.1 (eq-eqb _ _ c.if-x-i.false))
 
-all_same : tie.Need-returns-2 invariant-loop decreases-loop
+all_same : tie.Need-returns invariant-loop decreases-loop
 all_same c =
-    let loop = c.before.loop in
-    let whole : loop.i ≡ c.before.before.args.n = omega arith in
+    let loop = c.loop-i in
+    let whole : loop.i ≡ c.args.n = omega arith in
     rw whole at (sym loop.invariant.1)
 
 pub same_spec : {M : Type 1} → statement M

@@ -8,58 +8,42 @@ use Rattle.packer.proofs.visit.Statement.{statement}
 use Rattle.packer.proofs.visit.Tie as tie
 
 -- The place where the call of `push` is made, by what it is made for, and the start before it.
-abbrev told : tie.After-shared-slice-known2 → tie.After-enum-told2
-told c = c.before.before.before
-
-abbrev told' : tie.After-shared-slice-known3 → tie.After-enum-told3
-told' c = c.before.before.before
-
-abbrev start : tie.After-enum-told2 → tie.Start
-start c = c.before.before.before.before.before
-
-abbrev start' : tie.After-enum-told3 → tie.Start
-start' c = c.before.before.before.before.before
-
-earlier-read : tie.Need-shared-slice-read-push
-earlier-read c = (visit-room _ _ _ (inl (told c).enum-told2.given.1) (start (told c)).requires).0
+earlier-read : tie.Need-bounds-classes-x
+earlier-read c = (visit-room _ _ _ (inl c.in-Earlier.is) c.requires).0
 
 earlier : tie.Need-push-requires
-earlier c κs = (visit-room _ _ _ (inl (told c).enum-told2.given.1) (start (told c)).requires).1
+earlier c κs = (visit-room _ _ _ (inl c.in-Earlier.is) c.requires).1
 
-anywhere-read : tie.Need-shared-slice-read-push-2
-anywhere-read c = (visit-room _ _ _ (inr (told' c).enum-told3.given.1) (start' (told' c)).requires).0
+anywhere-read : tie.Need-bounds-classes-x-in-Anywhere
+anywhere-read c = (visit-room _ _ _ (inr c.in-Anywhere.is) c.requires).0
 
-anywhere : tie.Need-push-requires-2
-anywhere c κs = (visit-room _ _ _ (inr (told' c).enum-told3.given.1) (start' (told' c)).requires).1
+anywhere : tie.Need-push-requires-in-Anywhere
+anywhere c κs = (visit-room _ _ _ (inr c.in-Anywhere.is) c.requires).1
 
-unused : tie.Need-returns
+unused : tie.Need-returns-in-Unused
 unfolding visited
-unused c = rw c.enum_told.given.1
+unused c = rw c.in-Unused.is
 
-pushed : tie.Need-returns-2
+pushed : tie.Need-returns-in-Earlier
 pushed c =
-    let call = c.before.before.before.before in
-    let at = told call.before in
-    let args = (start at).args in
-    call.push.ensures ∙ visit-pushes args.classes.now _ args.x (inl at.enum-told2.given.1)
+    let args = c.args in
+    c.push.ensures ∙ visit-pushes args.classes.now _ args.x (inl c.in-Earlier.is)
 
-pushed' : tie.Need-returns-3
+pushed' : tie.Need-returns-in-Anywhere
 pushed' c =
-    let call = c.before.before.before.before in
-    let at = told' call.before in
-    let args = (start' at).args in
-    call.push2.ensures ∙ visit-pushes args.classes.now _ args.x (inr at.enum-told3.given.1)
+    let args = c.args in
+    c.push-in-Anywhere.ensures ∙ visit-pushes args.classes.now _ args.x (inr c.in-Anywhere.is)
 
-constant : tie.Need-returns-4
+constant : tie.Need-returns-in-Below
 unfolding visited
-constant c = rw c.enum-told4.given.1
+constant c = rw c.in-Below.is
 
-a-velocity : tie.Need-returns-5
+a-velocity : tie.Need-returns-in-Velocity
 unfolding visited
-a-velocity c = rw c.enum-told5.given.1
+a-velocity c = rw c.in-Velocity.is
 
-pub visit-spec : {M : Type 1} → statement M
-visit-spec =
+pub visit_spec : {M : Type 1} → statement M
+visit_spec =
     tie.close
     (tie.spec
     (λ c. search rules)

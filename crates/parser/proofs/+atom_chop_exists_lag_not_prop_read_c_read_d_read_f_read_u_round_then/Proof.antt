@@ -68,8 +68,8 @@ use Rattle.parser.proofs.+atom_chop_exists_lag_not_prop_read_c_read_d_read_f_rea
   met as then-met,
 }
 
-pub +atom-chop-exists-lag-not-prop-read-c-read-d-read-f-read-u-round-then-spec : {M : Type 1} → statement M
-+atom-chop-exists-lag-not-prop-read-c-read-d-read-f-read-u-round-then-spec =
+pub +atom_chop_exists_lag_not_prop_read_c_read_d_read_f_read_u_round_then_spec : {M : Type 1} → statement M
++atom_chop_exists_lag_not_prop_read_c_read_d_read_f_read_u_round_then_spec =
     close
     μ-atom
     μ-chop

@@ -49,92 +49,70 @@ module _ {ws : List ℕ} {j : ℕ} {before : List ℕ} {top k : ℕ} {lead : Boo
             ∙ ap (sets before top) (ap (λ (x : ℕ). row k x b c) ea ∙ ap₂ (row k (op_number o)) eb ec);
       }
 
--- The places: the start; both words; a first word that is op; a second that is n; and the record.
-abbrev start : tie.After-number-at → tie.Start
-start c = c.before.before.before
-
-abbrev op-looked : tie.Else1 → tie.After-number-at
-op-looked c = c.before.before.before
-
-abbrev at_op : tie.Else2 → tie.Else1
-at_op c = c.before.before
-
-abbrev num-looked : tie.Else2 → tie.After-number-at2
-num-looked c = (at_op c).before.before
-
-abbrev at-num : tie.After-push → tie.Else2
-at-num c = c.before.before.before.before
-
-abbrev pushed : tie.After-atom-facts → tie.After-push
+abbrev pushed : tie.After-atom_facts → tie.After-push-end
 pushed c = c.before.before.before.before.before
 
 -- The first word,
-is-op : (c : tie.Else1) → is_op (op-looked c).number_at.result ≡ true
+is-op : (c : tie.Else-not-is_op) → is_op c.number_at-o.result ≡ true
 is-op c =
-    let test = c.before.is-op in
-    sym test.ensures ∙ not-false test.result c.if1.false
+    let test = c.is_op in
+    sym test.ensures ∙ c.if-not-is_op.false
 
-op-word : (c : tie.Else1) →
-    let args = (start (op-looked c)).args in
+op-word : (c : tie.Else-not-is_op) →
+    let args = c.args in
     is_op (word args.ws.now args.at) ≡ true
-op-word c = ap is_op (sym (op-looked c).number_at.ensures) ∙ is-op c
+op-word c = ap is_op (sym c.number_at-o.ensures) ∙ is-op c
 
-no-op : tie.Need-returns
+no-op : tie.Need-returns-then-not-is_op
 no-op c =
-    let test = c.before.is-op in
-    let first = c.before.before.before in
-    let args = (start first).args in
-    let no = sym test.ensures ∙ not-true test.result c.if1.true in
+    let test = c.is_op in
+    let args = c.args in
+    let no = sym test.ensures ∙ c.if-not-is_op.true in
     let n = word args.ws.now (args.at + 1) in
-    no-comparison (ap (λ (x : Bool). x && is_num n) (ap is_op (sym first.number_at.ensures) ∙ no))
+    no-comparison (ap (λ (x : Bool). x && is_num n) (ap is_op (sym c.number_at-o.ensures) ∙ no))
 
 -- the second,
-is-num : (c : tie.Else2) → is_num (num-looked c).number-at2.result ≡ true
+is-num : (c : tie.Else-not-is_num) → is_num c.number_at-n.result ≡ true
 is-num c =
-    let test = c.before.is-num in
-    sym test.ensures ∙ not-false test.result c.if2.false
+    let test = c.is_num in
+    sym test.ensures ∙ c.if-not-is_num.false
 
-no-num : tie.Need-returns-2
+no-num : tie.Need-returns-then-not-is_num
 no-num c =
-    let test = c.before.is-num in
-    let here = c.before.before in
-    let no = sym test.ensures ∙ not-true test.result c.if2.true in
-    no-comparison (ap₂ ◌&&◌ (op-word here) (ap is_num (sym here.before.before.number-at2.ensures) ∙ no))
+    let test = c.is_num in
+    let no = sym test.ensures ∙ c.if-not-is_num.true in
+    no-comparison (ap₂ ◌&&◌ (op-word c.before.before) (ap is_num (sym c.number_at-n.ensures) ∙ no))
 
 -- and both.
-are-both : (c : tie.Else2) →
-    let args = (start (op-looked (at_op c))).args in
+are-both : (c : tie.Else-not-is_num) →
+    let args = c.args in
     comparison_at args.ws.now args.at ≡ true
-are-both c = ap₂ ◌&&◌ (op-word (at_op c)) (ap is_num (sym (num-looked c).number-at2.ensures) ∙ is-num c)
+are-both c = ap₂ ◌&&◌ (op-word c.before.before) (ap is_num (sym c.number_at-n.ensures) ∙ is-num c)
 
-sub-op : tie.Need-overflow-sub-push
+sub-op : tie.Need-overflow_sub-o
 sub-op c =
-    let here = at_op c.before in
-    op-pos (op-looked here).number_at.result (is-op here)
+    op-pos c.number_at-o.result (is-op c.before.before.before)
 
-num-value-requires : tie.Need-num-value-requires
+num-value-requires : tie.Need-num_value-requires
 num-value-requires c κs = is-num c.before.before
 
-is-upper-requires : tie.Need-is-upper-requires
-is-upper-requires c κs = is-op (at_op (at-num c.before.before))
+is-upper-requires : tie.Need-is_upper-requires
+is-upper-requires c κs = is-op c.before.before.before.before.before.before.before.before
 
-op-num : tie.Need-returns-3
+op-num : tie.Need-returns
 op-num c =
-    let after_push = pushed c in
-    let both = at-num after_push in
-    let first = op-looked (at_op both) in
-    let o = first.number_at.ensures in
-    let n = (num-looked both).number-at2.ensures in
-    let upper-op = c.before.before.is-upper.ensures ∙ ap (λ (x : ℕ). upper (op_word x)) o in
-    comparison (are-both both)
-    (sym (op-number first.number_at.result (is-op (at_op both))) ∙ ap (λ (x : ℕ). op_number (op_word x)) o)
-    (after_push.before.before.num-kind.ensures ∙ ap (λ (x : ℕ). num_kind (num_word x)) n)
-    (after_push.before.num-value.ensures ∙ ap (λ (x : ℕ). num_value (num_word x)) n) after_push.push.ensures
-    (c.atom-facts.ensures
-    ∙ ap atom_facts (c.before.both.ensures ∙ ap (λ (x : Bool). (start first).args.lead && x) upper-op))
+    let o = c.number_at-o.ensures in
+    let n = c.number_at-n.ensures in
+    let upper-op = c.is_upper.ensures ∙ ap (λ (x : ℕ). upper (op_word x)) o in
+    comparison (are-both c.before.before.before.before.before.before.before.before.before)
+    (sym (op-number c.number_at-o.result (is-op c.before.before.before.before.before.before.before.before.before.before.before)) ∙ ap (λ (x : ℕ). op_number (op_word x)) o)
+    (c.num_kind.ensures ∙ ap (λ (x : ℕ). num_kind (num_word x)) n)
+    (c.num_value.ensures ∙ ap (λ (x : ℕ). num_value (num_word x)) n) c.push-end.ensures
+    (c.atom_facts.ensures
+    ∙ ap atom_facts (c.both.ensures ∙ ap (λ (x : Bool). c.args.lead && x) upper-op))
 
-pub comparison-spec : {M : Type 1} → statement M
-comparison-spec =
+pub comparison_spec : {M : Type 1} → statement M
+comparison_spec =
     tie.close
     (tie.spec
     (λ c κs. search rules) (λ c. search rules) (λ c κs. search rules) (λ c κs. search rules) no-op

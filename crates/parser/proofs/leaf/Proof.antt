@@ -39,80 +39,59 @@ module _ {ws : List ℕ} {i : ℕ} {before : List ℕ} {top : ℕ} {after : List
       ParsesVelocity ws i before top r after → ParsesLeaf ws i before top r after
   other-leaf s b h = reads-to (to_same (simp (s, b)) (record { result = h.result; filled = h.filled }))
 
--- The places: the start; the word, where it is a signal; and where it is a bit, and so no signal.
-abbrev start : tie.After-number-at → tie.Start
-start c = c.before.before.before
-
-abbrev signal-looked : tie.Then1 → tie.After-number-at
-signal-looked c = c.before.before
-
-abbrev bit-looked : tie.Then2 → tie.After-number-at
-bit-looked c = c.before.before.before.before
-
-abbrev not-signal : tie.Then2 → tie.Else1
-not-signal c = c.before.before
-
 -- A word leaves room for one record.
-record-room : (c : tie.After-number-at) → 1 ≤ c.number_at.result →
-    (start c).args.top + 4 ≤ length (start c).args.arena.now
-record-room c l = fits-push 0 (past_first (start c).requires (sym c.number_at.ensures) l)
+record-room : (c : tie.After-number_at-w) → 1 ≤ c.number_at-w.result →
+    c.args.top + 4 ≤ length c.args.arena.now
+record-room c l = fits-push 0 (past_first c.requires (sym c.number_at-w.ensures) l)
 
 -- A signal.
-is-signal : (c : tie.Then1) → is_signal (signal-looked c).number_at.result ≡ true
-is-signal c = sym c.before.is-signal.ensures ∙ c.if1.true
+is-signal : (c : tie.Then-is_signal) → is_signal c.number_at-w.result ≡ true
+is-signal c = sym c.is_signal.ensures ∙ c.if-is_signal.true
 
-sub-signal : tie.Need-overflow-sub-push
-sub-signal c = signal-pos (signal-looked c.before).number_at.result (is-signal c.before)
+sub-signal : tie.Need-overflow_sub-w
+sub-signal c = signal-pos c.number_at-w.result (is-signal c.before)
 
-signal-fits : tie.Need-push-requires
-signal-fits c κs = let w = sub-signal c in record-room (signal-looked c.before) (omega arith)
+signal-fits : tie.Need-push-end-requires
+signal-fits c κs = let w = sub-signal c in record-room c.before.before.before (omega arith)
 
-a-signal : tie.Need-returns
+a-signal : tie.Need-returns-then-is_signal
 a-signal c =
-    let here = c.before.before.before.before.before in
-    let looked = signal-looked here in
-    let args = (start looked).args in
-    let w = sym looked.number_at.ensures in
-    let s = ap is_signal w ∙ is-signal here in
+    let args = c.args in
+    let w = sym c.number_at-w.ensures in
+    let s = ap is_signal w ∙ is-signal c.before.before.before.before.before in
     one-record (signal (signal_word (word args.ws.now args.at))) (simp s) refl
     (ap (λ (x : ℕ). row SIGNAL (signal_word x) 0 0) w)
-    c.before.before.before.push.ensures c.leaf-facts.ensures
+    c.push-end.ensures c.leaf_facts.ensures
 
 -- A bit.
-is-bit : (c : tie.Then2) → is_bit (bit-looked c).number_at.result ≡ true
-is-bit c = sym c.before.is-bit.ensures ∙ c.if2.true
+is-bit : (c : tie.Then-is_bit) → is_bit c.number_at-w.result ≡ true
+is-bit c = sym c.is_bit.ensures ∙ c.if-is_bit.true
 
-sub-bit : tie.Need-overflow-sub-push-2
-sub-bit c = bit-pos (bit-looked c.before).number_at.result (is-bit c.before)
+sub-bit : tie.Need-overflow_sub-w-then-is_bit
+sub-bit c = bit-pos c.number_at-w.result (is-bit c.before)
 
-bit-fits : tie.Need-push-requires-2
-bit-fits c κs = let w = sub-bit c in record-room (bit-looked c.before) (omega arith)
+bit-fits : tie.Need-push-end-requires-then-is_bit
+bit-fits c κs = let w = sub-bit c in record-room c.before.before.before.before.before (omega arith)
 
-a-bit : tie.Need-returns-2
+a-bit : tie.Need-returns-then-is_bit
 a-bit c =
-    let here = c.before.before.before.before.before in
-    let looked = bit-looked here in
-    let args = (start looked).args in
-    let no-signal = not-signal here in
-    let w = sym looked.number_at.ensures in
-    let s = ap is_signal w ∙ sym no-signal.before.is-signal.ensures ∙ no-signal.if1.left in
-    let b = ap is_bit w ∙ is-bit here in
-    let same = ap (λ (x : ℕ). truth (bit_word x)) w ∙ bit-truth looked.number_at.result (is-bit here) in
+    let args = c.args in
+    let w = sym c.number_at-w.ensures in
+    let s = ap is_signal w ∙ sym c.is_signal.ensures ∙ c.if-is_signal.false in
+    let b = ap is_bit w ∙ is-bit c.before.before.before.before.before in
+    let same = ap (λ (x : ℕ). truth (bit_word x)) w ∙ bit-truth c.number_at-w.result (is-bit c.before.before.before.before.before) in
     one-record (constant (bit_word (word args.ws.now args.at))) (simp (s, b)) refl
-    (ap (λ (x : ℕ). row CONSTANT x 0 0) same) c.before.before.before.push2.ensures c.leaf-facts2.ensures
+    (ap (λ (x : ℕ). row CONSTANT x 0 0) same) c.push-end-then-is_bit.ensures c.leaf_facts-then-is_bit.ensures
 
 -- Neither.
-neither : tie.Need-returns-3
+neither : tie.Need-returns
 neither c =
-    let read = c.before.before in
-    let no-bit = read.before.before in
-    let no-signal = no-bit.before.before in
-    let w = sym no-signal.before.before.number_at.ensures in
-    other-leaf (ap is_signal w ∙ sym no-signal.before.is-signal.ensures ∙ no-signal.if1.false)
-    (ap is_bit w ∙ sym no-bit.before.is-bit.ensures ∙ no-bit.if2.false) read.velocity.ensures
+    let w = sym c.number_at-w.ensures in
+    other-leaf (ap is_signal w ∙ sym c.is_signal.ensures ∙ c.if-is_signal.false)
+    (ap is_bit w ∙ sym c.is_bit.ensures ∙ c.if-is_bit.false) c.velocity.ensures
 
-pub leaf-spec : {M : Type 1} → statement M
-leaf-spec =
+pub leaf_spec : {M : Type 1} → statement M
+leaf_spec =
     tie.close
     (tie.spec
     (λ c κs. search rules) (λ c κs. search rules) sub-signal signal-fits (λ c. search rules)

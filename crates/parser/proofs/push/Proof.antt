@@ -7,13 +7,13 @@ use borrow.Author.Rules.{rules}
 use Rattle.parser.proofs.push.Statement.{statement}
 use Rattle.parser.proofs.push.Tie as tie
 
-second_fits : tie.Need-slice-write-arena-2
+second_fits : tie.Need-bounds-arena-top-2
 second_fits c = simp length-set (omega arith)
 
-third-fits : tie.Need-slice-write-arena-3
+third-fits : tie.Need-bounds-arena-top-3
 third-fits c = simp length-set (omega arith)
 
-fourth-fits : tie.Need-slice-write-arena-4
+fourth-fits : tie.Need-bounds-arena-top-4
 fourth-fits c = simp length-set (omega arith)
 
 stored : tie.Need-returns

@@ -48,80 +48,59 @@ module _ {ws : List ℕ} {i : ℕ} {before : List ℕ} {top : ℕ} {after : List
           (simp (eq-eqb _ _ w, o, n))
           (stored-as (ap₂ (λ (x y : ℕ). row Arena.VELOCITY x y 0) ea eb) (pushed u)) facts)
 
--- The places: the start; after the first word, `v`; all words; a second that is a comparison.
-abbrev start : tie.Else1 → tie.Start
-start c = c.before.before.before.before
-
-abbrev first : tie.After-number-at3 → tie.Else1
-first c = c.before.before
-
-abbrev looked : tie.Else2 → tie.After-number-at3
-looked c = c.before.before
-
-abbrev at_op : tie.Else3 → tie.Else2
-at_op c = c.before.before
-
 -- The first word,
-not-vel : tie.Need-returns
-not-vel c = no-vel (λ e. c.if1.true (c.before.number_at.ensures ∙ e))
+not-vel : tie.Need-returns-then-number_at-ne-VEL
+not-vel c = no-vel (λ e. c.if-number_at-ne-VEL.true (c.number_at.ensures ∙ e))
 
-is-vel : (c : tie.Else1) → word (start c).args.ws.now (start c).args.at ≡ VEL
-is-vel c = sym c.before.number_at.ensures ∙ c.if1.false
+is-vel : (c : tie.Else-number_at-ne-VEL) → word c.args.ws.now c.args.at ≡ VEL
+is-vel c = sym c.number_at.ensures ∙ c.if-number_at-ne-VEL.false
 
 -- the second,
-is-op : (c : tie.Else2) → is_op (looked c).before.number-at2.result ≡ true
-is-op c = let test = c.before.is-op in sym test.ensures ∙ not-false test.result c.if2.false
+is-op : (c : tie.Else-not-is_op) → is_op c.number_at-o.result ≡ true
+is-op c = let test = c.is_op in sym test.ensures ∙ c.if-not-is_op.false
 
-op-word : (c : tie.Else2) →
-    let args = (start (first (looked c))).args in
+op-word : (c : tie.Else-not-is_op) →
+    let args = c.args in
     is_op (word args.ws.now (args.at + 1)) ≡ true
-op-word c = ap is_op (sym (looked c).before.number-at2.ensures) ∙ is-op c
+op-word c = ap is_op (sym c.number_at-o.ensures) ∙ is-op c
 
-no-op : tie.Need-returns-2
+no-op : tie.Need-returns-then-not-is_op
 no-op c =
-    let test = c.before.is-op in
-    let here = c.before.before in
-    let no = sym test.ensures ∙ not-true test.result c.if2.true in
-    no-comparison (is-vel (first here)) (ap is_op (sym here.before.number-at2.ensures) ∙ no)
+    let test = c.is_op in
+    let no = sym test.ensures ∙ c.if-not-is_op.true in
+    no-comparison (is-vel c.before.before.before.before) (ap is_op (sym c.number_at-o.ensures) ∙ no)
 
 -- and the third.
-is-literal : (c : tie.Else3) → is_velocity (looked (at_op c)).number-at3.result ≡ true
-is-literal c = let test = c.before.is-velocity in sym test.ensures ∙ not-false test.result c.if3.false
+is-literal : (c : tie.Else-not-is_velocity) → is_velocity c.number_at-n.result ≡ true
+is-literal c = let test = c.is_velocity in sym test.ensures ∙ c.if-not-is_velocity.false
 
-not-literal : tie.Need-returns-3
+not-literal : tie.Need-returns-then-not-is_velocity
 not-literal c =
-    let test = c.before.is-velocity in
-    let op = c.before.before in
-    let here = looked op in
-    let no = sym test.ensures ∙ not-true test.result c.if3.true in
-    no-literal (is-vel (first here)) (op-word op) (ap is_velocity (sym here.number-at3.ensures) ∙ no)
+    let test = c.is_velocity in
+    let no = sym test.ensures ∙ c.if-not-is_velocity.true in
+    no-literal (is-vel c.before.before.before.before.before.before) (op-word c.before.before) (ap is_velocity (sym c.number_at-n.ensures) ∙ no)
 
 -- The record.
-sub-op : tie.Need-overflow-sub-push
-sub-op c = op-pos _ (is-op (at_op c.before))
+sub-op : tie.Need-overflow_sub-o
+sub-op c = op-pos _ (is-op c.before.before.before)
 
-sub-literal : tie.Need-overflow-sub-push-2
+sub-literal : tie.Need-overflow_sub-n
 sub-literal c = velocity-pos _ (is-literal c.before)
 
-fits : tie.Need-push-requires
+fits : tie.Need-push-end-requires
 fits c κs =
-    let here = first (looked (at_op c.before)) in
-    fits-push 0 (past_first (start here).pre (is-vel here) (omega arith))
+    fits-push 0 (past_first c.requires (is-vel c.before.before.before.before.before.before.before) (omega arith))
 
-all_three : tie.Need-returns-4
+all_three : tie.Need-returns
 all_three c =
-    let push = c.before.before.before in
-    let literal = push.before.before in
-    let op = at_op literal in
-    let here = looked op in
-    let o = here.before.number-at2 in
-    let n = here.number-at3 in
-    a_test (is-vel (first here)) (op-word op) (ap is_velocity (sym n.ensures) ∙ is-literal literal)
-    (sym (op-number o.result (is-op op)) ∙ ap (λ (x : ℕ). op_number (op_word x)) o.ensures)
-    (ap velocity_word n.ensures) push.push.ensures c.leaf-facts.ensures
+    let o = c.number_at-o in
+    let n = c.number_at-n in
+    a_test (is-vel c.before.before.before.before.before.before.before.before.before.before.before) (op-word c.before.before.before.before.before.before.before) (ap is_velocity (sym n.ensures) ∙ is-literal c.before.before.before.before.before)
+    (sym (op-number o.result (is-op c.before.before.before.before.before.before.before)) ∙ ap (λ (x : ℕ). op_number (op_word x)) o.ensures)
+    (ap velocity_word n.ensures) c.push-end.ensures c.leaf_facts.ensures
 
-pub velocity-spec : {M : Type 1} → statement M
-velocity-spec =
+pub velocity_spec : {M : Type 1} → statement M
+velocity_spec =
     tie.close
     (tie.spec
     (λ c κs. search rules) not-vel (λ c. search rules) (λ c κs. search rules) (λ c. search rules)

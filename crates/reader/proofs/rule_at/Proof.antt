@@ -9,34 +9,34 @@ use Rattle.cards.specs.Heads.{rule_head}
 use Rattle.reader.proofs.rule_at.Statement.{statement}
 use Rattle.reader.proofs.rule_at.Tie as tie
 
-too_short : tie.Need-returns
+too_short : tie.Need-returns-then-s-lt6
 too_short c =
-    let args = c.before.before.before.args in
+    let args = c.args in
     sym (line-past args.s.now (args.at + length rule_head) (omega arith))
 
-past_end : tie.Need-returns-2
+past_end : tie.Need-returns-then-s-at
 past_end c =
-    let args = c.before.before.before.before.args in
+    let args = c.args in
     sym (line-past args.s.now (args.at + length rule_head) (omega arith))
 
 -- The line from there on ends in s.
-inside : (c : tie.After-line-length) →
-    let args = c.before.before.before.before.args in
-    args.at + length rule_head + c.line-length.result ≤ length args.s.now
+inside : (c : tie.After-line_length) →
+    let args = c.args in
+    args.at + length rule_head + c.line_length.result ≤ length args.s.now
 inside c =
-    let args = c.before.before.before.before.args in
-    omega (arith, c.line-length.ensures, line-fits args.s.now (args.at + length rule_head) (omega arith))
+    let args = c.args in
+    omega (arith, c.line_length.ensures, line-fits args.s.now (args.at + length rule_head) (omega arith))
 
-the-line : tie.Need-returns-3
+the-line : tie.Need-returns
 the-line c =
-    let args = c.before.before.before.before.before.args in
+    let args = c.args in
     let rest = drop (args.at + length rule_head) args.s.now in
-    let n = c.before.line-length.result in
+    let n = c.line_length.result in
     let z : args.at + length rule_head + n - (args.at + length rule_head) ≡ n = omega arith in
-    rw z (ap (λ (k : ℕ). take k rest) c.before.line-length.ensures ∙ take-line rest)
+    rw z (ap (λ (k : ℕ). take k rest) c.line_length.ensures ∙ take-line rest)
 
-pub rule-at-spec : {M : Type 1} → statement M
-rule-at-spec =
+pub rule_at_spec : {M : Type 1} → statement M
+rule_at_spec =
     tie.close
     (tie.spec
     (λ c. search rules)

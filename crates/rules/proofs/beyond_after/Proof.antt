@@ -6,22 +6,22 @@ use Rattle.words.specs.Word.{CHOP, EXISTS}
 use Rattle.rules.proofs.beyond_after.Statement.{statement}
 use Rattle.rules.proofs.beyond_after.Tie as tie
 
-of-chop : tie.Need-returns
+of-chop : tie.Need-returns-then-w-eq-CHOP
 of-chop c =
-    let args = c.before.args in
-    rw (eq-eqb args.w CHOP c.if1.true) (sym (or-true args.beyond))
+    let args = c.args in
+    rw (eq-eqb args.w CHOP c.if-w-eq-CHOP.true) (sym (or-true args.beyond))
 
-of-exists : tie.Need-returns-2
+of-exists : tie.Need-returns-then-w-eq-EXISTS
 of-exists c =
-    let args = c.before.before.args in
-    rw (ne_eqb args.w CHOP c.before.if1.false, eq-eqb args.w EXISTS c.if2.true)
+    let args = c.args in
+    rw (ne_eqb args.w CHOP c.if-w-eq-CHOP.false, eq-eqb args.w EXISTS c.if-w-eq-EXISTS.true)
     (sym (or-true args.beyond))
 
-of_other : tie.Need-returns-3
+of_other : tie.Need-returns
 of_other c =
-    let args = c.before.before.args in
-    rw (ne_eqb args.w CHOP c.before.if1.false, ne_eqb args.w EXISTS c.if2.false)
+    let args = c.args in
+    rw (ne_eqb args.w CHOP c.if-w-eq-CHOP.false, ne_eqb args.w EXISTS c.if-w-eq-EXISTS.false)
     (sym (or-false args.beyond))
 
-pub beyond-after-spec : {M : Type 1} → statement M
-beyond-after-spec = tie.close (tie.spec of-chop of-exists of_other)
+pub beyond_after_spec : {M : Type 1} → statement M
+beyond_after_spec = tie.close (tie.spec of-chop of-exists of_other)

@@ -4,23 +4,23 @@ use Rattle.rules.specs.Limits.{counted}
 use Rattle.rules.proofs.is_counted.Statement.{statement}
 use Rattle.rules.proofs.is_counted.Tie as tie
 
-of-not : tie.Need-returns
+of-not : tie.Need-returns-then-w-eq-NOT
 unfolding counted
-of-not c = rw (eq-eqb _ _ c.if1.true)
+of-not c = rw (eq-eqb _ _ c.if-w-eq-NOT.true)
 
-of-then : tie.Need-returns-2
+of-then : tie.Need-returns-then-w-eq-THEN
 unfolding counted
-of-then c = rw (ne_eqb _ _ c.before.if1.false, eq-eqb _ _ c.if2.true)
+of-then c = rw (ne_eqb _ _ c.if-w-eq-NOT.false, eq-eqb _ _ c.if-w-eq-THEN.true)
 
-of-chop : tie.Need-returns-3
+of-chop : tie.Need-returns-then-w-eq-CHOP
 unfolding counted
 of-chop c =
-    rw (ne_eqb _ _ c.before.before.if1.false, ne_eqb _ _ c.before.if2.false, eq-eqb _ _ c.if3.true)
+    rw (ne_eqb _ _ c.if-w-eq-NOT.false, ne_eqb _ _ c.if-w-eq-THEN.false, eq-eqb _ _ c.if-w-eq-CHOP.true)
 
-exists-or-other : tie.Need-returns-4
+exists-or-other : tie.Need-returns
 unfolding counted
 exists-or-other c =
-    rw (ne_eqb _ _ c.before.before.if1.false, ne_eqb _ _ c.before.if2.false, ne_eqb _ _ c.if3.false)
+    rw (ne_eqb _ _ c.if-w-eq-NOT.false, ne_eqb _ _ c.if-w-eq-THEN.false, ne_eqb _ _ c.if-w-eq-CHOP.false)
 
-pub is-counted-spec : {M : Type 1} → statement M
-is-counted-spec = tie.close (tie.spec of-not of-then of-chop exists-or-other)
+pub is_counted_spec : {M : Type 1} → statement M
+is_counted_spec = tie.close (tie.spec of-not of-then of-chop exists-or-other)

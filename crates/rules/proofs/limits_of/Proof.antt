@@ -10,62 +10,57 @@ use Rattle.rules.proofs.Passes.{Passed, passed_none, passed_deep, passed-one, pa
 use Rattle.rules.proofs.limits_of.Statement.{statement}
 use Rattle.rules.proofs.limits_of.Tie as tie
 
-abbrev invariant-loop : tie.invariant-loop
+abbrev invariant-loop : tie.invariant-loop-i
 invariant-loop ws depth₀ n₀ beyond₀ i₀ depth n beyond i = Passed ws depth n beyond i
 
-abbrev decreases-loop : tie.decreases-loop
+abbrev decreases-loop : tie.decreases-loop-i
 decreases-loop ws depth₀ n₀ beyond₀ i₀ depth n beyond i = length ws - i
 
--- Where a word is read, from the end of its turn.
-abbrev read : tie.After-beyond-after invariant-loop decreases-loop → tie.After-open-after invariant-loop decreases-loop
-read c = c.before.before.before.before
-
-loop-holds : tie.Need-loop-init invariant-loop decreases-loop
+loop-holds : tie.Need-loop-i-init invariant-loop decreases-loop
 loop-holds c = passed_none _
 
-shared-slice-read-w : tie.Need-shared-slice-read-w invariant-loop decreases-loop
+shared-slice-read-w : tie.Need-bounds-ws-i invariant-loop decreases-loop
 shared-slice-read-w c = omega arith
 
-open-after-requires : tie.Need-open-after-requires invariant-loop decreases-loop
+open-after-requires : tie.Need-open_after-depth-requires invariant-loop decreases-loop
 open-after-requires c κs = omega arith
 
-too-deep : tie.Need-returns invariant-loop decreases-loop
+too-deep : tie.Need-returns-then-depth-gt-BRACKETS invariant-loop decreases-loop
 too-deep c =
-    let head = c.before.before.before.before.loop in
-    let now-open = c.before.Open-after.ensures in
+    let head = c.loop-i in
+    let now-open = c.open_after-depth.ensures in
     let is-deep = passed_deep head.invariant (omega arith) (omega arith) in
     (rw is-deep, rw is-deep)
 
-add-n : tie.Need-overflow-add-n invariant-loop decreases-loop
+add-n : tie.Need-overflow_add-n invariant-loop decreases-loop
 add-n c = omega arith
 
-add-i : tie.Need-overflow-add-i invariant-loop decreases-loop
+add-i : tie.Need-overflow_add-i invariant-loop decreases-loop
 add-i c = omega arith
 
-loop-less : tie.Need-loop-smaller invariant-loop decreases-loop
+loop-less : tie.Need-loop-i-smaller invariant-loop decreases-loop
 loop-less c = omega arith
 
-loop-again : tie.Need-loop-preserved invariant-loop decreases-loop
+loop-again : tie.Need-loop-i-preserved invariant-loop decreases-loop
 loop-again c =
-    let word = read c in
-    let known = word.before.before.before.loop.inv in
-    let in_words_lem = word.before.before.loop-test.taken in
-    let now-open = word.Open-after.ensures in
-    let low = c.before.before.before.if1.false in
-    let same = sym c.before.before.is-counted.ensures in
-    let beyond = c.beyond-after.ensures in
+    let known = c.loop-i.invariant in
+    let in_words_lem = c.loop-i-test.true in
+    let now-open = c.open_after-depth.ensures in
+    let low = c.if-depth-gt-BRACKETS.false in
+    let same = sym c.is_counted.ensures in
+    let beyond = c.beyond_after-beyond.ensures in
     ⊎_elim
-    (λ w. passed-one known true in_words_lem now-open low (same ∙ w.0.taken) (omega arith) beyond)
-    (λ w. passed-one known false in_words_lem now-open low (same ∙ w.0.left) (omega arith) beyond)
-    c.before.if2.branch
+    (λ w. passed-one known true in_words_lem now-open low (same ∙ w.if-is_counted.true) (omega arith) beyond)
+    (λ w. passed-one known false in_words_lem now-open low (same ∙ w.if-is_counted.false) (omega arith) beyond)
+    c.if-is_counted.branch-raw
 
-all-passed : tie.Need-returns-2 invariant-loop decreases-loop
+all-passed : tie.Need-returns invariant-loop decreases-loop
 all-passed c =
-    let known = c.before.loop.invariant in
-    (passed-limits known c.loop-test.false, passed-beyond known c.loop-test.false)
+    let known = c.loop-i.invariant in
+    (passed-limits known c.loop-i-test.false, passed-beyond known c.loop-i-test.false)
 
-pub limits-of-spec : {M : Type 1} → statement M
-limits-of-spec =
+pub limits_of_spec : {M : Type 1} → statement M
+limits_of_spec =
     tie.close
     (tie.spec
     invariant-loop decreases-loop loop-holds (λ c. search rules) shared-slice-read-w open-after-requires too-deep

@@ -7,21 +7,21 @@ use borrow.Author.Tests.{eq-eqb, ne_eqb}
 use Rattle.rules.proofs.open_after.Statement.{statement}
 use Rattle.rules.proofs.open_after.Tie as tie
 
-opens : tie.Need-returns
-opens c = simp (eq-eqb _ _ c.if1.true, add-one)
+opens : tie.Need-returns-then-w-eq-ROUND
+opens c = simp (eq-eqb _ _ c.if-w-eq-ROUND.true, add-one)
 
-none_open : tie.Need-returns-2
+none_open : tie.Need-returns-then-depth-eq0
 none_open c =
-    simp (ne_eqb _ _ c.before.before.if1.false, eq-eqb _ _ c.before.if2.true) (ap pred (sym c.if3.true))
+    simp (ne_eqb _ _ c.if-w-eq-ROUND.false, eq-eqb _ _ c.if-w-eq-ROUND_END.true) (ap pred (sym c.if-depth-eq0.true))
 
-closes : tie.Need-returns-3
-closes c = simp (ne_eqb _ _ c.before.before.if1.false, eq-eqb _ _ c.before.if2.true, sub-one)
+closes : tie.Need-returns-then-w-eq-ROUND_END
+closes c = simp (ne_eqb _ _ c.if-w-eq-ROUND.false, eq-eqb _ _ c.if-w-eq-ROUND_END.true, sub-one)
 
-of_other : tie.Need-returns-4
-of_other c = simp (ne_eqb _ _ c.before.if1.false, ne_eqb _ _ c.if2.false)
+of_other : tie.Need-returns
+of_other c = simp (ne_eqb _ _ c.if-w-eq-ROUND.false, ne_eqb _ _ c.if-w-eq-ROUND_END.false)
 
-pub open-after-spec : {M : Type 1} → statement M
-open-after-spec =
+pub open_after_spec : {M : Type 1} → statement M
+open_after_spec =
     tie.close
     (tie.spec
     (λ c. search rules) opens none_open (λ c. search rules) closes of_other)

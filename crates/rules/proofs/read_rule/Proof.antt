@@ -8,32 +8,21 @@ use Rattle.rules.proofs.Theorems.{told}
 use Rattle.rules.proofs.read_rule.Statement.{statement}
 use Rattle.rules.proofs.read_rule.Tie as tie
 
--- The places, from the call of `read_tree`: the start, and the context.
-abbrev start : tie.After-read-tree → tie.Start
-start c = c.before.before.before.before
-
-abbrev standard : tie.After-read-tree → tie.After-standard
-standard c = c.before.before
-
-refused : tie.Need-returns
+refused : tie.Need-returns-in_default
 refused c =
-    let call = c.before.before.before.before in
-    let refusal = c.before.enum_told.given in
-    let laid = standard-laid (standard call).standard.ensures _ call.read-tree.ensures in
-    let e = answer-refused laid refusal.0.0 _ refusal.1 c.records-refusal.ensures in
-    (e, told standard_context (start call).args.text.now _ e)
+    let laid = standard-laid c.standard.ensures _ c.read_tree-records.ensures in
+    let e = answer-refused laid c.in_default.field-0 _ c.in_default.is c.records_refusal.ensures in
+    (e, told standard_context c.args.text.now _ e)
 
-a-rule : tie.Need-returns-2
+a-rule : tie.Need-returns
 a-rule c =
-    let call = c.before.before.before.before in
-    let records = c.before.records.given in
-    let laid = standard-laid (standard call).standard.ensures _ call.read-tree.ensures in
-    let e = answer-rule laid records.0.0 records.0.1.0 records.1 in
-    (e, told standard_context (start call).args.text.now _ e)
+    let laid = standard-laid c.standard.ensures _ c.read_tree-records.ensures in
+    let e = answer-rule laid c.in-Rule.field-0 c.in-Rule.nodes c.in-Rule.is in
+    (e, told standard_context c.args.text.now _ e)
 
-pub read-rule-spec : {M : Type 1} → statement M
-read-rule-spec =
+pub read_rule_spec : {M : Type 1} → statement M
+read_rule_spec =
     tie.close
     (tie.spec
-    (λ c κs. search rules) (λ c. search rules) (λ c κs. readable c.before.standard.ensures (omega arith))
+    (λ c κs. search rules) (λ c. search rules) (λ c κs. readable c.standard.ensures (omega arith))
     (λ c. search rules) (λ c. search rules) (λ c κs. search rules) refused a-rule)

@@ -11,53 +11,43 @@ use Rattle.rules.proofs.Sides.{side-refused, side-unfit, side-fit}
 use Rattle.rules.proofs.read_side.Statement.{statement}
 use Rattle.rules.proofs.read_side.Tie as tie
 
--- The places: the start, from the reading of the text; the reading, where it gave a tree.
-abbrev start : tie.After-read-tree → tie.Start
-start c = c.before.before.before.before
-
-abbrev reading : tie.After-enum-told → tie.After-read-tree
-reading c = c.before.before.before.before
-
 -- The text's outcome, and what is left where the side has the same.
-abbrev outcome : tie.After-read-tree → Outcome
-outcome c = rule_of (start c).args.context (start c).args.text.now
+abbrev outcome : tie.After-read_tree-records → Outcome
+outcome c = rule_of c.args.context c.args.text.now
 
-kept : (c : tie.After-read-tree) → (
-    let args = (start c).args in
+kept : (c : tie.After-read_tree-records) → (
+    let args = c.args in
     let side = side_of args.parameters.now (outcome c) in
-    side ≡ outcome c → Laid side args.arena.now c.read-tree.result c.read-tree.new.1.1.0)
+    side ≡ outcome c → Laid side args.arena.now c.read_tree-records.result c.read_tree-records.new.arena)
 kept c e =
-    let args = (start c).args in
-    subst (λ (o : Outcome). Laid o args.arena.now c.read-tree.result c.read-tree.new.1.1.0) (sym e)
-    c.read-tree.ensures
+    let args = c.args in
+    subst (λ (o : Outcome). Laid o args.arena.now c.read_tree-records.result c.read_tree-records.new.arena) (sym e)
+    c.read_tree-records.ensures
 
-refuses-text : tie.Need-returns
+refuses-text : tie.Need-returns-in_default
 refuses-text c =
-    let call = c.before.before.before.before in
-    kept call
-    (side-refused (start call).args.parameters.now (outcome call)
-    (sym call.read-tree.ensures.result ∙ c.enum-told2.given.1))
+    kept c.before.before.before
+    (side-refused c.args.parameters.now (outcome c.before.before.before)
+    (sym c.read_tree-records.ensures.result ∙ c.in_default.is))
 
-refuses-parameters : tie.Need-returns-2
+refuses-parameters : tie.Need-returns-then-not-parameters_fit
 refuses-parameters c =
-    let fit = c.before.parameters-fit in
-    let told = c.before.before.enum_told.given.1 in
-    let call = reading c.before.before in
-    let tree = front_of call.read-tree.ensures (start call).pre.room _ _ told in
+    let fit = c.parameters_fit in
+    let told = c.in-Rule.is in
+    let tree = front_of c.read_tree-records.ensures c.requires.room _ _ told in
     laid-refused 13
-    (side-unfit (start call).args.parameters.now tree.is
-    (sym fit.ensures ∙ not-true fit.result c.if1.true))
+    (side-unfit c.args.parameters.now tree.is
+    (sym fit.ensures ∙ c.if-not-parameters_fit.true))
 
-keeps-tree : tie.Need-returns-3
+keeps-tree : tie.Need-returns
 keeps-tree c =
-    let fit = c.before.parameters-fit in
-    let call = reading c.before.before in
-    kept call
-    (side-fit (start call).args.parameters.now (outcome call)
-    (sym fit.ensures ∙ not-false fit.result c.if1.false))
+    let fit = c.parameters_fit in
+    kept c.before.before.before.before.before
+    (side-fit c.args.parameters.now (outcome c.before.before.before.before.before)
+    (sym fit.ensures ∙ c.if-not-parameters_fit.false))
 
-pub read-side-spec : {M : Type 1} → statement M
-read-side-spec =
+pub read_side_spec : {M : Type 1} → statement M
+read_side_spec =
     tie.close
     (tie.spec
     (λ c κs. search rules) (λ c. search rules) (λ c. search rules) (λ c. search rules) refuses-text

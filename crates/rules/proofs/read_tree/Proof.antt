@@ -15,68 +15,53 @@ use Rattle.rules.proofs.Outcomes.{Made, made_of, refused-of, long, of-front}
 use Rattle.rules.proofs.read_tree.Statement.{statement}
 use Rattle.rules.proofs.read_tree.Tie as tie
 
--- The places: the start; the call of the splitter, where it made words; the call of `read_words`.
-abbrev start : tie.After-split-text → tie.Start
-start c = c.before.before.before.before
-
-abbrev call : tie.After-known-told → tie.After-split-text
-call c = c.before.before.before.before
-
-abbrev made : tie.After-read-words → tie.After-known-told
-made c = c.before.before.before
-
 -- How many words there are, and the buffer with them.
-abbrev count : tie.After-known-told → ℕ
-count c = c.before.split.given.0.0
+abbrev count : tie.In-Words → ℕ
+count c = c.in-Words.n
 
-abbrev buffer : tie.After-known-told → List ℕ
-buffer c = (call c).split_text.new.1.1.0
+abbrev buffer : tie.In-Words → List ℕ
+buffer c = c.split_text-split.new.out
 
 -- What the splitter asks.
-splittable : tie.Need-split-text-requires
-splittable c κs = record { ranged = c.before.before.before.requires.ranged; room = omega arith }
+splittable : tie.Need-split_text-split-requires
+splittable c κs = record { ranged = c.requires.ranged; room = omega arith }
 
 -- A text without words.
-no_words : tie.Need-returns
+no_words : tie.Need-returns-in_default
 no_words c =
-    let told = c.before.enum_told.given in
-    let at_call = c.before.before.before.before in
-    laid-refused c.split-refusal.result
-    (refused-of at_call.split_text.ensures told.1 c.split-refusal.ensures)
+    laid-refused c.split_refusal.result
+    (refused-of c.split_text-split.ensures c.in_default.is c.split_refusal.ensures)
 
 -- The words that the splitter made, at the front of the buffer.
-words : (c : tie.After-known-told) →
-    Made (start (call c)).args.context (start (call c)).args.text.now (replicate word_limit 0) (count c) (buffer c)
-words c = made_of (call c).split_text.ensures c.before.split.given.1
+words : (c : tie.In-Words) →
+    Made c.args.context c.args.text.now (replicate word_limit 0) (count c) (buffer c)
+words c = made_of c.split_text-split.ensures c.in-Words.is
 
-array-share-prefix-ws : tie.Need-array-share-prefix-ws
+array-share-prefix-ws : tie.Need-slice_bounds-ws-end
 array-share-prefix-ws c = let h = words c in omega (arith, h.few, long h (omega arith))
 
 -- The part that is lent has as many words as were made.
-part_length : (c : tie.After-known-told) → length (take (count c) (buffer c)) ≡ count c
+part_length : (c : tie.In-Words) → length (take (count c) (buffer c)) ≡ count c
 part_length c = let h = words c in length-take-le _ _ (omega (arith, h.few, long h (omega arith)))
 
-slice-aggregate-read-words : tie.Need-slice-aggregate-read-words
+slice-aggregate-read-words : tie.Need-slice_bounds-read_words-end
 slice-aggregate-read-words c = sym (part_length c.before)
 
-read-words-requires : tie.Need-read-words-requires
+read-words-requires : tie.Need-read_words-requires
 read-words-requires c κs =
-    let here = c.before.before in
-    let h = words here in
-    let l = part_length here in
-    (omega (arith, h.few), (start (call here)).requires.room)
+    let h = words c.before.before in
+    let l = part_length c.before.before in
+    (omega (arith, h.few), c.requires.room)
 
 -- What `read_words` says of these words is said of the text.
-from-words : tie.Need-returns-2
+from-words : tie.Need-returns
 from-words c =
-    let reading = c.before.before in
-    let here = made reading in
-    let r = reading.read-words in
-    subst (λ (o : Outcome). Laid o (start (call here)).args.arena.now r.result r.new.1.0)
-    (of-front (words here) (omega arith)) r.ensures
+    let r = c.read_words in
+    subst (λ (o : Outcome). Laid o c.args.arena.now r.result r.new.arena)
+    (of-front (words c.before.before.before.before.before) (omega arith)) r.ensures
 
-pub read-tree-spec : {M : Type 1} → statement M
-read-tree-spec =
+pub read_tree_spec : {M : Type 1} → statement M
+read_tree_spec =
     tie.close
     (tie.spec
     (λ c. search rules) splittable (λ c. search rules) (λ c. search rules) (λ c κs. search rules)

@@ -19,79 +19,63 @@ use Rattle.rules.proofs.Passes.{beyond-told}
 use Rattle.rules.proofs.read_words.Statement.{statement}
 use Rattle.rules.proofs.read_words.Tie as tie
 
--- The places: the start; the pass over the words; the call of the parser, and its tree.
-abbrev start : tie.After-limits-of → tie.Start
-start c = c.before.before.before
-
-abbrev passed : tie.After-read-f → tie.After-limits-of
-passed c = c.before.before.before
-
-abbrev call : tie.After-known-told → tie.After-read-f
-call c = c.before.before.before.before.before
-
 -- The words.
-abbrev text : tie.After-read-f → List ℕ
-text c = (start (passed c)).args.ws.now
+abbrev text : tie.After-read_f → List ℕ
+text c = c.args.ws.now
 
 -- Over the limits.
-over-limits : tie.Need-returns
+over-limits : tie.Need-returns-then-over
 over-limits c =
-    let pass = c.before in
-    laid-refused 5 (limits-words (start pass).args.ws.now (sym pass.Limits-of.ensures.0 ∙ c.if1.true))
+    laid-refused 5 (limits-words c.args.ws.now (sym c.limits_of-limits.ensures.0 ∙ c.if-over.true))
 
 -- Within them,
-within : (c : tie.After-read-f) → beyond_limits (text c) ≡ false
-within c = sym (passed c).Limits-of.ensures.0 ∙ c.before.before.if1.false
+within : (c : tie.After-read_f) → beyond_limits (text c) ≡ false
+within c = sym c.limits_of-limits.ensures.0 ∙ c.if-over.false
 
 -- no tree;
-no-tree : tie.Need-returns-2
+no-tree : tie.Need-returns-in_default
 no-tree c =
-    let at_call = c.before.before.before.before in
     laid-refused 6
-    (tree-words (text at_call) (within at_call)
-    (lost-tree (text at_call) (lost at_call.read-f.ensures c.enum_told.given.1)))
+    (tree-words (text c.before.before.before) (within c.before.before.before)
+    (lost-tree (text c.before.before.before) (lost c.read_f.ensures c.in_default.is)))
 
 -- a tree, and what the pass told of the fragment;
-tree : (c : tie.After-known-told) →
-    Gave (go_f false) (text (call c)) 0 (start (passed (call c))).args.arena.now 0
-    c.before.next.given.0 (call c).read-f.new.1.1.1.0
-tree c = took (call c).read-f.ensures (λ a m h. span h) c.before.next.given.1
+tree : (c : tie.In-At) →
+    Gave (go_f false) (text c.before.before.before) 0 c.args.arena.now 0
+    (c.in-At.next, (c.in-At.top, (c.in-At.facts, tt))) c.read_f.new.arena
+tree c = took c.read_f.ensures (λ a m h. span h) c.in-At.is
 
-fragment : (c : tie.After-known-told) → beyond (text (call c)) ≡ (passed (call c)).Limits-of.result.beyond
-fragment c = beyond-told _ (within (call c)) (passed (call c)).Limits-of.ensures.1
+fragment : (c : tie.In-At) → beyond (text c.before.before.before) ≡ c.limits_of-limits.result.beyond
+fragment c = beyond-told _ (within c.before.before.before) c.limits_of-limits.ensures.1
 
 -- a tree of some of the words only;
-part-only : tie.Need-returns-3
+part-only : tie.Need-returns-then-next-ws
 part-only c =
-    let told = c.before in
-    let ws = text (call told) in
-    laid-refused 6 (tree-words ws (within (call told)) (part-tree ws (tree told).is c.if2.true))
+    let ws = text c.before.before.before.before in
+    laid-refused 6 (tree-words ws (within c.before.before.before.before) (part-tree ws (tree c.before).is c.if-next-ws.true))
 
 -- one of all, outside the fragment;
-outside : tie.Need-returns-4
+outside : tie.Need-returns-then-beyond
 outside c =
-    let told = c.before.before in
     laid-refused 7
-    (beyond-words (tree told) (omega arith) (within (call told)) c.before.if2.false (fragment told ∙ c.if3.true))
+    (beyond-words (tree c.before.before) (omega arith) (within c.before.before.before.before.before) c.if-next-ws.false (fragment c.before.before ∙ c.if-beyond.true))
 
 -- inside it, without and with its leads.
-no_lead : tie.Need-returns-5
+no_lead : tie.Need-returns-then-not-leads
 no_lead c =
-    let told = c.before.before.before in
-    let inside = fragment told ∙ c.before.if3.false in
+    let inside = fragment c.before.before.before ∙ c.if-beyond.false in
     laid-refused 8
-    (no-lead-words (tree told) (omega arith) (within (call told)) c.before.before.if2.false inside
-    (not-true _ c.if4.true))
+    (no-lead-words (tree c.before.before.before) (omega arith) (within c.before.before.before.before.before.before) c.if-next-ws.false inside
+    (c.if-not-leads.true))
 
-a-rule : tie.Need-returns-6
+a-rule : tie.Need-returns
 a-rule c =
-    let told = c.before.before.before in
-    let inside = fragment told ∙ c.before.if3.false in
-    laid-rule (tree told) (omega arith) (within (call told)) c.before.before.if2.false inside
-    (not-false _ c.if4.false)
+    let inside = fragment c.before.before.before ∙ c.if-beyond.false in
+    laid-rule (tree c.before.before.before) (omega arith) (within c.before.before.before.before.before.before) c.if-next-ws.false inside
+    (c.if-not-leads.false)
 
-pub read-words-spec : {M : Type 1} → statement M
-read-words-spec =
+pub read_words_spec : {M : Type 1} → statement M
+read_words_spec =
     tie.close
     (tie.spec
     (λ c κs. search rules) over-limits (λ c κs. search rules) (λ c. search rules) (λ c. search rules)

@@ -5,23 +5,22 @@ use borrow.Author.Tests.{not-true, not-false}
 use Rattle.rules.proofs.value_agrees.Statement.{statement}
 use Rattle.rules.proofs.value_agrees.Tie as tie
 
-names-none : tie.Need-returns
+names-none : tie.Need-returns-then-not-names_parameter
 names-none c =
-    let names = c.before.names-parameter in
-    rw (← names.ensures, not-true names.result c.if1.true)
+    let names = c.names_parameter in
+    rw (← names.ensures, c.if-not-names_parameter.true)
 
-compared : tie.Need-returns-2
+compared : tie.Need-returns
 compared c =
-    let named = c.before.before.before.before in
-    let names = named.before.names-parameter in
+    let names = c.names_parameter in
     rw (
       ← names.ensures,
-      not-false names.result named.if1.false,
-      c.before.before.number_at.ensures,
-      c.number-at2.ensures,
+      c.if-not-names_parameter.false,
+      c.number_at.ensures,
+      c.number_at-2.ensures,
     )
 
-pub value-agrees-spec : {M : Type 1} → statement M
-value-agrees-spec =
+pub value_agrees_spec : {M : Type 1} → statement M
+value_agrees_spec =
     tie.close
     (tie.spec (λ c κs. search rules) names-none (λ c κs. search rules) (λ c κs. search rules) compared)

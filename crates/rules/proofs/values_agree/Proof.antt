@@ -10,50 +10,44 @@ use Rattle.rules.proofs.Values.{agree-stop, agree-next, agree-short}
 use Rattle.rules.proofs.values_agree.Statement.{statement}
 use Rattle.rules.proofs.values_agree.Tie as tie
 
-abbrev invariant-loop : tie.invariant-loop
+abbrev invariant-loop : tie.invariant-loop-i
 invariant-loop records ps qs i₀ i =
     (i ≤ length records) × (values_agree ps qs (drop i records) ≡ values_agree ps qs records)
 
-abbrev decreases-loop : tie.decreases-loop
+abbrev decreases-loop : tie.decreases-loop-i
 decreases-loop records ps qs i₀ i = length records - i
 
--- The turn of the loop, from the call in it.
-abbrev turn : tie.After-value-agrees invariant-loop decreases-loop → tie.In-loop invariant-loop decreases-loop
-turn c = c.before.before.before.before
-
-loop-holds : tie.Need-loop-init invariant-loop decreases-loop
+loop-holds : tie.Need-loop-i-init invariant-loop decreases-loop
 loop-holds c = (omega arith, refl)
 
-one-differs : tie.Need-returns invariant-loop decreases-loop
+one-differs : tie.Need-returns-then-not-value_agrees invariant-loop decreases-loop
 one-differs c =
-    let agrees = c.before.value-agrees in
-    let here = turn c.before in
-    let no = not-true agrees.result c.if1.true in
-    sym (sym here.before.loop.inv.1 ∙ agree-stop _ _ _ _ here.loop-test.taken agrees.ensures no)
+    let agrees = c.value_agrees in
+    let no = c.if-not-value_agrees.true in
+    sym (sym c.loop-i.invariant.1 ∙ agree-stop _ _ _ _ c.loop-i-test.true agrees.ensures no)
 
-loop-again : tie.Need-loop-preserved invariant-loop decreases-loop
+loop-again : tie.Need-loop-i-preserved invariant-loop decreases-loop
 loop-again c =
-    let agrees = c.before.value-agrees in
-    let here = turn c.before in
-    let yes = not-false agrees.result c.if1.false in (
-      omega (arith, here.loop-test.taken),
-      sym (agree-next _ _ _ _ here.loop-test.taken agrees.ensures yes) ∙ here.before.loop.inv.1,
+    let agrees = c.value_agrees in
+    let yes = c.if-not-value_agrees.false in (
+      omega (arith, c.loop-i-test.true),
+      sym (agree-next _ _ _ _ c.loop-i-test.true agrees.ensures yes) ∙ c.loop-i.invariant.1,
     )
 
-all-agree : tie.Need-returns-2 invariant-loop decreases-loop
+all-agree : tie.Need-returns invariant-loop decreases-loop
 all-agree c =
-    let args = c.before.before.before.args in
-    sym (agree-short args.ps.now args.qs.now args.records.now c.before.loop.i c.loop-test.false)
-    ∙ c.before.loop.invariant.1
+    let args = c.args in
+    sym (agree-short args.ps.now args.qs.now args.records.now c.loop-i.i c.loop-i-test.false)
+    ∙ c.loop-i.invariant.1
 
-pub values-agree-spec : {M : Type 1} → statement M
-values-agree-spec =
+pub values_agree_spec : {M : Type 1} → statement M
+values_agree_spec =
     tie.close
     (tie.spec
     invariant-loop
     decreases-loop
     loop-holds
-    (λ c. omega (arith, c.before.before.well-formed.0.1))
+    (λ c. omega (arith, c.well_formed.0.1))
     (λ c. omega arith)
     (λ c. omega arith)
     (λ c. omega arith)

@@ -28,228 +28,171 @@ module _ (t : ℕ) where
   abbrev Here : (lts.Claims → In 2 ps → Out 2 ps r → Type 0) → Type 0
   Here place = place (calls-atom t) (at ps μ-atom reads.Pre t) reads.Post
 
-  -- The places: the start; the word, where it is a test; the call of `prop`, and its tree;
-  abbrev start : Here lts.After-number-at → Here lts.Start
-  start c = c.before.before.before
-
-  abbrev test-looked : Here lts.Then1 → Here lts.After-number-at
-  test-looked c = c.before.before
-
-  abbrev at_test : Here lts.After-prop → Here lts.Then1
-  at_test c = c.before.before
-
-  abbrev test-call : Here lts.After-known-told → Here lts.After-prop
-  test-call c = c.before.before.before.before.before
-
-  -- that tree, from where the test's record is put;
-  abbrev pushed-tree : Here lts.After-push → Here lts.After-known-told
-  pushed-tree c = c.before.before
-
-  -- the word, where it is `len`;
-  abbrev len-looked : Here lts.Then2 → Here lts.After-number-at
-  len-looked c = c.before.before.before
-
-  -- the word, where it is neither; where it is a count, the call of `prop`, and its tree;
-  abbrev other-looked : Here lts.Else2 → Here lts.After-number-at
-  other-looked c = c.before.before.before
-
-  abbrev count-looked : Here lts.Then3 → Here lts.After-number-at
-  count-looked c = other-looked c.before.before
-
-  abbrev at_count : Here lts.After-prop2 → Here lts.Then3
-  at_count c = c.before.before
-
-  abbrev count-call : Here lts.After-known-told2 → Here lts.After-prop2
-  count-call c = c.before.before.before.before.before
-
-  -- and where it is `lag`.
-  abbrev lag-looked : Here lts.Then4 → Here lts.After-number-at
-  lag-looked c = other-looked c.before.before.before
-
   -- The first word, and the room after it.
-  abbrev first : Here lts.After-number-at → ℕ
-  first c = let args = (start c).args in word args.ws.now args.at
+  abbrev first : Here lts.After-number_at-k → ℕ
+  first c = let args = c.args in word args.ws.now args.at
 
-  abbrev First-space : Here lts.After-number-at → Type 0
-  First-space c = let args = (start c).args in Space 4 args.ws.now (args.at + 1) args.arena.now args.top
+  abbrev First-space : Here lts.After-number_at-k → Type 0
+  First-space c = let args = c.args in Space 4 args.ws.now (args.at + 1) args.arena.now args.top
 
   -- It is the word that was looked at, and where it is one, it leaves room.
-  looked-space : (c : Here lts.After-number-at) → 1 ≤ c.number_at.result → First-space c
-  looked-space c l = past_first (start c).requires.1 (sym c.number_at.ensures) l
+  looked-space : (c : Here lts.After-number_at-k) → 1 ≤ c.number_at-k.result → First-space c
+  looked-space c l = past_first c.requires.1 (sym c.number_at-k.ensures) l
 
   -- A test,
-  is-test : (c : Here lts.Then1) → is_test (test-looked c).number_at.result ≡ true
-  is-test c = sym c.before.is-test.ensures ∙ c.if1.true
+  is-test : (c : Here lts.Then-is_test) → is_test c.number_at-k.result ≡ true
+  is-test c = sym c.is_test.ensures ∙ c.if-is_test.true
 
-  test_word_lem : (c : Here lts.Then1) → is_test (first (test-looked c)) ≡ true
-  test_word_lem c = ap is_test (sym (test-looked c).number_at.ensures) ∙ is-test c
+  test_word_lem : (c : Here lts.Then-is_test) → is_test (first c.before.before) ≡ true
+  test_word_lem c = ap is_test (sym c.number_at-k.ensures) ∙ is-test c
 
-  test-space : (c : Here lts.Then1) → First-space (test-looked c)
-  test-space c = looked-space (test-looked c) (omega (arith, test-pos _ (is-test c)))
+  test-space : (c : Here lts.Then-is_test) → First-space c.before.before
+  test-space c = looked-space c.before.before (omega (arith, test-pos _ (is-test c)))
 
-  add-test : Here lts.Need-overflow-add-prop
+  add-test : Here lts.Need-overflow_add-at
   add-test c = let s = test-space c in omega arith
 
   test-requires : Here lts.Need-prop-requires
   test-requires c κs =
-      let here = c.before in
-      let s = test-space here in
-      (omega (arith, (start (test-looked here)).pre.0), opening s (omega arith))
+      let s = test-space c.before in
+      (omega (arith, c.requires.0), opening s (omega arith))
 
-  test-no-p-length : Here lts.Need-same-length
-  test-no-p-length c = c.before.before.before.before.prop.auto.1.1.1.1.0
+  test-no-p-length : Here lts.Need-shape_of-arena-in_default
+  test-no-p-length c = c.prop.auto.arena
 
-  test-no-p : Here lts.Need-returns
+  test-no-p : Here lts.Need-returns-in_default
   test-no-p c =
-      let call = c.before.before.before.before in
-      fails _ (Steps.test-is _ _ (test_word_lem (at_test call)))
-      (lost call.prop.ensures c.enum_told.given.1)
+      fails _ (Steps.test-is _ _ (test_word_lem c.before.before.before.before.before))
+      (lost c.prop.ensures c.in_default.is)
 
   -- and its P in square brackets.
-  test-tree : (c : Here lts.After-known-told) →
-      let args = (start (test-looked (at_test (test-call c)))).args in
+  test-tree : (c : Here lts.In-At) →
+      let args = c.args in
       Gave go_square args.ws.now (args.at + 1) args.arena.now args.top
-      c.before.j.given.0 (test-call c).prop.new.1.1.1.1.0
-  test-tree c = took (test-call c).prop.ensures (λ a m h. span (h (omega arith))) c.before.j.given.1
+      (c.in-At.j, (c.in-At.t, (c.in-At.field-2, tt))) c.prop.new.arena
+  test-tree c = took c.prop.ensures (λ a m h. span (h (omega arith))) c.in-At.is
 
-  sub-test : Here lts.Need-overflow-sub-push
-  sub-test c = test-pos _ (is-test (at_test (test-call c.before)))
+  sub-test : Here lts.Need-overflow_sub-k
+  sub-test c = test-pos _ (is-test c.before.before.before.before.before.before)
 
-  add-test-kind : Here lts.Need-overflow-add-push
-  add-test-kind c = omega (arith, test-high _ (is-test (at_test (test-call c.before))))
+  add-test-kind : Here lts.Need-overflow_add-k
+  add-test-kind c = omega (arith, test-high _ (is-test c.before.before.before.before.before.before))
 
-  test_fits : Here lts.Need-push-requires
+  test_fits : Here lts.Need-push-end-requires
   test_fits c κs =
-      let tree = c.before in
-      fits-tree 0 (test-space (at_test (test-call tree))) (test-tree tree).part
+      fits-tree 0 (test-space c.before.before.before.before.before.before) (test-tree c.before).part
 
-  is-lead-test-requires : Here lts.Need-is-lead-test-requires
-  is-lead-test-requires c κs = is-test (at_test (test-call c.before.before.before.before))
+  is-lead-test-requires : Here lts.Need-is_lead_test-requires
+  is-lead-test-requires c κs = is-test c.before.before.before.before.before.before.before.before.before
 
-  test-p-length : Here lts.Need-same-length-2
+  test-p-length : Here lts.Need-shape_of-arena-then-is_test
   test-p-length c =
-      let after_push = c.before.before.before.before in
-      after_push.push.auto.0 ∙ (test-call (pushed-tree after_push)).prop.kept.1.1.1.1.0
+      c.push-end.auto.arena ∙ c.prop.auto.arena
 
-  test-p : Here lts.Need-returns-2
+  test-p : Here lts.Need-returns-then-is_test
   test-p c =
-      let after_push = c.before.before.before.before in
-      let tree = pushed-tree after_push in
-      let here = at_test (test-call tree) in
-      Steps.A-test (test_word_lem here) (test-tree tree) (test-looked here).number_at.ensures after_push.push.ensures
-      (c.atom-facts.ensures ∙ ap atom_facts c.before.is-lead-test.ensures)
+      Steps.A-test (test_word_lem c.before.before.before.before.before.before.before.before.before.before.before) (test-tree c.before.before.before.before.before.before) c.number_at-k.ensures c.push-end.ensures
+      (c.atom_facts.ensures ∙ ap atom_facts c.is_lead_test.ensures)
 
   -- `len`, and op n.
-  len_word : (c : Here lts.Then2) → first (len-looked c) ≡ Word.LEN
-  len_word c = sym (len-looked c).number_at.ensures ∙ c.if2.true
+  len_word : (c : Here lts.Then-k-eq-LEN) → first c.before.before.before ≡ Word.LEN
+  len_word c = sym c.number_at-k.ensures ∙ c.if-k-eq-LEN.true
 
-  len-space : (c : Here lts.Then2) → First-space (len-looked c)
-  len-space c = past_first (start (len-looked c)).pre.1 (len_word c) (omega arith)
+  len-space : (c : Here lts.Then-k-eq-LEN) → First-space c.before.before.before
+  len-space c = past_first c.requires.1 (len_word c) (omega arith)
 
-  add-len : Here lts.Need-overflow-add-comparison
+  add-len : Here lts.Need-overflow_add-at-then-k-eq-LEN
   add-len c = let s = len-space c in omega arith
 
   len-requires : Here lts.Need-comparison-requires
   len-requires c κs = let s = len-space c.before in (omega arith, fits-push 0 s)
 
-  a-len-length : Here lts.Need-same-length-3
-  a-len-length c = c.before.before.comparison.auto.1.1.0
+  a-len-length : Here lts.Need-shape_of-arena-then-k-eq-LEN
+  a-len-length c = c.comparison.auto.arena
 
-  a-len : Here lts.Need-returns-3
+  a-len : Here lts.Need-returns-then-k-eq-LEN
   a-len c =
-      let call = c.before.before in
-      Steps.A_len (len_word call.before.before) call.comparison.ensures
+      Steps.A_len (len_word c.before.before.before.before) c.comparison.ensures
 
   -- A count,
-  is-count : (c : Here lts.Then3) → is_count (count-looked c).number_at.result ≡ true
-  is-count c = sym c.before.is-count.ensures ∙ c.if3.true
+  is-count : (c : Here lts.Then-is_count) → is_count c.number_at-k.result ≡ true
+  is-count c = sym c.is_count.ensures ∙ c.if-is_count.true
 
-  count_word_lem : (c : Here lts.Then3) → is_count (first (count-looked c)) ≡ true
-  count_word_lem c = ap is_count (sym (count-looked c).number_at.ensures) ∙ is-count c
+  count_word_lem : (c : Here lts.Then-is_count) → is_count (first c.before.before.before.before.before) ≡ true
+  count_word_lem c = ap is_count (sym c.number_at-k.ensures) ∙ is-count c
 
-  count-space : (c : Here lts.Then3) → First-space (count-looked c)
-  count-space c = looked-space (count-looked c) (omega (arith, count-pos _ (is-count c)))
+  count-space : (c : Here lts.Then-is_count) → First-space c.before.before.before.before.before
+  count-space c = looked-space c.before.before.before.before.before (omega (arith, count-pos _ (is-count c)))
 
-  add-count : Here lts.Need-overflow-add-prop-2
+  add-count : Here lts.Need-overflow_add-at-then-is_count
   add-count c = let s = count-space c in omega arith
 
-  count-requires : Here lts.Need-prop-requires-2
+  count-requires : Here lts.Need-prop-requires-then-is_count
   count-requires c κs =
-      let here = c.before in
-      let s = count-space here in
-      (omega (arith, (start (count-looked here)).pre.0), opening s (omega arith))
+      let s = count-space c.before in
+      (omega (arith, c.requires.0), opening s (omega arith))
 
-  count-no-p-length : Here lts.Need-same-length-4
-  count-no-p-length c = c.before.before.before.before.prop2.auto.1.1.1.1.0
+  count-no-p-length : Here lts.Need-shape_of-arena-in_default-prop
+  count-no-p-length c = c.prop-then-is_count.auto.arena
 
-  count-no-p : Here lts.Need-returns-4
+  count-no-p : Here lts.Need-returns-in_default-prop
   count-no-p c =
-      let call = c.before.before.before.before in
-      fails _ (Steps.count-is _ _ (count_word_lem (at_count call)))
-      (lost call.prop2.ensures c.enum-told2.given.1)
+      fails _ (Steps.count-is _ _ (count_word_lem c.before.before.before.before.before))
+      (lost c.prop-then-is_count.ensures c.in_default-prop.is)
 
   -- its P in square brackets, and op n.
-  count-tree : (c : Here lts.After-known-told2) →
-      let args = (start (count-looked (at_count (count-call c)))).args in
+  count-tree : (c : Here lts.In-At-prop) →
+      let args = c.args in
       Gave go_square args.ws.now (args.at + 1) args.arena.now args.top
-      c.before.j2.given.0 (count-call c).prop2.new.1.1.1.1.0
-  count-tree c = took (count-call c).prop2.ensures (λ a m h. span (h (omega arith))) c.before.j2.given.1
+      (c.in-At-prop.j, (c.in-At-prop.t, (c.in-At-prop.field-2, tt))) c.prop-then-is_count.new.arena
+  count-tree c = took c.prop-then-is_count.ensures (λ a m h. span (h (omega arith))) c.in-At-prop.is
 
-  sub-count : Here lts.Need-overflow-sub-comparison
-  sub-count c = count-pos _ (is-count (at_count (count-call c.before)))
+  sub-count : Here lts.Need-overflow_sub-k-then-is_count
+  sub-count c = count-pos _ (is-count c.before.before.before.before.before.before)
 
-  add-count-kind : Here lts.Need-overflow-add-comparison-2
-  add-count-kind c = omega (arith, count-high _ (is-count (at_count (count-call c.before))))
+  add-count-kind : Here lts.Need-overflow_add-k-then-is_count
+  add-count-kind c = omega (arith, count-high _ (is-count c.before.before.before.before.before.before))
 
-  is-lead-count-requires : Here lts.Need-is-lead-count-requires
-  is-lead-count-requires c κs = is-count (at_count (count-call c.before))
+  is-lead-count-requires : Here lts.Need-is_lead_count-requires
+  is-lead-count-requires c κs = is-count c.before.before.before.before.before.before
 
-  count-compared : Here lts.Need-comparison-requires-2
+  count-compared : Here lts.Need-comparison-requires-then-is_count
   count-compared c κs =
-      let tree = c.before.before in
-      let s = past-tree (count-space (at_count (count-call tree))) (count-tree tree).part in
+      let s = past-tree (count-space c.before.before.before.before.before.before.before) (count-tree c.before.before).part in
       (omega arith, fits-push 0 s)
 
-  count-p-length : Here lts.Need-same-length-5
+  count-p-length : Here lts.Need-shape_of-arena-then-is_count
   count-p-length c =
-      let tree = c.before.before.before.before.before in
-      c.before.before.comparison2.auto.1.1.0 ∙ (count-call tree).prop2.auto.1.1.1.1.0
+      c.comparison-then-is_count.auto.arena ∙ c.prop-then-is_count.auto.arena
 
-  count-p : Here lts.Need-returns-5
+  count-p : Here lts.Need-returns-then-is_count
   count-p c =
-      let tree = c.before.before.before.before.before in
-      let here = at_count (count-call tree) in
-      Steps.A-count (count_word_lem here) (count-tree tree) (count-looked here).number_at.ensures
-      c.before.before.before.is-lead-count.ensures c.before.before.comparison2.ensures
+      Steps.A-count (count_word_lem c.before.before.before.before.before.before.before.before.before.before) (count-tree c.before.before.before.before.before) c.number_at-k.ensures
+      c.is_lead_count.ensures c.comparison-then-is_count.ensures
 
   -- `lag`.
-  lag-word : (c : Here lts.Then4) → first (lag-looked c) ≡ Word.LAG
-  lag-word c = sym (lag-looked c).number_at.ensures ∙ c.if4.true
+  lag-word : (c : Here lts.Then-k-eq-LAG) → first c.before.before.before.before.before.before ≡ Word.LAG
+  lag-word c = sym c.number_at-k.ensures ∙ c.if-k-eq-LAG.true
 
   lag-requires : Here lts.Need-lag-requires
   lag-requires c κs =
-      let here = start (lag-looked c.before) in
-      let s = past_first here.pre.1 (lag-word c.before) (omega arith) in
-      (omega (arith, here.pre.0), record { room = here.pre.1; first = lag-word c.before })
+      let s = past_first c.requires.1 (lag-word c.before) (omega arith) in
+      (omega (arith, c.requires.0), record { room = c.requires.1; first = lag-word c.before })
 
-  a-lag-length : Here lts.Need-same-length-6
-  a-lag-length c = c.before.before.lag.auto.1.1.0
+  a-lag-length : Here lts.Need-shape_of-arena-then-k-eq-LAG
+  a-lag-length c = c.lag.auto.arena
 
-  a-lag : Here lts.Need-returns-6
-  a-lag c = c.before.before.lag.ensures
+  a-lag : Here lts.Need-returns-then-k-eq-LAG
+  a-lag c = c.lag.ensures
 
   -- Any other word.
-  no-atom : Here lts.Need-returns-7
+  no-atom : Here lts.Need-returns
   no-atom c =
-      let no-count = c.before in
-      let no-len = no-count.before.before in
-      let no_test = no-len.before in
-      let looked = no_test.before.before in
-      let w = sym looked.number_at.ensures in
-      Steps.A-none (ap is_test w ∙ sym no_test.before.is-test.ensures ∙ no_test.if1.false)
-      (λ e. no-len.if2.false (looked.number_at.ensures ∙ e))
-      (ap is_count w ∙ sym no-count.before.is-count.ensures ∙ no-count.if3.false)
-      (λ e. c.if4.false (looked.number_at.ensures ∙ e))
+      let w = sym c.number_at-k.ensures in
+      Steps.A-none (ap is_test w ∙ sym c.is_test.ensures ∙ c.if-is_test.false)
+      (λ e. c.if-k-eq-LEN.false (c.number_at-k.ensures ∙ e))
+      (ap is_count w ∙ sym c.is_count.ensures ∙ c.if-is_count.false)
+      (λ e. c.if-k-eq-LAG.false (c.number_at-k.ensures ∙ e))
 
   -- So the member meets its contract, if the calls with lower measures do.
   pub met : {M : Type 1} → lts.Closed (calls-atom t) (at ps μ-atom reads.Pre t) reads.Post M

@@ -26,72 +26,57 @@ module _ (t : ℕ) where
   abbrev Here : (lts.Claims → In 2 ps → Out 2 ps r → Type 0) → Type 0
   Here place = place (calls-chop t) (at ps μ-chop reads.Pre t) reads.Post
 
-  -- The places: the start; the call of `read_f`, and its tree.
-  abbrev start : Here lts.After-slice-known → Here lts.Start
-  start c = c.before.before
-
-  abbrev at_call : Here lts.After-read-f → Here lts.After-slice-known
-  at_call c = c.before.before
-
-  abbrev call : Here lts.After-known-told → Here lts.After-read-f
-  call c = c.before.before.before.before.before
-
   -- `chop`, which leaves room,
-  chop-word : (c : Here lts.After-slice-known) →
-      let args = (start c).args in
+  chop-word : (c : Here lts.After-slice_known-1) →
+      let args = c.args in
       word args.ws.now args.at ≡ Word.CHOP
-  chop-word c = (start c).requires.1.0.first
+  chop-word c = c.requires.1.0.first
 
-  chop-space : (c : Here lts.After-slice-known) →
-      let args = (start c).args in
+  chop-space : (c : Here lts.After-slice_known-1) →
+      let args = c.args in
       Space 4 args.ws.now (args.at + 1) args.arena.now args.top
-  chop-space c = past_first (start c).requires.1.0.room (chop-word c) (omega arith)
+  chop-space c = past_first c.requires.1.0.room (chop-word c) (omega arith)
 
-  add-f : Here lts.Need-overflow-add-read-f
+  add-f : Here lts.Need-overflow_add-at
   add-f c = let s = chop-space c in omega arith
 
-  f-requires : Here lts.Need-read-f-requires
+  f-requires : Here lts.Need-read_f-requires
   f-requires c κs =
       let s = chop-space c.before in
-      (omega (arith, (start c.before).pre.0), room s)
+      (omega (arith, c.requires.0), room s)
 
-  no-f-length : Here lts.Need-same-length
-  no-f-length c = c.before.before.before.before.read-f.auto.1.1.1.0
+  no-f-length : Here lts.Need-shape_of-arena-in_default
+  no-f-length c = c.read_f.auto.arena
 
-  no-f : Here lts.Need-returns
+  no-f : Here lts.Need-returns-in_default
   no-f c =
-      let none = c.before.before.before.before in
-      Steps.joined-no (lost none.read-f.ensures c.enum_told.given.1)
+      Steps.joined-no (lost c.read_f.ensures c.in_default.is)
 
   -- and the F after it.
-  tree : (c : Here lts.After-known-told) →
-      let args = (start (at_call (call c))).args in
+  tree : (c : Here lts.In-At) →
+      let args = c.args in
       Gave (go_f false) args.ws.now (args.at + 1) args.arena.now args.top
-      c.before.m.given.0 (call c).read-f.new.1.1.1.0
-  tree c = took (call c).read-f.ensures (λ a m h. span h) c.before.m.given.1
+      (c.in-At.m, (c.in-At.e, (c.in-At.b, tt))) c.read_f.new.arena
+  tree c = took c.read_f.ensures (λ a m h. span h) c.in-At.is
 
-  fits : Here lts.Need-push-requires
+  fits : Here lts.Need-push-end-requires
   fits c κs =
-      let here = c.before in
-      fits-tree 0 (chop-space (at_call (call here))) (tree here).part
+      fits-tree 0 (chop-space c.before.before.before.before.before.before) (tree c.before).part
 
-  facts-requires : Here lts.Need-chop-facts-requires
+  facts-requires : Here lts.Need-chop_facts-requires
   facts-requires c κs =
-      let here = c.before.before.before.before in
-      let pre = (start (at_call (call here))).pre.1 in
-      (pre.1, few-nodes pre.0.room.few (tree here).part)
+      let pre = c.requires.1 in
+      (pre.1, few-nodes pre.0.room.few (tree c.before.before.before.before).part)
 
-  f-length : Here lts.Need-same-length-2
+  f-length : Here lts.Need-shape_of-arena
   f-length c =
-      let here = c.before.before.before.before.before in
-      c.before.before.before.push.auto.0 ∙ (call here).read-f.auto.1.1.1.0
+      c.push-end.auto.arena ∙ c.read_f.auto.arena
 
-  f : Here lts.Need-returns-2
+  f : Here lts.Need-returns
   f c =
-      let here = c.before.before.before.before.before in
-      let h = tree here in
-      Steps.joined h (stored_on h.part.stored (pushed c.before.before.before.push.ensures))
-      c.chop-facts.ensures
+      let h = tree c.before.before.before.before.before in
+      Steps.joined h (stored_on h.part.stored (pushed c.push-end.ensures))
+      c.chop_facts.ensures
 
   -- So the member meets its contract, if the calls with lower measures do.
   pub met : {M : Type 1} → lts.Closed (calls-chop t) (at ps μ-chop reads.Pre t) reads.Post M

@@ -27,109 +27,88 @@ module _ (t : ℕ) where
   abbrev Here : (lts.Claims → In 2 ps → Out 2 ps r → Type 0) → Type 0
   Here place = place (calls-exists t) (at ps μ-exists reads.Pre t) reads.Post
 
-  -- The places: the start; the signal, the call of `read_u`, and its tree.
-  abbrev start : Here lts.After-slice-known → Here lts.Start
-  start c = c.before.before
-
-  abbrev at-exists : Here lts.Else1 → Here lts.After-slice-known
-  at-exists c = c.before.before.before
-
-  abbrev at-signal : Here lts.After-read-u → Here lts.Else1
-  at-signal c = c.before.before
-
-  abbrev call : Here lts.After-known-told → Here lts.After-read-u
-  call c = c.before.before.before.before.before
-
   -- `exists`,
-  exists-word : (c : Here lts.After-slice-known) →
-      let args = (start c).args in
+  exists-word : (c : Here lts.After-slice_known-1) →
+      let args = c.args in
       word args.ws.now args.at ≡ Word.EXISTS
-  exists-word c = (start c).requires.1.first
+  exists-word c = c.requires.1.first
 
-  exists-space : (c : Here lts.After-slice-known) →
-      let args = (start c).args in
+  exists-space : (c : Here lts.After-slice_known-1) →
+      let args = c.args in
       Space 4 args.ws.now (args.at + 1) args.arena.now args.top
-  exists-space c = past_first (start c).requires.1.room (exists-word c) (omega arith)
+  exists-space c = past_first c.requires.1.room (exists-word c) (omega arith)
 
-  add-exists : Here lts.Need-overflow-add-number-at
+  add-exists : Here lts.Need-overflow_add-at
   add-exists c = let s = exists-space c in omega arith
 
-  no-signal : Here lts.Need-returns
+  no-signal : Here lts.Need-returns-then-not-is_signal
   no-signal c =
-      let test = c.before.is-signal in
-      let no = sym test.ensures ∙ not-true test.result c.if1.true in
+      let test = c.is_signal in
+      let no = sym test.ensures ∙ c.if-not-is_signal.true in
       Steps.no-signal refl (exists-word c.before.before.before)
-      (ap is_signal (sym c.before.before.number_at.ensures) ∙ no)
+      (ap is_signal (sym c.number_at-w.ensures) ∙ no)
 
   -- a signal,
-  is-signal : (c : Here lts.Else1) → is_signal c.before.before.number_at.result ≡ true
+  is-signal : (c : Here lts.Else-not-is_signal) → is_signal c.number_at-w.result ≡ true
   is-signal c =
-      let test = c.before.is-signal in
-      sym test.ensures ∙ not-false test.result c.if1.false
+      let test = c.is_signal in
+      sym test.ensures ∙ c.if-not-is_signal.false
 
-  signal-word : (c : Here lts.Else1) →
-      let args = (start (at-exists c)).args in
+  signal-word : (c : Here lts.Else-not-is_signal) →
+      let args = c.args in
       is_signal (word args.ws.now (args.at + 1)) ≡ true
-  signal-word c = ap is_signal (sym c.before.before.number_at.ensures) ∙ is-signal c
+  signal-word c = ap is_signal (sym c.number_at-w.ensures) ∙ is-signal c
 
-  signal-space : (c : Here lts.Else1) →
-      let args = (start (at-exists c)).args in
+  signal-space : (c : Here lts.Else-not-is_signal) →
+      let args = c.args in
       Space 4 args.ws.now (args.at + 2) args.arena.now args.top
   signal-space c =
-      let args = (start (at-exists c)).args in
-      let signal = c.before.before.number_at in
+      let args = c.args in
+      let signal = c.number_at-w in
       let w = signal-pos signal.result (is-signal c) in
       let l = inside args.ws.now (args.at + 1) (omega (arith, signal.ensures)) in
-      skip (exists-space (at-exists c)) (omega arith) (omega arith)
+      skip (exists-space c.before.before.before) (omega arith) (omega arith)
 
-  add-signal : Here lts.Need-overflow-add-read-u
+  add-signal : Here lts.Need-overflow_add-at-2
   add-signal c = let s = signal-space c in omega arith
 
-  u-requires : Here lts.Need-read-u-requires
+  u-requires : Here lts.Need-read_u-requires
   u-requires c κs =
-      let here = c.before in
-      let s = signal-space here in
-      (omega (arith, (start (at-exists here)).pre.0), room s)
+      let s = signal-space c.before in
+      (omega (arith, c.requires.0), room s)
 
-  no-u-length : Here lts.Need-same-length
-  no-u-length c = c.before.before.before.before.read-u.auto.1.1.1.0
+  no-u-length : Here lts.Need-shape_of-arena-in_default
+  no-u-length c = c.read_u.auto.arena
 
-  no-u : Here lts.Need-returns-2
+  no-u : Here lts.Need-returns-in_default
   no-u c =
-      let none = c.before.before.before.before in
-      let signal = at-signal none in
-      Steps.exists-no refl (exists-word (at-exists signal)) (signal-word signal)
-      (lost none.read-u.ensures c.enum_told.given.1)
+      Steps.exists-no refl (exists-word c.before.before.before.before.before.before.before.before) (signal-word c.before.before.before.before.before)
+      (lost c.read_u.ensures c.in_default.is)
 
   -- and a U.
-  tree : (c : Here lts.After-known-told) →
-      let args = (start (at-exists (at-signal (call c)))).args in
+  tree : (c : Here lts.In-At) →
+      let args = c.args in
       Gave (go_u false) args.ws.now (args.at + 2) args.arena.now args.top
-      c.before.j.given.0 (call c).read-u.new.1.1.1.0
-  tree c = took (call c).read-u.ensures (λ a m h. span h) c.before.j.given.1
+      (c.in-At.j, (c.in-At.t, (c.in-At.a, tt))) c.read_u.new.arena
+  tree c = took c.read_u.ensures (λ a m h. span h) c.in-At.is
 
-  sub-signal : Here lts.Need-overflow-sub-push
+  sub-signal : Here lts.Need-overflow_sub-w
   sub-signal c =
-      let signal = at-signal (call c.before) in
-      signal-pos signal.before.before.number_at.result (is-signal signal)
+      signal-pos c.number_at-w.result (is-signal c.before.before.before.before.before.before)
 
-  fits : Here lts.Need-push-requires
+  fits : Here lts.Need-push-end-requires
   fits c κs =
-      let here = c.before in
-      fits-tree 0 (signal-space (at-signal (call here))) (tree here).part
+      fits-tree 0 (signal-space c.before.before.before.before.before.before) (tree c.before).part
 
-  u-length : Here lts.Need-same-length-2
+  u-length : Here lts.Need-shape_of-arena
   u-length c =
-      let here = c.before.before.before.before.before in
-      c.before.before.before.push.auto.0 ∙ (call here).read-u.auto.1.1.1.0
+      c.push-end.auto.arena ∙ c.read_u.auto.arena
 
-  u : Here lts.Need-returns-3
+  u : Here lts.Need-returns
   u c =
-      let here = c.before.before.before.before.before in
-      let signal = at-signal (call here) in
-      Steps.U-exists refl (exists-word (at-exists signal)) (signal-word signal) (tree here)
-      signal.before.before.number_at.ensures c.before.before.before.push.ensures
-      c.exists-facts.ensures
+      Steps.U-exists refl (exists-word c.before.before.before.before.before.before.before.before.before.before.before.before.before) (signal-word c.before.before.before.before.before.before.before.before.before.before) (tree c.before.before.before.before.before)
+      c.number_at-w.ensures c.push-end.ensures
+      c.exists_facts.ensures
 
   -- So the member meets its contract, if the calls with lower measures do.
   pub met : {M : Type 1} → lts.Closed (calls-exists t) (at ps μ-exists reads.Pre t) reads.Post M

@@ -24,70 +24,55 @@ module _ (t : ℕ) where
   abbrev Here : (lts.Claims → In 2 ps → Out 2 ps r → Type 0) → Type 0
   Here place = place (calls-not t) (at ps μ-not reads.Pre t) reads.Post
 
-  -- The places: the start; the call of `read_u`, and its tree.
-  abbrev start : Here lts.After-slice-known → Here lts.Start
-  start c = c.before.before
-
-  abbrev at_call : Here lts.After-read-u → Here lts.After-slice-known
-  at_call c = c.before.before
-
-  abbrev call : Here lts.After-known-told → Here lts.After-read-u
-  call c = c.before.before.before.before.before
-
   -- `!`, which leaves room,
-  not-word : (c : Here lts.After-slice-known) →
-      let args = (start c).args in
+  not-word : (c : Here lts.After-slice_known-1) →
+      let args = c.args in
       word args.ws.now args.at ≡ Word.NOT
-  not-word c = (start c).requires.1.first
+  not-word c = c.requires.1.first
 
-  not-space : (c : Here lts.After-slice-known) →
-      let args = (start c).args in
+  not-space : (c : Here lts.After-slice_known-1) →
+      let args = c.args in
       Space 4 args.ws.now (args.at + 1) args.arena.now args.top
-  not-space c = past_first (start c).requires.1.room (not-word c) (omega arith)
+  not-space c = past_first c.requires.1.room (not-word c) (omega arith)
 
-  add-u : Here lts.Need-overflow-add-read-u
+  add-u : Here lts.Need-overflow_add-at
   add-u c = let s = not-space c in omega arith
 
-  u-requires : Here lts.Need-read-u-requires
+  u-requires : Here lts.Need-read_u-requires
   u-requires c κs =
       let s = not-space c.before in
-      (omega (arith, (start c.before).pre.0), room s)
+      (omega (arith, c.requires.0), room s)
 
-  no-u-length : Here lts.Need-same-length
-  no-u-length c = c.before.before.before.before.read-u.auto.1.1.1.0
+  no-u-length : Here lts.Need-shape_of-arena-in_default
+  no-u-length c = c.read_u.auto.arena
 
-  no-u : Here lts.Need-returns
+  no-u : Here lts.Need-returns-in_default
   no-u c =
-      let none = c.before.before.before.before in
-      Steps.not-no (not-word (at_call none)) (lost none.read-u.ensures c.enum_told.given.1)
+      Steps.not-no (not-word c.before.before.before.before.before) (lost c.read_u.ensures c.in_default.is)
 
   -- and a U.
-  tree : (c : Here lts.After-known-told) →
-      let args = (start (at_call (call c))).args in
+  tree : (c : Here lts.In-At) →
+      let args = c.args in
       Gave (go_u args.inside) args.ws.now (args.at + 1) args.arena.now args.top
-      c.before.j.given.0 (call c).read-u.new.1.1.1.0
-  tree c = took (call c).read-u.ensures (λ a m h. span h) c.before.j.given.1
+      (c.in-At.j, (c.in-At.t, (c.in-At.a, tt))) c.read_u.new.arena
+  tree c = took c.read_u.ensures (λ a m h. span h) c.in-At.is
 
-  fits : Here lts.Need-push-requires
+  fits : Here lts.Need-push-end-requires
   fits c κs =
-      let here = c.before in
-      fits-tree 0 (not-space (at_call (call here))) (tree here).part
+      fits-tree 0 (not-space c.before.before.before.before.before.before) (tree c.before).part
 
-  facts-requires : Here lts.Need-not-facts-requires
+  facts-requires : Here lts.Need-not_facts-requires
   facts-requires c κs =
-      let here = c.before.before.before.before in
-      few-nodes (start (at_call (call here))).pre.1.room.few (tree here).part
+      few-nodes c.requires.1.room.few (tree c.before.before.before.before).part
 
-  u-length : Here lts.Need-same-length-2
+  u-length : Here lts.Need-shape_of-arena
   u-length c =
-      let here = c.before.before.before.before.before in
-      c.before.before.before.push.auto.0 ∙ (call here).read-u.auto.1.1.1.0
+      c.push-end.auto.arena ∙ c.read_u.auto.arena
 
-  u : Here lts.Need-returns-2
+  u : Here lts.Need-returns
   u c =
-      let here = c.before.before.before.before.before in
-      Steps.U-not (not-word (at_call (call here))) (tree here)
-      c.before.before.before.push.ensures c.not-facts.ensures
+      Steps.U-not (not-word c.before.before.before.before.before.before.before.before.before.before) (tree c.before.before.before.before.before)
+      c.push-end.ensures c.not_facts.ensures
 
   -- So the member meets its contract, if the calls with lower measures do.
   pub met : {M : Type 1} → lts.Closed (calls-not t) (at ps μ-not reads.Pre t) reads.Post M

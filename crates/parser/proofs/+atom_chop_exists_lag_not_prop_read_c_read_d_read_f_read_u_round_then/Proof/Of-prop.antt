@@ -25,82 +25,68 @@ module _ (t : ℕ) where
   abbrev Here : (lts.Claims → In 2 ps → Out 2 ps r → Type 0) → Type 0
   Here place = place (calls-prop t) (at ps μ-prop reads.Pre t) reads.Post
 
-  -- The places: the start; the bracket that opens; the call of `read_f`, and its tree.
-  abbrev start : Here lts.Else1 → Here lts.Start
-  start c = c.before.before.before.before
-
-  abbrev opening : Here lts.After-read-f → Here lts.Else1
-  opening c = c.before.before
-
-  abbrev call : Here lts.After-known-told → Here lts.After-read-f
-  call c = c.before.before.before.before.before
-
   -- The word is the bracket that opens,
-  open-word : (c : Here lts.Else1) →
-      let args = (start c).args in
+  open-word : (c : Here lts.Else-number_at-before) →
+      let args = c.args in
       word args.ws.now args.at ≡ args.before
-  open-word c = sym c.before.number_at.ensures ∙ c.if1.false
+  open-word c = sym c.number_at.ensures ∙ c.if-number_at-before.false
 
   -- which leaves room.
-  open-space : (c : Here lts.Else1) →
-      let args = (start c).args in
+  open-space : (c : Here lts.Else-number_at-before) →
+      let args = c.args in
       Space 4 args.ws.now (args.at + 1) args.arena.now args.top
-  open-space c = past_first (start c).requires.1.room (open-word c) (start c).requires.1.opens
+  open-space c = past_first c.requires.1.room (open-word c) c.requires.1.opens
 
   -- What stands in the brackets.
-  contents : (c : Here lts.After-known-told) →
-      let args = (start (opening (call c))).args in
+  contents : (c : Here lts.In-At) →
+      let args = c.args in
       Gave (go_f true) args.ws.now (args.at + 1) args.arena.now args.top
-      c.before.j.given.0 (call c).read-f.new.1.1.1.0
-  contents c = took (call c).read-f.ensures (λ a m h. span h) c.before.j.given.1
+      (c.in-At.j, (c.in-At.t, (c.in-At.a, tt))) c.read_f.new.arena
+  contents c = took c.read_f.ensures (λ a m h. span h) c.in-At.is
 
   -- No bracket opens;
-  unopened : Here lts.Need-returns
-  unopened c = Steps.B-no (λ e. c.if1.true (c.before.number_at.ensures ∙ e))
+  unopened : Here lts.Need-returns-then-number_at-before
+  unopened c = Steps.B-no (λ e. c.if-number_at-before.true (c.number_at.ensures ∙ e))
 
-  add-read-f : Here lts.Need-overflow-add-read-f
+  add-read-f : Here lts.Need-overflow_add-at
   add-read-f c = let s = open-space c in omega arith
 
-  contents-requires : Here lts.Need-read-f-requires
+  contents-requires : Here lts.Need-read_f-requires
   contents-requires c κs =
       let s = open-space c.before in
-      (omega (arith, (start c.before).pre.0), room s)
+      (omega (arith, c.requires.0), room s)
 
   -- no P stands in it;
-  empty-length : Here lts.Need-same-length
-  empty-length c = c.before.before.before.before.read-f.auto.1.1.1.0
+  empty-length : Here lts.Need-shape_of-arena-in_default
+  empty-length c = c.read_f.auto.arena
 
-  empty : Here lts.Need-returns-2
+  empty : Here lts.Need-returns-in_default
   empty c =
-      let at_call = c.before.before.before.before in
-      Steps.bracket-no (between _ _) (open-word (opening at_call))
-      (lost at_call.read-f.ensures c.enum_told.given.1)
+      Steps.bracket-no (between _ _) (open-word c.before.before.before.before.before)
+      (lost c.read_f.ensures c.in_default.is)
 
   -- it stays open;
-  unclosed-length : Here lts.Need-same-length-2
-  unclosed-length c = (call c.before.before).read-f.kept.1.1.1.0
+  unclosed-length : Here lts.Need-shape_of-arena-then-number_at-after
+  unclosed-length c = c.read_f.auto.arena
 
-  unclosed : Here lts.Need-returns-3
+  unclosed : Here lts.Need-returns-then-number_at-after
   unclosed c =
-      let told = c.before.before in
-      Steps.bracket-open (between _ _) (open-word (opening (call told))) (contents told)
-      (λ e. c.if2.true (c.before.number-at2.ensures ∙ e))
+      Steps.bracket-open (between _ _) (open-word c.before.before.before.before.before.before.before) (contents c.before.before)
+      (λ e. c.if-number_at-after.true (c.number_at-2.ensures ∙ e))
 
   -- it closes.
-  add-end : Here lts.Need-overflow-add-t13
+  add-end : Here lts.Need-overflow_add-result
   add-end c =
-      let told = c.before.before in
-      let s = (contents told).part.spans in
-      omega (arith, (start (opening (call told))).pre.1.room.few)
+      let s = (contents c.before.before).part.spans in
+      omega (arith, c.requires.1.room.few)
 
-  closed-length : Here lts.Need-same-length-3
-  closed-length c = (call c.before.before).read-f.kept.1.1.1.0
+  closed-length : Here lts.Need-shape_of-arena
+  closed-length c = c.read_f.auto.arena
 
-  closed : Here lts.Need-returns-4
+  closed : Here lts.Need-returns
   closed c =
-      let told = c.before.before in
-      Steps.bracket-closed (between _ _) (open-word (opening (call told))) (contents told)
-      (sym c.before.number-at2.ensures ∙ c.if2.false)
+      Steps.bracket-closed (between _ _) (open-word c.before.before.before.before.before.before.before) (contents c.before.before)
+      (sym c.number_at-2.ensures ∙ c.if-number_at-after.false)
 
   -- So the member meets its contract, if the calls with lower measures do.
   pub met : {M : Type 1} → lts.Closed (calls-prop t) (at ps μ-prop reads.Pre t) reads.Post M

@@ -23,145 +23,114 @@ use Rattle.parser.proofs.+atom_chop_exists_lag_not_prop_read_c_read_d_read_f_rea
 }
 
 -- Whatever arena it was that the first part went into, the parts so far stand there.
-abbrev Inv-loop : lts.invariant-loop
+abbrev Inv-loop : lts.invariant-loop-arena
 Inv-loop ws inside at arena₀ top first low j₀ t₀ facts₀ arena j t facts =
     (o : List ℕ) → PartsRead (go_c inside) (go_cs inside) ws at o top j₀ t₀ facts₀ arena₀ →
     PartsRead (go_c inside) (go_cs inside) ws at o top j t facts arena
 
 -- The words left.
-abbrev μ-loop : lts.decreases-loop
+abbrev μ-loop : lts.decreases-loop-arena
 μ-loop ws inside at arena₀ top first low j₀ t₀ facts₀ arena j t facts = length ws - j
 
 module _ (t : ℕ) where
   -- A place or a need of the member, where its measure is t.
-  abbrev Here : (lts.Claims → In 2 ps → Out 2 ps r → lts.invariant-loop → lts.decreases-loop → Type 0) → Type 0
+  abbrev Here : (lts.Claims → In 2 ps → Out 2 ps r → lts.invariant-loop-arena → lts.decreases-loop-arena → Type 0) → Type 0
   Here place = place (calls-read-c t) (at ps μ-read-c reads.Pre t) reads.Post Inv-loop μ-loop
 
-  -- The places: the start; the first call of `read_u`; the loop's head; the word that joins; the second call.
-  abbrev start : Here lts.After-read-u → Here lts.Start
-  start c = c.before.before.before.before
-
-  abbrev first-call : Here lts.After-known-told → Here lts.After-read-u
-  first-call c = c.before.before.before.before.before
-
-  abbrev begun : Here lts.At-loop → Here lts.Start
-  begun c = start (first-call c.before)
-
-  abbrev head : Here lts.Then1 → Here lts.At-loop
-  head c = c.before.before
-
-  abbrev joining : Here lts.After-read-u2 → Here lts.Then1
-  joining c = c.before.before
-
-  abbrev more-call : Here lts.After-known-told2 → Here lts.After-read-u2
-  more-call c = c.before.before.before.before.before
-
   -- The first part, if there is one,
-  first-requires : Here lts.Need-read-u-requires
+  first-requires : Here lts.Need-read_u-requires
   first-requires c κs =
-      let pre = c.before.before.before.requires in
+      let pre = c.requires in
       (omega (arith, pre.0), pre.1)
 
-  none-length : Here lts.Need-same-length
-  none-length c = c.before.before.before.before.read-u.auto.1.1.1.0
+  none-length : Here lts.Need-shape_of-arena-in_default
+  none-length c = c.read_u.auto.arena
 
-  none : Here lts.Need-returns
+  none : Here lts.Need-returns-in_default
   none c =
-      let at_call = c.before.before.before.before in
-      Chains.none (chain-C (start at_call).args.inside) (lost at_call.read-u.ensures c.enum_told.given.1)
+      Chains.none (chain-C c.args.inside) (lost c.read_u.ensures c.in_default.is)
 
-  first : (c : Here lts.After-known-told) →
-      let args = (start (first-call c)).args in
-      let part = c.before.first.given.0 in
+  first : (c : Here lts.In-At) →
+      let args = c.args in
       PartsRead (go_c args.inside) (go_cs args.inside) args.ws.now args.at args.arena.now args.top
-      part.0 part.1.0 part.1.1.0 (first-call c).read-u.new.1.1.1.0
+      c.in-At.first c.in-At.low c.in-At.a c.read_u.new.arena
   first c =
-      Chains.first (chain-C (start (first-call c)).args.inside)
-      (took (first-call c).read-u.ensures (λ a m h. span h) c.before.first.given.1)
+      Chains.first (chain-C c.args.inside)
+      (took c.read_u.ensures (λ a m h. span h) c.in-At.is)
 
-  loop-holds : Here lts.Need-loop-init
+  loop-holds : Here lts.Need-loop-arena-init
   loop-holds c = λ o h. h
 
   -- the parts so far,
-  parts : (c : Here lts.At-loop) →
-      let args = (begun c).args in
-      let loop = c.loop in
+  parts : (c : Here lts.At-loop-arena) →
+      let args = c.args in
+      let loop = c.loop-arena in
       PartsRead (go_c args.inside) (go_cs args.inside) args.ws.now args.at args.arena.now args.top
       loop.j loop.t loop.facts loop.arena
-  parts c = c.loop.invariant (begun c).args.arena.now (first c.before)
+  parts c = c.loop-arena.invariant c.args.arena.now (first c.before)
 
   -- the word that joins them to one more, and the room that it leaves.
-  join-word : (c : Here lts.Then1) →
-      word (begun (head c)).args.ws.now (head c).loop.j ≡ Word.AND
-  join-word c = sym c.before.number_at.ensures ∙ c.if1.true
+  join-word : (c : Here lts.In-loop-arena) →
+      word c.args.ws.now c.loop-arena.j ≡ Word.AND
+  join-word c = sym c.number_at.ensures ∙ c.loop-arena-test.true
 
-  join-space : (c : Here lts.Then1) →
-      let loop = (head c).loop in
-      Space 4 (begun (head c)).args.ws.now (loop.j + 1) loop.arena loop.t
+  join-space : (c : Here lts.In-loop-arena) →
+      let loop = c.loop-arena in
+      Space 4 c.args.ws.now (loop.j + 1) loop.arena loop.t
   join-space c =
-      Chains.joined (chain-C (begun (head c)).args.inside) (begun (head c)).pre.1 (parts (head c)) (join-word c)
+      Chains.joined (chain-C c.args.inside) c.requires.1 (parts c.before.before) (join-word c)
 
-  add-more : Here lts.Need-overflow-add-read-u
+  add-more : Here lts.Need-overflow_add-j
   add-more c = let s = join-space c in omega arith
 
-  more-requires : Here lts.Need-read-u-requires-2
+  more-requires : Here lts.Need-read_u-requires-in-loop-arena
   more-requires c κs =
       let s = join-space c.before in
-      let p = (parts (head c.before)).part.spans in
-      (omega (arith, (begun (head c.before)).pre.0), room s)
+      let p = (parts c.before.before.before).part.spans in
+      (omega (arith, c.requires.0), room s)
 
-  missing-length : Here lts.Need-same-length-2
+  missing-length : Here lts.Need-shape_of-arena-in_default-read_u
   missing-length c =
-      let at_call = c.before.before.before.before in
-      at_call.read-u2.auto.1.1.1.0 ∙ same_size (parts (head (joining at_call))).part
+      c.read_u-in-loop-arena.auto.arena ∙ same_size (parts c.before.before.before.before.before.before.before).part
 
-  missing : Here lts.Need-returns-2
+  missing : Here lts.Need-returns-in_default-read_u
   missing c =
-      let at_call = c.before.before.before.before in
-      let here = joining at_call in
-      Chains.missing (chain-C (begun (head here)).args.inside) (parts (head here)) (join-word here)
-      (lost at_call.read-u2.ensures c.enum-told2.given.1)
+      Chains.missing (chain-C c.args.inside) (parts c.before.before.before.before.before.before.before) (join-word c.before.before.before.before.before)
+      (lost c.read_u-in-loop-arena.ensures c.in_default-read_u.is)
 
   -- One part more.
-  more : (c : Here lts.After-known-told2) →
-      let here = head (joining (more-call c)) in
-      let args = (begun here).args in
-      Gave (go_u args.inside) args.ws.now (here.loop.j + 1) here.loop.arena here.loop.t
-      c.before.m.given.0 (more-call c).read-u2.new.1.1.1.0
-  more c = took (more-call c).read-u2.ensures (λ a m h. span h) c.before.m.given.1
+  more : (c : Here lts.In-At-read_u) →
+      let args = c.args in
+      Gave (go_u args.inside) args.ws.now (c.loop-arena.j + 1) c.loop-arena.arena c.loop-arena.t
+      (c.in-At-read_u.m, (c.in-At-read_u.e, (c.in-At-read_u.b, tt))) c.read_u-in-loop-arena.new.arena
+  more c = took c.read_u-in-loop-arena.ensures (λ a m h. span h) c.in-At-read_u.is
 
-  more-fits : Here lts.Need-push-requires
+  more-fits : Here lts.Need-push-t-requires
   more-fits c κs =
-      let told = c.before in
-      fits-tree 0 (join-space (joining (more-call told))) (more told).part
+      fits-tree 0 (join-space c.before.before.before.before.before.before) (more c.before).part
 
-  join-facts-requires : Here lts.Need-join-facts-requires
+  join-facts-requires : Here lts.Need-join_facts-facts-requires
   join-facts-requires c κs =
-      let told = c.before.before.before.before in
-      let here = head (joining (more-call told)) in
-      let few = (begun here).pre.1.few in
-      (few-nodes few (parts here).part, few-nodes few (more told).part)
+      let few = c.requires.1.few in
+      (few-nodes few (parts c.before.before.before.before.before.before.before.before.before.before.before).part, few-nodes few (more c.before.before.before.before).part)
 
-  loop-less : Here lts.Need-loop-smaller
+  loop-less : Here lts.Need-loop-arena-smaller
   loop-less c = let s = (more c.before.before.before.before.before).part.spans in omega arith
 
-  loop-again : Here lts.Need-loop-preserved
+  loop-again : Here lts.Need-loop-arena-preserved
   loop-again c =
-      let told = c.before.before.before.before.before in
-      let here = joining (more-call told) in
       λ o h.
-      Chains.more (chain-C (begun (head here)).args.inside) ((head here).loop.inv o h) (join-word here) (more told)
-      c.before.before.before.push.ensures c.join-facts.ensures
+      Chains.more (chain-C c.args.inside) (c.loop-arena.invariant o h) (join-word c.before.before.before.before.before.before.before.before.before.before) (more c.before.before.before.before.before)
+      c.push-t.ensures c.join_facts-facts.ensures
 
   -- No part more.
-  done-length : Here lts.Need-same-length-3
+  done-length : Here lts.Need-shape_of-arena
   done-length c = same_size (parts c.before.before).part
 
-  done : Here lts.Need-returns-3
+  done : Here lts.Need-returns
   done c =
-      let here = c.before.before in
-      Chains.done (chain-C (begun here).args.inside) (parts here)
-      (λ e. c.if1.false (c.before.number_at.ensures ∙ e))
+      Chains.done (chain-C c.args.inside) (parts c.before.before)
+      (λ e. c.loop-arena-test.false (c.number_at.ensures ∙ e))
 
   -- So the member meets its contract, if the calls with lower measures do.
   pub met : {M : Type 1} → lts.Closed (calls-read-c t) (at ps μ-read-c reads.Pre t) reads.Post M

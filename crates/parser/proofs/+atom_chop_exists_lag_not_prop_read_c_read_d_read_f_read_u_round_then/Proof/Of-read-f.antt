@@ -29,133 +29,100 @@ module _ (t : ℕ) where
   abbrev Here : (lts.Claims → In 2 ps → Out 2 ps r → Type 0) → Type 0
   Here place = place (calls-read-f t) (at ps μ-read-f reads.Pre t) reads.Post
 
-  -- The places: the start; the call of `read_d`, and its tree;
-  abbrev start : Here lts.After-read-d → Here lts.Start
-  start c = c.before.before.before.before
-
-  abbrev d-call : Here lts.After-known-told → Here lts.After-read-d
-  d-call c = c.before.before.before.before.before
-
-  -- `then`, and the call of `then`; `chop`, and the call of `chop`.
-  abbrev then-d : Here lts.Then2 → Here lts.After-known-told
-  then-d c = c.before.before.before
-
-  abbrev at-then : Here lts.After-then → Here lts.Then2
-  at-then c = c.before.before
-
-  abbrev chop-d : Here lts.Then3 → Here lts.After-known-told
-  chop-d c = c.before.before.before.before
-
-  abbrev at-chop : Here lts.After-chop → Here lts.Then3
-  at-chop c = c.before.before
-
   -- The words, the position after the D, the place after its records, and the arena with them.
-  abbrev text : Here lts.After-known-told → List ℕ
-  text c = (start (d-call c)).args.ws.now
+  abbrev text : Here lts.In-At → List ℕ
+  text c = c.args.ws.now
 
-  abbrev next : Here lts.After-known-told → ℕ
-  next c = c.before.j.given.0.0
+  abbrev next : Here lts.In-At → ℕ
+  next c = c.in-At.j
 
-  abbrev end : Here lts.After-known-told → ℕ
-  end c = c.before.j.given.0.1.0
+  abbrev end : Here lts.In-At → ℕ
+  end c = c.in-At.t
 
-  abbrev arena : Here lts.After-known-told → List ℕ
-  arena c = (d-call c).read-d.new.1.1.1.0
+  abbrev arena : Here lts.In-At → List ℕ
+  arena c = c.read_d.new.arena
 
   -- No D.
-  read-d-requires : Here lts.Need-read-d-requires
+  read-d-requires : Here lts.Need-read_d-requires
   read-d-requires c κs =
-      let pre = c.before.before.before.requires in
+      let pre = c.requires in
       (omega (arith, pre.0), pre.1)
 
-  no-d-length : Here lts.Need-same-length
-  no-d-length c = c.before.before.before.before.read-d.auto.1.1.1.0
+  no-d-length : Here lts.Need-shape_of-arena-in_default
+  no-d-length c = c.read_d.auto.arena
 
-  no-d : Here lts.Need-returns
-  no-d c = Steps.F-no (lost c.before.before.before.before.read-d.ensures c.enum_told.given.1)
+  no-d : Here lts.Need-returns-in_default
+  no-d c = Steps.F-no (lost c.read_d.ensures c.in_default.is)
 
   -- A D, and the room after it.
-  d-tree : (c : Here lts.After-known-told) →
-      let args = (start (d-call c)).args in
-      Gave (go_d args.inside) (text c) args.at args.arena.now args.top c.before.j.given.0 (arena c)
-  d-tree c = took (d-call c).read-d.ensures (λ a m h. span h) c.before.j.given.1
+  d-tree : (c : Here lts.In-At) →
+      let args = c.args in
+      Gave (go_d args.inside) (text c) args.at args.arena.now args.top (c.in-At.j, (c.in-At.t, (c.in-At.a, tt))) (arena c)
+  d-tree c = took c.read_d.ensures (λ a m h. span h) c.in-At.is
 
-  d-space : (c : Here lts.After-known-told) → Space 0 (text c) (next c) (arena c) (end c)
-  d-space c = past-tree (space (start (d-call c)).pre.1) (d-tree c).part
+  d-space : (c : Here lts.In-At) → Space 0 (text c) (next c) (arena c) (end c)
+  d-space c = past-tree (space c.requires.1) (d-tree c).part
 
-  d-inside-length : Here lts.Need-same-length-2
-  d-inside-length c = (d-call c.before).read-d.kept.1.1.1.0
+  d-inside-length : Here lts.Need-shape_of-arena-then-inside
+  d-inside-length c = c.read_d.auto.arena
 
-  d-inside : Here lts.Need-returns-2
+  d-inside : Here lts.Need-returns-then-inside
   d-inside c =
-      let here = c.before in
-      Steps.F-one (d-tree here) (ap (λ (x : Bool). join_of x (word (text here) (next here))) c.if1.true)
+      Steps.F-one (d-tree c.before) (ap (λ (x : Bool). join_of x (word (text c.before) (next c.before))) c.if-inside.true)
 
-  d-few : (c : Here lts.After-known-told) → c.before.j.given.0.1.1.0.nodes ≤ word_limit
-  d-few c = few-nodes (start (d-call c)).pre.1.few (d-tree c).part
+  d-few : (c : Here lts.In-At) → c.in-At.a.nodes ≤ word_limit
+  d-few c = few-nodes c.requires.1.few (d-tree c).part
 
   -- `then` and an F, with the room that a D outside square brackets leaves,
-  then-word : (c : Here lts.Then2) → word (text (then-d c)) (next (then-d c)) ≡ Word.THEN
-  then-word c = sym c.before.number_at.ensures ∙ c.if2.true
+  then-word : (c : Here lts.Then-k-eq-THEN) → word (text c.before.before.before) (next c.before.before.before) ≡ Word.THEN
+  then-word c = sym c.number_at-k.ensures ∙ c.if-k-eq-THEN.true
 
   then-requires : Here lts.Need-then-requires
   then-requires c κs =
-      let here = c.before in
-      let d = then-d here in
-      let p = (d-tree d).part.spans in
-      let s = past-outside (start (d-call d)).pre.1 (d-tree d) here.before.before.if1.false in
-      let more : Room (text d) (next d) (arena d) (end d + 8) =
+      let p = (d-tree c.before.before.before.before).part.spans in
+      let s = past-outside c.requires.1 (d-tree c.before.before.before.before) c.if-inside.false in
+      let more : Room (text c.before.before.before.before) (next c.before.before.before.before) (arena c.before.before.before.before) (end c.before.before.before.before + 8) =
       record { few = s.few; within = s.within; fits = s.fits }
       in
-      (omega (arith, (start (d-call d)).pre.0), (record { room = more; first = then-word here }, d-few d))
+      (omega (arith, c.requires.0), (record { room = more; first = then-word c.before }, d-few c.before.before.before.before))
 
-  then-length : Here lts.Need-same-length-3
+  then-length : Here lts.Need-shape_of-arena-then-k-eq-THEN
   then-length c =
-      let call = c.before.before in
-      call.then.auto.1.1.0 ∙ (d-call (then-d (at-then call))).read-d.kept.1.1.1.0
+      c.then.auto.arena ∙ c.read_d.auto.arena
 
-  a-then : Here lts.Need-returns-3
+  a-then : Here lts.Need-returns-then-k-eq-THEN
   a-then c =
-      let call = c.before.before in
-      let here = at-then call in
-      Steps.F-then (d-tree (then-d here)) here.before.before.if1.left (then-word here) call.then.ensures
+      Steps.F-then (d-tree c.before.before.before.before.before.before.before) c.if-inside.false (then-word c.before.before.before.before) c.then.ensures
 
   -- or `chop` and an F.
-  chop-word : (c : Here lts.Then3) → word (text (chop-d c)) (next (chop-d c)) ≡ Word.CHOP
-  chop-word c = sym c.before.before.number_at.ensures ∙ c.if3.true
+  chop-word : (c : Here lts.Then-k-eq-CHOP) → word (text c.before.before.before.before) (next c.before.before.before.before) ≡ Word.CHOP
+  chop-word c = sym c.number_at-k.ensures ∙ c.if-k-eq-CHOP.true
 
   chop-requires : Here lts.Need-chop-requires
   chop-requires c κs =
-      let here = c.before in
-      let d = chop-d here in
-      let p = (d-tree d).part.spans in (
-        omega (arith, (start (d-call d)).pre.0),
-        (record { room = room (d-space d); first = chop-word here }, d-few d),
+      let p = (d-tree c.before.before.before.before.before).part.spans in (
+        omega (arith, c.requires.0),
+        (record { room = room (d-space c.before.before.before.before.before); first = chop-word c.before }, d-few c.before.before.before.before.before),
       )
 
-  chop-length : Here lts.Need-same-length-4
+  chop-length : Here lts.Need-shape_of-arena-then-k-eq-CHOP
   chop-length c =
-      let call = c.before.before in
-      call.chop.auto.1.1.0 ∙ (d-call (chop-d (at-chop call))).read-d.kept.1.1.1.0
+      c.chop.auto.arena ∙ c.read_d.auto.arena
 
-  a-chop : Here lts.Need-returns-4
+  a-chop : Here lts.Need-returns-then-k-eq-CHOP
   a-chop c =
-      let call = c.before.before in
-      let here = at-chop call in
-      Steps.F-chop (d-tree (chop-d here)) here.before.before.before.if1.left (chop-word here)
-      call.chop.ensures
+      Steps.F-chop (d-tree c.before.before.before.before.before.before.before.before) c.if-inside.false (chop-word c.before.before.before.before)
+      c.chop.ensures
 
   -- Neither: the D alone.
-  d-alone-length : Here lts.Need-same-length-5
-  d-alone-length c = (d-call c.before.before.before.before).read-d.kept.1.1.1.0
+  d-alone-length : Here lts.Need-shape_of-arena
+  d-alone-length c = c.read_d.auto.arena
 
-  d-alone : Here lts.Need-returns-5
+  d-alone : Here lts.Need-returns
   d-alone c =
-      let looked = c.before.before in
-      let d = looked.before.before in
-      Steps.F-one (d-tree d)
-      (stop-join (start (d-call d)).args.inside _ (λ e. c.before.if2.false (looked.number_at.ensures ∙ e))
-      (λ e. c.if3.false (looked.number_at.ensures ∙ e)))
+      Steps.F-one (d-tree c.before.before.before.before)
+      (stop-join c.args.inside _ (λ e. c.if-k-eq-THEN.false (c.number_at-k.ensures ∙ e))
+      (λ e. c.if-k-eq-CHOP.false (c.number_at-k.ensures ∙ e)))
 
   -- So the member meets its contract, if the calls with lower measures do.
   pub met : {M : Type 1} → lts.Closed (calls-read-f t) (at ps μ-read-f reads.Pre t) reads.Post M

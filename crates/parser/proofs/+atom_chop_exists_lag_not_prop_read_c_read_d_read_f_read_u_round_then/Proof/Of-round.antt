@@ -25,78 +25,61 @@ module _ (t : ℕ) where
   abbrev Here : (lts.Claims → In 2 ps → Out 2 ps r → Type 0) → Type 0
   Here place = place (calls-round t) (at ps μ-round reads.Pre t) reads.Post
 
-  -- The places: the start; the call of `read_f`, and its tree.
-  abbrev start : Here lts.After-slice-known → Here lts.Start
-  start c = c.before.before
-
-  abbrev at_call : Here lts.After-read-f → Here lts.After-slice-known
-  at_call c = c.before.before
-
-  abbrev call : Here lts.After-known-told → Here lts.After-read-f
-  call c = c.before.before.before.before.before
-
   -- A round bracket, which leaves room,
-  round-word : (c : Here lts.After-slice-known) →
-      let args = (start c).args in
+  round-word : (c : Here lts.After-slice_known-1) →
+      let args = c.args in
       word args.ws.now args.at ≡ Word.ROUND
-  round-word c = (start c).requires.1.first
+  round-word c = c.requires.1.first
 
-  round-space : (c : Here lts.After-slice-known) →
-      let args = (start c).args in
+  round-space : (c : Here lts.After-slice_known-1) →
+      let args = c.args in
       Space 4 args.ws.now (args.at + 1) args.arena.now args.top
-  round-space c = past_first (start c).requires.1.room (round-word c) (omega arith)
+  round-space c = past_first c.requires.1.room (round-word c) (omega arith)
 
-  add-f : Here lts.Need-overflow-add-read-f
+  add-f : Here lts.Need-overflow_add-at
   add-f c = let s = round-space c in omega arith
 
-  f-requires : Here lts.Need-read-f-requires
+  f-requires : Here lts.Need-read_f-requires
   f-requires c κs =
       let s = round-space c.before in
-      (omega (arith, (start c.before).pre.0), room s)
+      (omega (arith, c.requires.0), room s)
 
-  no-f-length : Here lts.Need-same-length
-  no-f-length c = c.before.before.before.before.read-f.auto.1.1.1.0
+  no-f-length : Here lts.Need-shape_of-arena-in_default
+  no-f-length c = c.read_f.auto.arena
 
-  no-f : Here lts.Need-returns
+  no-f : Here lts.Need-returns-in_default
   no-f c =
-      let none = c.before.before.before.before in
-      let here = at_call none in
-      Steps.bracket-no (round (start here).args.inside) (round-word here)
-      (lost none.read-f.ensures c.enum_told.given.1)
+      Steps.bracket-no (round c.args.inside) (round-word c.before.before.before.before.before)
+      (lost c.read_f.ensures c.in_default.is)
 
   -- an F,
-  tree : (c : Here lts.After-known-told) →
-      let args = (start (at_call (call c))).args in
+  tree : (c : Here lts.In-At) →
+      let args = c.args in
       Gave (go_f args.inside) args.ws.now (args.at + 1) args.arena.now args.top
-      c.before.j.given.0 (call c).read-f.new.1.1.1.0
-  tree c = took (call c).read-f.ensures (λ a m h. span h) c.before.j.given.1
+      (c.in-At.j, (c.in-At.t, (c.in-At.a, tt))) c.read_f.new.arena
+  tree c = took c.read_f.ensures (λ a m h. span h) c.in-At.is
 
   -- and the bracket stays open or closes.
-  unclosed-length : Here lts.Need-same-length-2
-  unclosed-length c = (call c.before.before).read-f.kept.1.1.1.0
+  unclosed-length : Here lts.Need-shape_of-arena-then-number_at-ne-ROUND_END
+  unclosed-length c = c.read_f.auto.arena
 
-  unclosed : Here lts.Need-returns-2
+  unclosed : Here lts.Need-returns-then-number_at-ne-ROUND_END
   unclosed c =
-      let told = c.before.before in
-      let here = at_call (call told) in
-      Steps.bracket-open (round (start here).args.inside) (round-word here) (tree told)
-      (λ e. c.if1.true (c.before.number_at.ensures ∙ e))
+      Steps.bracket-open (round c.args.inside) (round-word c.before.before.before.before.before.before.before) (tree c.before.before)
+      (λ e. c.if-number_at-ne-ROUND_END.true (c.number_at.ensures ∙ e))
 
-  add-end : Here lts.Need-overflow-add-t10
+  add-end : Here lts.Need-overflow_add-result
   add-end c =
-      let told = c.before.before in
-      let s = (tree told).part.spans in
-      omega (arith, (start (at_call (call told))).pre.1.room.few)
+      let s = (tree c.before.before).part.spans in
+      omega (arith, c.requires.1.room.few)
 
-  closed-length : Here lts.Need-same-length-3
-  closed-length c = (call c.before.before).read-f.kept.1.1.1.0
+  closed-length : Here lts.Need-shape_of-arena
+  closed-length c = c.read_f.auto.arena
 
-  closed : Here lts.Need-returns-3
+  closed : Here lts.Need-returns
   closed c =
-      let told = c.before.before in
-      let here = at_call (call told) in
-      Steps.bracket-closed (round (start here).args.inside) (round-word here) (tree told)
-      (sym c.before.number_at.ensures ∙ c.if1.false)
+      Steps.bracket-closed (round c.args.inside) (round-word c.before.before.before.before.before.before.before) (tree c.before.before)
+      (sym c.number_at.ensures ∙ c.if-number_at-ne-ROUND_END.false)
 
   -- So the member meets its contract, if the calls with lower measures do.
   pub met : {M : Type 1} → lts.Closed (calls-round t) (at ps μ-round reads.Pre t) reads.Post M

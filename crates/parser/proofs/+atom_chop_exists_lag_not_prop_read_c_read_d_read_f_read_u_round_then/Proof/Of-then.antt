@@ -26,90 +26,69 @@ module _ (t : ℕ) where
   abbrev Here : (lts.Claims → In 2 ps → Out 2 ps r → Type 0) → Type 0
   Here place = place (calls-then t) (at ps μ-then reads.Pre t) reads.Post
 
-  -- The places: the start; the mark, the call of `read_f` after it, and its tree.
-  abbrev start : Here lts.After-slice-known → Here lts.Start
-  start c = c.before.before
-
-  abbrev at_mark : Here lts.After-push → Here lts.After-slice-known
-  at_mark c = c.before.before
-
-  abbrev mark : Here lts.After-read-f → Here lts.After-push
-  mark c = c.before.before.before.before
-
-  abbrev call : Here lts.After-known-told → Here lts.After-read-f
-  call c = c.before.before.before.before.before
-
   -- `then`, after which there is room for three records,
-  then-word : (c : Here lts.After-slice-known) →
-      let args = (start c).args in
+  then-word : (c : Here lts.After-slice_known-1) →
+      let args = c.args in
       word args.ws.now args.at ≡ Word.THEN
-  then-word c = (start c).requires.1.0.first
+  then-word c = c.requires.1.0.first
 
-  then-space : (c : Here lts.After-slice-known) →
-      let args = (start c).args in
+  then-space : (c : Here lts.After-slice_known-1) →
+      let args = c.args in
       Space 12 args.ws.now (args.at + 1) args.arena.now args.top
-  then-space c = spared 8 (past_first (start c).requires.1.0.room (then-word c) (omega arith))
+  then-space c = spared 8 (past_first c.requires.1.0.room (then-word c) (omega arith))
 
-  mark-fits : Here lts.Need-push-requires
+  mark-fits : Here lts.Need-push-mark-requires
   mark-fits c κs = fits-push 8 (then-space c.before)
 
   -- and for two after the mark;
-  mark-space : (c : Here lts.After-push) →
-      let args = (start (at_mark c)).args in
-      Space 8 args.ws.now (args.at + 1) c.push.new.0 c.push.result
-  mark-space c = past-push 8 (then-space (at_mark c)) c.push.ensures
+  mark-space : (c : Here lts.After-push-mark) →
+      let args = c.args in
+      Space 8 args.ws.now (args.at + 1) c.push-mark.new.arena c.push-mark.result
+  mark-space c = past-push 8 (then-space c.before.before) c.push-mark.ensures
 
-  add-f : Here lts.Need-overflow-add-read-f
-  add-f c = let s = then-space (at_mark c.before.before) in omega arith
+  add-f : Here lts.Need-overflow_add-at
+  add-f c = let s = then-space c.before.before.before.before in omega arith
 
-  f-requires : Here lts.Need-read-f-requires
+  f-requires : Here lts.Need-read_f-requires
   f-requires c κs =
-      let here = c.before.before.before in
-      let s = mark-space here in
-      (omega (arith, (start (at_mark here)).pre.0), room s)
+      let s = mark-space c.before.before.before in
+      (omega (arith, c.requires.0), room s)
 
-  no-f-length : Here lts.Need-same-length
+  no-f-length : Here lts.Need-shape_of-arena-in_default
   no-f-length c =
-      let none = c.before.before.before.before in
-      none.read-f.auto.1.1.1.0 ∙ (mark none).push.auto.0
+      c.read_f.auto.arena ∙ c.push-mark.auto.arena
 
-  no-f : Here lts.Need-returns
+  no-f : Here lts.Need-returns-in_default
   no-f c =
-      let none = c.before.before.before.before in
-      Steps.joined-no (lost none.read-f.ensures c.enum_told.given.1)
+      Steps.joined-no (lost c.read_f.ensures c.in_default.is)
 
   -- and the F after it.
-  tree : (c : Here lts.After-known-told) →
-      let here = mark (call c) in
-      let args = (start (at_mark here)).args in
-      Gave (go_f false) args.ws.now (args.at + 1) here.push.last.0 here.push.result
-      c.before.m.given.0 (call c).read-f.new.1.1.1.0
-  tree c = took (call c).read-f.ensures (λ a m h. span h) c.before.m.given.1
+  tree : (c : Here lts.In-At) →
+      let args = c.args in
+      Gave (go_f false) args.ws.now (args.at + 1) c.push-mark.new.arena c.push-mark.result
+      (c.in-At.m, (c.in-At.e, (c.in-At.b, tt))) c.read_f.new.arena
+  tree c = took c.read_f.ensures (λ a m h. span h) c.in-At.is
 
-  fits : Here lts.Need-push-requires-2
+  fits : Here lts.Need-push-end-requires
   fits c κs =
-      let here = c.before in
-      fits-tree 4 (mark-space (mark (call here))) (tree here).part
+      fits-tree 4 (mark-space c.before.before.before.before.before.before.before.before) (tree c.before).part
 
-  facts-requires : Here lts.Need-then-facts-requires
+  facts-requires : Here lts.Need-then_facts-requires
   facts-requires c κs =
-      let here = c.before.before.before.before in
-      let pre = (start (at_mark (mark (call here)))).pre.1 in
-      (pre.1, few-nodes pre.0.room.few (tree here).part)
+      let pre = c.requires.1 in
+      (pre.1, few-nodes pre.0.room.few (tree c.before.before.before.before).part)
 
-  f-length : Here lts.Need-same-length-2
+  f-length : Here lts.Need-shape_of-arena
   f-length c =
-      let here = c.before.before.before.before.before in
-      c.before.before.before.push2.auto.0 ∙ (call here).read-f.auto.1.1.1.0 ∙ (mark (call here)).push.kept.0
+      c.push-end.auto.arena ∙ c.read_f.auto.arena ∙ c.push-mark.auto.arena
 
-  f : Here lts.Need-returns-2
+  f : Here lts.Need-returns
   f c =
-      let here = c.before.before.before.before.before in
-      let h = tree here in
+      let h = tree c.before.before.before.before.before in
       Steps.joined h
-      (stored_on (pushed (mark (call here)).push.ensures)
-      (stored_on h.part.stored (pushed c.before.before.before.push2.ensures)))
-      c.then-facts.ensures
+      (stored_on (pushed c.push-mark.ensures)
+      (stored_on h.part.stored (pushed c.push-end.ensures)))
+      c.then_facts.ensures
 
   -- So the member meets its contract, if the calls with lower measures do.
   pub met : {M : Type 1} → lts.Closed (calls-then t) (at ps μ-then reads.Pre t) reads.Post M
