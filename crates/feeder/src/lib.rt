@@ -4,7 +4,7 @@
 
 ghost use Rattle.std.specs.Prelude.{◌≡◌, ◌+◌, ◌-◌, ◌≤◌, length, take, drop};
 ghost use Rattle.cards.specs.Says.{stage_at};
-ghost use Rattle.player.specs.Card.{brought, entering, leaving, watch_of, longest_output};
+ghost use Rattle.player.specs.Card.{world_of, watch_of, longest_output};
 ghost use Rattle.player.specs.Output.{output_bytes};
 ghost use Rattle.feeder.specs.Feed.{Room, Stops, Admitted, fed_to, Runs, tail_bytes, tail_fed, Feeds};
 ghost use Rattle.feeder.specs.Feed.{shifted, Turns, Short, Finishes, placed};
@@ -118,10 +118,10 @@ fn run_ticks(
     values: &mut [u32],
     out: &mut [u8],
 ) -> Fed
-    requires { Room bytes.now out.old × Admitted (brought watch parameters table state values) }
-    ensures runs { Runs (entering watch parameters table state values) bytes.now result
-        (leaving result.watch parameters table state values) out.old out.new }
-    ensures stops { Stops (leaving result.watch parameters table state values)
+    requires { Room bytes.now out.old × Admitted (world_of watch parameters.now table.now state.old values.old) }
+    ensures runs { Runs (world_of watch parameters.now table.now state.old values.old) bytes.now result
+        (world_of result.watch parameters.now table.now state.new values.new) out.old out.new }
+    ensures stops { Stops (world_of result.watch parameters.now table.now state.new values.new)
         (drop result.used bytes.now) }
 {
     let stage = watch.stage;
@@ -158,11 +158,11 @@ fn feed_ticks(
     out: &mut [u8],
 ) -> Fed
     requires { w.stage.phase ≡ Phase.Ticks → Room bytes.now out.old }
-    ensures runs { Runs (entering w parameters table state values) bytes.now result
-        (leaving result.watch parameters table state values) out.old out.new }
-    ensures stops { Admitted (entering w parameters table state values)
-        → Stops (leaving result.watch parameters table state values) (drop result.used bytes.now) }
-    ensures value { (Admitted (entering w parameters table state values) → ⊥) → result ≡ fed_to w 0 0 }
+    ensures runs { Runs (world_of w parameters.now table.now state.old values.old) bytes.now result
+        (world_of result.watch parameters.now table.now state.new values.new) out.old out.new }
+    ensures stops { Admitted (world_of w parameters.now table.now state.old values.old)
+        → Stops (world_of result.watch parameters.now table.now state.new values.new) (drop result.used bytes.now) }
+    ensures value { (Admitted (world_of w parameters.now table.now state.old values.old) → ⊥) → result ≡ fed_to w 0 0 }
 {
     let stage = w.stage;
     let phase = stage.phase;
@@ -205,8 +205,8 @@ fn feed(
     out: &mut [u8],
 ) -> Fed
     requires { Room bytes.now out.old }
-    ensures { Feeds (entering watch parameters table state values) bytes.now result
-        (leaving result.watch parameters table state values) out.old out.new }
+    ensures { Feeds (world_of watch parameters.old table.old state.old values.old) bytes.now result
+        (world_of result.watch parameters.new table.new state.new values.new) out.old out.new }
 {
     let mut w = watch;
     let mut used = 0;
@@ -256,8 +256,8 @@ pub fn run_turn(
     out: &mut [u8],
 ) -> Turn
     requires { (to ≤ length buf.old) × (to + longest_output ≤ length out.old) }
-    ensures { Turns (entering watch parameters table state values) buf.old to result
-        (leaving result.watch parameters table state values) buf.new out.old out.new }
+    ensures { Turns (world_of watch parameters.old table.old state.old values.old) buf.old to result
+        (world_of result.watch parameters.new table.new state.new values.new) buf.new out.old out.new }
 {
     let f = feed(watch, &buf[..to], parameters, table, state, values, out);
     let used = f.used;

@@ -1,8 +1,6 @@
 -- What the program prints for a card, as a definition on the card's bytes: `printed`. What a line says is
 -- `line_says` of the crate cards; here it is played (`played`): a rule is compiled, a tick is a step. Definitions only.
 use Rattle.std.specs.Prelude.{List, [], ◌∷◌, ◌++◌, ◌≡◌, ℕ, ◌+◌, ◌<◌, length, replicate}
-use Rattle.std.specs.Borrow.{Bor}
-use denote.Triple.Both.{Both}
 use Rattle.limits.specs.Limits.{standard_cap, parameter_count, table_room, equation_limit}
 use Rattle.limits.specs.Context.{standard_context}
 use Rattle.limits.specs.declared.Context.{Context}
@@ -49,20 +47,6 @@ velocities_in w = w.context.velocities
 -- The program's world, in the context of the specification,
 abbrev pub world_of : Watch → List ℕ → List ℕ → List ℕ → List ℕ → World
 world_of w ps t c v = world_in standard_context w ps t c v
-
--- the same of what a function is lent,
-abbrev pub brought : Watch → Bor (List ℕ) → Bor (List ℕ) → Bor (List ℕ) → Bor (List ℕ) → World
-brought w ps t c v = world_of w ps.now t.now c.now v.now
-
--- and in what it ensures: as it was lent, and as it is left.
-abbrev pub Lent : Type 0
-Lent = Both (Bor (List ℕ)) (Bor (List ℕ))
-
-abbrev pub entering : Watch → Lent → Lent → Lent → Lent → World
-entering w ps t c v = brought w ps.entry t.entry c.entry v.entry
-
-abbrev pub leaving : Watch → Lent → Lent → Lent → Lent → World
-leaving w ps t c v = brought w ps.exit t.exit c.exit v.exit
 
 abbrev pub watch_of : Stage → ℕ → Watch
 watch_of k n = record { stage = k; n = n }

@@ -7,7 +7,7 @@ ghost use Rattle.limits.specs.Context.{standard_context};
 ghost use Rattle.lists.specs.Line.{line_from};
 ghost use Rattle.cards.specs.Says.{says_by, broken_by, is_over};
 ghost use Rattle.reader.specs.Part.{rule_from};
-ghost use Rattle.player.specs.Card.{WholeLine, entering, leaving, start_world, going_on, stopped};
+ghost use Rattle.player.specs.Card.{WholeLine, world_of, start_world, going_on, stopped};
 ghost use Rattle.player.specs.Card.{after_rule, rule_made, rule_answer, tick_effect, effect_of, lined, last_output};
 
 use cards::{Content, Phase, Stage};
@@ -127,8 +127,8 @@ fn on_tick(
     state: &mut [u32],
     values: &mut [u32],
 ) -> Answered
-    ensures { effect_of result.output (leaving result.watch parameters table state values)
-        ≡ tick_effect next start signals velocity (entering w parameters table state values) }
+    ensures { effect_of result.output (world_of result.watch parameters.now table.now state.new values.new)
+        ≡ tick_effect next start signals velocity (world_of w parameters.now table.now state.old values.old) }
 {
     let n = w.n;
     let now = traces::tick_of(start, signals, velocity, *parameters);
@@ -151,8 +151,8 @@ pub fn on_line(
     values: &mut [u32],
 ) -> Answered
     requires { WholeLine bytes.now at to }
-    ensures { effect_of result.output (leaving result.watch parameters table state values)
-        ≡ lined (entering w parameters table state values) (line_from bytes.now at) }
+    ensures { effect_of result.output (world_of result.watch parameters.new table.new state.new values.new)
+        ≡ lined (world_of w parameters.old table.old state.old values.old) (line_from bytes.now at) }
 {
     let stage = w.stage;
     let read = cards::read_line(limits::VELOCITIES, stage, &bytes[at..to]);

@@ -7,7 +7,7 @@
 #![tactic(auto)]
 
 ghost use Rattle.std.specs.Prelude.{cond, List, [], ◌≡◌, ℕ, ◌+◌, ◌≤◌, ◌<◌, length, take, drop};
-ghost use Rattle.player.specs.Card.{World, world_of, brought, entering, leaving, start_world};
+ghost use Rattle.player.specs.Card.{World, world_of, start_world};
 ghost use Rattle.feeder.specs.Feed.{Ready};
 ghost use Rattle.towerwatch.specs.Run.{output_room, is_reading, Takes, Once, Whole};
 ghost use Rattle.towerwatch.specs.Program.{Program};
@@ -143,8 +143,8 @@ fn piece(
     requires { Ready buf.old to out.old × (to + got ≤ length buf.old) × (0 < got) }
     ensures ready { Ready buf.new result.to out.new }
     ensures takes { Takes at (take got (drop to buf.old))
-        (entering watch parameters table state values) (take to buf.old) result
-        (leaving result.watch parameters table state values) (take result.to buf.new) out.new }
+        (world_of watch parameters.old table.old state.old values.old) (take to buf.old) result
+        (world_of result.watch parameters.new table.new state.new values.new) (take result.to buf.new) out.new }
 {
     let f = feeder::run_turn(watch, buf, to + got, parameters, table, state, values, out);
     let filled = f.filled;
@@ -180,8 +180,8 @@ fn once(
     requires { Ready buf.old to out.old }
     ensures ready { Ready buf.new result.to out.new }
     ensures once { Once before at
-        (entering watch parameters table state values) (take to buf.old) result
-        (leaving result.watch parameters table state values) (take result.to buf.new) out.new }
+        (world_of watch parameters.old table.old state.old values.old) (take to buf.old) result
+        (world_of result.watch parameters.new table.new state.new values.new) (take result.to buf.new) out.new }
 {
     let got = streams::read(stdin, buf, to, before);
     if got == 0 {
@@ -204,7 +204,7 @@ fn run(
     out: &mut [u8],
 ) -> Total
     requires ready { Ready buf.old 0 out.old × (length out.old ≡ output_room) }
-    requires values_value { brought start_world.watch ps table state values ≡ start_world }
+    requires values_value { world_of start_world.watch ps.old table.old state.old values.old ≡ start_world }
     ensures whole { Whole result }
     ensures program { Program result }
 {

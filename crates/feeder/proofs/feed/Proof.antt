@@ -7,7 +7,7 @@ use native.Mathlib.Omega.{arith}
 use borrow.Author.Rules.{rules}
 use lib.ListN.{length, drop, length-drop}
 use Rattle.lists.specs.Line.{line}
-use Rattle.player.specs.Card.{World, world_of, brought}
+use Rattle.player.specs.Card.{World, world_of}
 use Rattle.player.specs.Output.{output_bytes}
 use Rattle.feeder.specs.declared.Fed.{Fed}
 use Rattle.feeder.proofs.Moving.{put-length, with_rest}
@@ -82,7 +82,7 @@ module _ (c : tie.After-feed-ticks invariant-loop decreases-loop) where
   abbrev first : World
   first =
       let args = (entry (turn c)).args in
-      brought args.watch args.parameters args.table args.state args.values
+      world_of args.watch args.parameters.now args.table.now args.state.now args.values.now
 
   abbrev used : ℕ
   used = (turn c).loop.used + fed.used

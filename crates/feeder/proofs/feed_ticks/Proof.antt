@@ -3,7 +3,7 @@ use mathlib.Core.Path.{refl, sym, ◌∙◌}
 use mathlib.Core.List.{[], ◌∷◌}
 use types.Run.{miss}
 use borrow.Author.Rules.{rules}
-use Rattle.player.specs.Card.{brought}
+use Rattle.player.specs.Card.{world_of}
 use Rattle.player.proofs.Playing.{some-velocity}
 use Rattle.tables.proofs.Checks.{failed-passed}
 use Rattle.feeder.specs.Feed.{Admitted}
@@ -43,7 +43,7 @@ ran c = (values-back c).before.before.before
 -- A check that is passed admits each step.
 admitted : (c : tie.After-enum-told2) →
     let args = (entry (ticks c.before.before)).args in
-    Admitted (brought args.w args.parameters args.table args.state args.values)
+    Admitted (world_of args.w args.parameters.now args.table.now args.state.now args.values.now)
 admitted c =
     let checked = c.before.before in
     let passes = sym checked.step-checked.ensures ∙ c.enum-told2.given.1 in

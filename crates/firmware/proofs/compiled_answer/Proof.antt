@@ -11,23 +11,22 @@ use borrow.Author.Rules.{rules}
 use Rattle.firmware.proofs.compiled_answer.Statement.{statement}
 use Rattle.firmware.proofs.compiled_answer.Tie as tie
 
-known-equations : tie.Need-enum-known-c
+known-equations : tie.Need-enum_known-c
 known-equations c = search rules
 
-number_fits : tie.Need-overflow-cast-t5
+number_fits : tie.Need-overflow_cast-result
 number_fits c =
-    let answered = c.before.c.given in
-    let few : answered.0.0 ≤ equation_limit = subst small answered.1 c.before.before.before.requires in
+    let few : c.in-Equations.n ≤ equation_limit = subst small c.in-Equations.is c.requires in
     omega (arith, few)
 
-known-refused : tie.Need-enum-known-c-2
+known-refused : tie.Need-enum_known-c-in-Refused-1
 known-refused c = search rules
 
-equations : tie.Need-returns
-equations c = ap (λ (x : Compiled). answer (compile_reply x)) (sym c.before.c.given.1)
+equations : tie.Need-returns-in-Equations
+equations c = ap (λ (x : Compiled). answer (compile_reply x)) (sym c.in-Equations.is)
 
-refused : tie.Need-returns-2
-refused c = ap (λ (x : Compiled). answer (compile_reply x)) (sym c.before.c2.given.1)
+refused : tie.Need-returns-in-Refused
+refused c = ap (λ (x : Compiled). answer (compile_reply x)) (sym c.in-Refused.is)
 
-pub compiled-answer-spec : {M : Type 1} → statement M
-compiled-answer-spec = tie.close (tie.spec known-equations number_fits known-refused equations refused)
+pub compiled_answer_spec : {M : Type 1} → statement M
+compiled_answer_spec = tie.close (tie.spec known-equations number_fits known-refused equations refused)

@@ -7,17 +7,17 @@ use borrow.Author.Rules.{rules}
 use Rattle.firmware.proofs.fresh_answer.Statement.{statement}
 use Rattle.firmware.proofs.fresh_answer.Tie as tie
 
-enum_told : tie.Need-enum-told
+enum_told : tie.Need-enum_told-1
 enum_told c = search rules
 
-enum-known-f : tie.Need-enum-known-f
+enum-known-f : tie.Need-enum_known-f
 enum-known-f c = search rules
 
-made : tie.Need-returns
-made c = ap (λ (x : Fresh). answer (fresh_reply x)) (sym c.enum_told.given.1)
+made : tie.Need-returns-in-Made
+made c = ap (λ (x : Fresh). answer (fresh_reply x)) (sym c.in-Made.is)
 
-refused : tie.Need-returns-2
-refused c = ap (λ (x : Fresh). answer (fresh_reply x)) (sym c.before.f.given.1)
+refused : tie.Need-returns-in-Refused
+refused c = ap (λ (x : Fresh). answer (fresh_reply x)) (sym c.in-Refused.is)
 
-pub fresh-answer-spec : {M : Type 1} → statement M
-fresh-answer-spec = tie.close (tie.spec enum_told enum-known-f made refused)
+pub fresh_answer_spec : {M : Type 1} → statement M
+fresh_answer_spec = tie.close (tie.spec enum_told enum-known-f made refused)

@@ -11,23 +11,22 @@ use borrow.Author.Rules.{rules}
 use Rattle.firmware.proofs.loaded_answer.Statement.{statement}
 use Rattle.firmware.proofs.loaded_answer.Tie as tie
 
-known-equations : tie.Need-enum-known-l
+known-equations : tie.Need-enum_known-l
 known-equations c = search rules
 
-number_fits : tie.Need-overflow-cast-t5
+number_fits : tie.Need-overflow_cast-result
 number_fits c =
-    let answered = c.before.l.given in
-    let fits : answered.0.0 ≤ equation_limit = subst few answered.1 c.before.before.before.requires in
+    let fits : c.in-Equations.n ≤ equation_limit = subst few c.in-Equations.is c.requires in
     omega (arith, fits)
 
-known-refused : tie.Need-enum-known-l-2
+known-refused : tie.Need-enum_known-l-in-Refused-1
 known-refused c = search rules
 
-equations : tie.Need-returns
-equations c = ap (λ (x : Loaded). answer (load_reply x)) (sym c.before.l.given.1)
+equations : tie.Need-returns-in-Equations
+equations c = ap (λ (x : Loaded). answer (load_reply x)) (sym c.in-Equations.is)
 
-refused : tie.Need-returns-2
-refused c = ap (λ (x : Loaded). answer (load_reply x)) (sym c.before.l2.given.1)
+refused : tie.Need-returns-in-Refused
+refused c = ap (λ (x : Loaded). answer (load_reply x)) (sym c.in-Refused.is)
 
-pub loaded-answer-spec : {M : Type 1} → statement M
-loaded-answer-spec = tie.close (tie.spec known-equations number_fits known-refused equations refused)
+pub loaded_answer_spec : {M : Type 1} → statement M
+loaded_answer_spec = tie.close (tie.spec known-equations number_fits known-refused equations refused)

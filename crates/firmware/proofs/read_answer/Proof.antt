@@ -7,17 +7,17 @@ use borrow.Author.Rules.{rules}
 use Rattle.firmware.proofs.read_answer.Statement.{statement}
 use Rattle.firmware.proofs.read_answer.Tie as tie
 
-known-rule : tie.Need-enum-known-a
+known-rule : tie.Need-enum_known-a
 known-rule c = search rules
 
-known-refused : tie.Need-enum-known-a-2
+known-refused : tie.Need-enum_known-a-in-Refused-1
 known-refused c = search rules
 
-rule : tie.Need-returns
-rule c = ap (λ (x : Read). answer (read_reply x)) (sym c.before.a.given.1)
+rule : tie.Need-returns-in-Rule
+rule c = ap (λ (x : Read). answer (read_reply x)) (sym c.in-Rule.is)
 
-refused : tie.Need-returns-2
-refused c = ap (λ (x : Read). answer (read_reply x)) (sym c.before.a2.given.1)
+refused : tie.Need-returns-in-Refused
+refused c = ap (λ (x : Read). answer (read_reply x)) (sym c.in-Refused.is)
 
-pub read-answer-spec : {M : Type 1} → statement M
-read-answer-spec = tie.close (tie.spec known-rule known-refused rule refused)
+pub read_answer_spec : {M : Type 1} → statement M
+read_answer_spec = tie.close (tie.spec known-rule known-refused rule refused)

@@ -7,24 +7,24 @@ use borrow.Author.Rules.{rules}
 use Rattle.firmware.proofs.same_answer.Statement.{statement}
 use Rattle.firmware.proofs.same_answer.Tie as tie
 
-told-yes : tie.Need-enum-told
+told-yes : tie.Need-enum_told-1
 told-yes c = search rules
 
-told-no : tie.Need-enum-told-2
+told-no : tie.Need-enum_told-in-No
 told-no c = search rules
 
-enum-known-s : tie.Need-enum-known-s
+enum-known-s : tie.Need-enum_known-s
 enum-known-s c = search rules
 
-yes : tie.Need-returns
-yes c = ap (λ (x : Same). answer (same_reply x)) (sym c.enum_told.given.1)
+yes : tie.Need-returns-in-Yes
+yes c = ap (λ (x : Same). answer (same_reply x)) (sym c.in-Yes.is)
 
-no : tie.Need-returns-2
-no c = ap (λ (x : Same). answer (same_reply x)) (sym c.enum-told2.given.1)
+no : tie.Need-returns-in-No
+no c = ap (λ (x : Same). answer (same_reply x)) (sym c.in-No.is)
 
-refused : tie.Need-returns-3
-refused c = ap (λ (x : Same). answer (same_reply x)) (sym c.before.s.given.1)
+refused : tie.Need-returns-in-Refused
+refused c = ap (λ (x : Same). answer (same_reply x)) (sym c.in-Refused.is)
 
-pub same-answer-spec : {M : Type 1} → statement M
-same-answer-spec =
+pub same_answer_spec : {M : Type 1} → statement M
+same_answer_spec =
     tie.close (tie.spec told-yes told-no enum-known-s yes no refused)

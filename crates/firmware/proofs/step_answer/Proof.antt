@@ -7,17 +7,17 @@ use borrow.Author.Rules.{rules}
 use Rattle.firmware.proofs.step_answer.Statement.{statement}
 use Rattle.firmware.proofs.step_answer.Tie as tie
 
-known-verdict : tie.Need-enum-known-s
+known-verdict : tie.Need-enum_known-s
 known-verdict c = search rules
 
-known-refused : tie.Need-enum-known-s-2
+known-refused : tie.Need-enum_known-s-in-Refused-1
 known-refused c = search rules
 
-verdict : tie.Need-returns
-verdict c = ap (λ (x : Stepped). answer (step_reply x)) (sym c.before.s.given.1)
+verdict : tie.Need-returns-in-Verdict
+verdict c = ap (λ (x : Stepped). answer (step_reply x)) (sym c.in-Verdict.is)
 
-refused : tie.Need-returns-2
-refused c = ap (λ (x : Stepped). answer (step_reply x)) (sym c.before.s2.given.1)
+refused : tie.Need-returns-in-Refused
+refused c = ap (λ (x : Stepped). answer (step_reply x)) (sym c.in-Refused.is)
 
-pub step-answer-spec : {M : Type 1} → statement M
-step-answer-spec = tie.close (tie.spec known-verdict known-refused verdict refused)
+pub step_answer_spec : {M : Type 1} → statement M
+step_answer_spec = tie.close (tie.spec known-verdict known-refused verdict refused)

@@ -6,9 +6,9 @@ use Rattle.firmware.proofs.towerwatch_fresh_state.Tie as tie
 
 returns : tie.Need-returns
 returns c =
-    let made = c.before.before.before.fresh-state in
-    record { told = made.result; promised = made.ensures; answered = c.fresh-answer.ensures }
+    let made = c.fresh_state in
+    record { told = made.result; promised = made.ensures; answered = c.fresh_answer.ensures }
 
-pub towerwatch-fresh-state-spec : {M : Type 1} → statement M
-towerwatch-fresh-state-spec =
+pub towerwatch_fresh_state_spec : {M : Type 1} → statement M
+towerwatch_fresh_state_spec =
     tie.close (tie.spec (λ c κs. search rules) (λ c κs. search rules) (λ c. search rules) returns)

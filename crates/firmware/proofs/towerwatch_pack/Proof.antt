@@ -5,16 +5,16 @@ use borrow.Author.Rules.{rules}
 use Rattle.firmware.proofs.towerwatch_pack.Statement.{statement}
 use Rattle.firmware.proofs.towerwatch_pack.Tie as tie
 
-packed-answer-requires : tie.Need-packed-answer-requires
-packed-answer-requires c κs = few-packed c.before.before.pack.ensures.1
+packed-answer-requires : tie.Need-packed_answer-requires
+packed-answer-requires c κs = few-packed c.pack.ensures.1
 
 returns : tie.Need-returns
 returns c =
-    let packed = c.before.before.before.pack in (
-      record { told = packed.result; promised = packed.ensures.0; answered = c.packed-answer.ensures },
-      record { told = packed.result; promised = packed.ensures.1; answered = c.packed-answer.ensures },
+    let packed = c.pack in (
+      record { told = packed.result; promised = packed.ensures.0; answered = c.packed_answer.ensures },
+      record { told = packed.result; promised = packed.ensures.1; answered = c.packed_answer.ensures },
     )
 
-pub towerwatch-pack-spec : {M : Type 1} → statement M
-towerwatch-pack-spec =
+pub towerwatch_pack_spec : {M : Type 1} → statement M
+towerwatch_pack_spec =
     tie.close (tie.spec (λ c κs. search rules) packed-answer-requires (λ c. search rules) returns)

@@ -5,18 +5,18 @@ use borrow.Author.Rules.{rules}
 use Rattle.firmware.proofs.towerwatch_read_lustre.Statement.{statement}
 use Rattle.firmware.proofs.towerwatch_read_lustre.Tie as tie
 
-read-lustre-requires : tie.Need-read-lustre-requires
+read-lustre-requires : tie.Need-read_lustre-requires
 read-lustre-requires c κs = search rules
 
-loaded-answer-requires : tie.Need-loaded-answer-requires
-loaded-answer-requires c κs = few-loaded c.before.before.read-lustre.ensures
+loaded-answer-requires : tie.Need-loaded_answer-requires
+loaded-answer-requires c κs = few-loaded c.read_lustre.ensures
 
-same_length : tie.Need-same-length
+same_length : tie.Need-shape_of-table
 same_length c = search rules
 
 returns : tie.Need-returns
 returns c = search rules
 
-pub towerwatch-read-lustre-spec : {M : Type 1} → statement M
-towerwatch-read-lustre-spec =
+pub towerwatch_read_lustre_spec : {M : Type 1} → statement M
+towerwatch_read_lustre_spec =
     tie.close (tie.spec read-lustre-requires loaded-answer-requires same_length returns)

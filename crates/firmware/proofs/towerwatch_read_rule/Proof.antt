@@ -6,10 +6,10 @@ use Rattle.firmware.proofs.towerwatch_read_rule.Tie as tie
 
 returns : tie.Need-returns
 returns c =
-    let read = c.before.read-rule in (
+    let read = c.read_rule in (
       record { told = read.result; promised = read.ensures.0; answered = c.read_answer.ensures },
       record { told = read.result; promised = read.ensures.1; answered = c.read_answer.ensures },
     )
 
-pub towerwatch-read-rule-spec : {M : Type 1} → statement M
-towerwatch-read-rule-spec = tie.close (tie.spec (λ c κs. search rules) (λ c κs. search rules) returns)
+pub towerwatch_read_rule_spec : {M : Type 1} → statement M
+towerwatch_read_rule_spec = tie.close (tie.spec (λ c κs. search rules) (λ c κs. search rules) returns)

@@ -6,22 +6,16 @@ use borrow.Author.Rules.{rules}
 use Rattle.firmware.proofs.towerwatch_write_lustre.Statement.{statement}
 use Rattle.firmware.proofs.towerwatch_write_lustre.Tie as tie
 
--- Where the table is known, from the call of `write_lustre`.
-abbrev known : tie.After-write-lustre → tie.After-shared-slice-known
-known c = c.before.before.before
-
-written-answer-requires : tie.Need-written-answer-requires
+written-answer-requires : tie.Need-written_answer-requires
 written-answer-requires c κs =
-    let call = c.before.before in
-    let table = known call in
-    short-text table.before.args.table.now (λ i. omega (arith, table.shared-slice-known.given i)) _ _ _ _ _
-    call.write-lustre.ensures
+    short-text c.args.table.now (λ i. omega (arith, c.shared_slice_known-1.given i)) _ _ _ _ _
+    c.write_lustre.ensures
 
 returns : tie.Need-returns
 returns c =
-    let written = c.before.before.before.write-lustre in
-    record { told = written.result; promised = written.ensures; answered = c.written-answer.ensures }
+    let written = c.write_lustre in
+    record { told = written.result; promised = written.ensures; answered = c.written_answer.ensures }
 
-pub towerwatch-write-lustre-spec : {M : Type 1} → statement M
-towerwatch-write-lustre-spec =
+pub towerwatch_write_lustre_spec : {M : Type 1} → statement M
+towerwatch_write_lustre_spec =
     tie.close (tie.spec (λ c κs. search rules) written-answer-requires (λ c. search rules) returns)

@@ -11,23 +11,22 @@ use borrow.Author.Rules.{rules}
 use Rattle.firmware.proofs.written_answer.Statement.{statement}
 use Rattle.firmware.proofs.written_answer.Tie as tie
 
-known_written : tie.Need-enum-known-w
+known_written : tie.Need-enum_known-w
 known_written c = search rules
 
-length-fits : tie.Need-overflow-cast-t5
+length-fits : tie.Need-overflow_cast-result
 length-fits c =
-    let answered = c.before.w.given in
-    let fits : answered.0.0 ≤ length_limit = subst short answered.1 c.before.before.before.requires in
+    let fits : c.in-Length.length ≤ length_limit = subst short c.in-Length.is c.requires in
     omega (arith, fits)
 
-known-refused : tie.Need-enum-known-w-2
+known-refused : tie.Need-enum_known-w-in-Refused-1
 known-refused c = search rules
 
-written : tie.Need-returns
-written c = ap (λ (x : Written). answer (write_reply x)) (sym c.before.w.given.1)
+written : tie.Need-returns-in-Length
+written c = ap (λ (x : Written). answer (write_reply x)) (sym c.in-Length.is)
 
-refused : tie.Need-returns-2
-refused c = ap (λ (x : Written). answer (write_reply x)) (sym c.before.w2.given.1)
+refused : tie.Need-returns-in-Refused
+refused c = ap (λ (x : Written). answer (write_reply x)) (sym c.in-Refused.is)
 
-pub written-answer-spec : {M : Type 1} → statement M
-written-answer-spec = tie.close (tie.spec known_written length-fits known-refused written refused)
+pub written_answer_spec : {M : Type 1} → statement M
+written_answer_spec = tie.close (tie.spec known_written length-fits known-refused written refused)

@@ -6,7 +6,7 @@ use Rattle.player.specs.Card.{watch_of}
 use Rattle.player.proofs.begin.Statement.{statement}
 use Rattle.player.proofs.begin.Tie as tie
 
-pub begin-spec : {M : Type 1} → statement M
-begin-spec =
+pub begin_spec : {M : Type 1} → statement M
+begin_spec =
     tie.close
-    (tie.spec (λ c κs. search rules) (λ c. ap (λ (k : Stage). watch_of k 0) c.first-stage.ensures))
+    (tie.spec (λ c κs. search rules) (λ c. ap (λ (k : Stage). watch_of k 0) c.first_stage-stage.ensures))

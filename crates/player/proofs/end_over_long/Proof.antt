@@ -9,10 +9,10 @@ use Rattle.player.proofs.end_over_long.Tie as tie
 returns : tie.Need-returns
 returns c =
     c.stop.ensures
-    ∙ ap stopped (c.before.last-output.ensures [] [] ∙ ap last_output (c.before.before.broken.ensures [] []))
+    ∙ ap stopped (c.last_output.ensures [] [] ∙ ap last_output (c.broken.ensures [] []))
 
-pub end-over-long-spec : {M : Type 1} → statement M
-end-over-long-spec =
+pub end_over_long_spec : {M : Type 1} → statement M
+end_over_long_spec =
     tie.close
     (tie.spec
     (λ c κs. search rules)

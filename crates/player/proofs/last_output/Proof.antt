@@ -3,8 +3,8 @@ use borrow.Author.Rules.{rules}
 use Rattle.player.proofs.last_output.Statement.{statement}
 use Rattle.player.proofs.last_output.Tie as tie
 
-pub last-output-spec : {M : Type 1} → statement M
-last-output-spec =
+pub last_output_spec : {M : Type 1} → statement M
+last_output_spec =
     tie.close
     (tie.spec
     (λ c. search rules)
@@ -14,10 +14,10 @@ last-output-spec =
     (λ c. search rules)
     (λ c. search rules)
     (λ c. search rules)
-    (λ c ps l. rw c.before.content.given.1)
-    (λ c ps l. rw c.enum_told.given.1)
-    (λ c ps l. rw c.enum-told2.given.1)
-    (λ c ps l. rw c.before.content2.given.1)
-    (λ c ps l. rw c.before.content3.given.1)
-    (λ c ps l. rw c.before.content4.given.1)
-    (λ c ps l. rw c.enum-told3.given.1))
+    (λ c ps l. rw c.in-Edition.is)
+    (λ c ps l. rw c.in-Parameters.is)
+    (λ c ps l. rw c.in-Rule.is)
+    (λ c ps l. rw c.in-Count.is)
+    (λ c ps l. rw c.in-Tick.is)
+    (λ c ps l. rw c.in-Refused.is)
+    (λ c ps l. rw c.in-Nothing.is))

@@ -14,7 +14,7 @@ use Rattle.cards.specs.declared.Content.{Content}
 use Rattle.cards.specs.declared.Content.TheVariants as Line
 use Rattle.lists.proofs.Lines.{take-line}
 use Rattle.reader.specs.Part.{rule_from}
-use Rattle.player.specs.Card.{World, velocities_in, brought, AfterRule, after_rule, rule_made, rule_effect, played_to}
+use Rattle.player.specs.Card.{World, velocities_in, world_of, AfterRule, after_rule, rule_made, rule_effect, played_to}
 use Rattle.player.specs.Card.{lined}
 use Rattle.player.proofs.Playing.{plays, text_at}
 use Rattle.player.proofs.on_line.Statement.{statement}
@@ -22,56 +22,49 @@ use Rattle.player.proofs.on_line.Tie as tie
 
 -- ---- what is known of the line
 
--- Where the arrays are known, from where the stage after the line is; and the start from there.
-abbrev known : tie.After-stage-after → tie.After-slice-known3
-known c = c.before.before.before.before
-
-abbrev begun : tie.After-stage-after → tie.Start
-begun c = (known c).before.before.before.before
-
-module _ (c : tie.After-stage-after) where
+module _ (c : tie.After-stage_after-next) where
   abbrev told : Content
-  told = c.before.read-line.result.content
+  told = c.read_line-read.result.content
 
   abbrev eight : List ℕ
-  eight = c.before.read-line.result.parameters
+  eight = c.read_line-read.result.parameters
 
   abbrev next : Stage
-  next = c.stage-after.result
+  next = c.stage_after-next.result
 
   abbrev line : List ℕ
-  line = line_from (begun c).args.bytes.now (begun c).args.at
+  line = line_from c.args.bytes.now c.args.at
 
   abbrev world : World
   world =
-      let args = (begun c).args in
-      brought args.w args.parameters args.table args.state args.values
+      let args = c.args in
+      world_of args.w args.parameters.now args.table.now args.state.now args.values.now
 
   -- The part that is read is the line,
-  is-line : let args = (begun c).args in take (args.to - args.at) (drop args.at args.bytes.now) ≡ line
+  is-line : let args = c.args in take (args.to - args.at) (drop args.at args.bytes.now) ≡ line
   is-line =
-      let args = (begun c).args in
+      let args = c.args in
       let at = args.at in
-      let e : args.to - at ≡ length line = omega (arith, (begun c).requires.ends) in
+      let e : args.to - at ≡ length line = omega (arith, c.requires.ends) in
       ap (λ (n : ℕ). take n (drop at args.bytes.now)) e ∙ take-line (drop at args.bytes.now)
 
   -- so it says what the line says.
   says : says_by told eight line ≡ line_says (velocities_in world) world.watch.stage line
-  says = rw is-line at c.before.read-line.ensures.0
+  says = rw is-line at c.read_line-read.ensures.0
 
   -- What is played of it.
   ends : (x : Content) → told ≡ x → played_to next (says_by x eight line) world ≡ lined world line
   ends x e =
       ap (λ (y : Content). played_to next (says_by y eight line) world) (sym e)
-      ∙ plays world line _ _ says (c.stage-after.ensures _ _)
+      ∙ plays world line _ _ says (c.stage_after-next.ensures _ _)
 
   -- The rule, with this answer and this table and state after it.
   rule-ends : told ≡ Line.Rule → (r : Compiled) (t s : List ℕ) → after_rule r t s
-      ≡ rule_made world.context (rule_from (begun c).args.bytes.now (begun c).args.at) world.table
+      ≡ rule_made world.context (rule_from c.args.bytes.now c.args.at) world.table
       world.state
       → rule_effect next (after_rule r t s) world ≡ lined world line
   rule-ends e r t s h =
-      let args = (begun c).args in
+      let args = c.args in
       let is : says_by Line.Rule eight line ≡ line_says (velocities_in world) world.watch.stage line =
       ap (λ (y : Content). says_by y eight line) (sym e) ∙ says in
       let text = text_at (velocities_in world) world.watch.stage args.bytes.now args.at is in
@@ -82,58 +75,36 @@ module _ (c : tie.After-stage-after) where
 -- ---- the ways out
 
 -- The edition, the parameters, the number of ticks, a refusal, nothing.
-edition : tie.Need-returns
+edition : tie.Need-returns-in-Edition
 edition c =
-    let told = c.before.before in
-    rw c.go_on.ensures (ends told.before.before (Line.Edition _) told.content.given.1)
+    rw c.go_on.ensures (ends c.before.before (Line.Edition _) c.in-Edition.is)
 
-parameters : tie.Need-returns-2
+parameters : tie.Need-returns-in-Parameters
 parameters c =
-    let told = c.before.before in
-    rw c.go-on2.ensures (ends told.before.before Line.Parameters told.enum_told.given.1)
+    rw c.go_on-in-Parameters.ensures (ends c.before.before.before Line.Parameters c.in-Parameters.is)
 
-count : tie.Need-returns-4
+count : tie.Need-returns-in-Count
 count c =
-    let told = c.before.before in
-    rw c.go-on3.ensures (ends told.before.before (Line.Count _) told.content2.given.1)
+    rw c.go_on-in-Count.ensures (ends c.before.before (Line.Count _) c.in-Count.is)
 
-refused : tie.Need-returns-6
+refused : tie.Need-returns-in-Refused
 refused c =
-    let told = c.before.before in
-    rw c.stop.ensures (ends told.before.before (Line.Refused _) told.content4.given.1)
+    rw c.stop.ensures (ends c.before.before (Line.Refused _) c.in-Refused.is)
 
-nothing : tie.Need-returns-7
-nothing c = rw c.stop2.ensures (ends c.before.before.before Line.Nothing c.before.enum-told3.given.1)
+nothing : tie.Need-returns-in-Nothing
+nothing c = rw c.stop-in-Nothing.ensures (ends c.before.before Line.Nothing c.in-Nothing.is)
 
--- The rule: where it is compiled, from its answer; and where it is known to be one, from there.
-abbrev compiled : tie.After-rule-answer → tie.After-rule-line
-compiled c = c.before.before.before.before.before
-
-abbrev rule_told : tie.After-rule-line → tie.After-enum-told2
-rule_told c = c.before.before.before
-
-rule : tie.Need-returns-3
+rule : tie.Need-returns-in-Rule
 rule c =
-    let made = compiled c in
-    let told = rule_told made in
-    rw c.rule-answer.ensures
-    (rule-ends told.before.before told.enum-told2.given.1 _ _ _ made.rule-line.ensures)
+    rw c.rule_answer.ensures
+    (rule-ends c.before.before.before.before.before.before.before.before.before c.in-Rule.is _ _ _ c.rule_line.ensures)
 
--- A tick: where the parameters are lent to `on_tick`, from its call; and where the line is known to be one.
-abbrev lent : tie.After-on-tick → tie.After-on-tick-arg
-lent c = c.before.before.before.before
-
-abbrev tick-told : tie.After-on-tick → tie.After-content3
-tick-told c = (lent c).before.before
-
-tick : tie.Need-returns-5
+tick : tie.Need-returns-in-Tick
 tick c =
-    let made = c.before.before.before.before in
-    let told = tick-told made in
-    made.on-tick.ensures ∙ ends told.before.before (Line.Tick _ _ _) told.content3.given.1
+    c.on_tick.ensures ∙ ends c.before.before.before.before.before.before.before.before (Line.Tick _ _ _) c.in-Tick.is
 
-pub on-line-spec : {M : Type 1} → statement M
-on-line-spec =
+pub on_line_spec : {M : Type 1} → statement M
+on_line_spec =
     tie.close
     (tie.spec
     (λ c. search rules)

@@ -3,14 +3,14 @@ use borrow.Author.Rules.{rules}
 use Rattle.player.proofs.rule_answer.Statement.{statement}
 use Rattle.player.proofs.rule_answer.Tie as tie
 
-refused : tie.Need-returns
-refused c = rw (c.stop.ensures, c.before.before.compiled.given.1)
+refused : tie.Need-returns-in-Refused
+refused c = rw (c.stop.ensures, c.in-Refused.is)
 
-compiled : tie.Need-returns-2
-compiled c = rw (c.go_on.ensures, c.before.before.compiled2.given.1)
+compiled : tie.Need-returns-in-Equations
+compiled c = rw (c.go_on.ensures, c.in-Equations.is)
 
-pub rule-answer-spec : {M : Type 1} → statement M
-rule-answer-spec =
+pub rule_answer_spec : {M : Type 1} → statement M
+rule_answer_spec =
     tie.close
     (tie.spec
     (λ c. search rules)
