@@ -15,32 +15,27 @@ use Rattle.feeder.proofs.Moving.{put-takes, put_keeps, put-length}
 use Rattle.feeder.proofs.finish.Statement.{statement}
 use Rattle.feeder.proofs.finish.Tie as tie
 
--- The start, from where the output is known.
-abbrev begun : tie.After-last-output → tie.Start
-begun c = c.before.before.before.before.before
-
 -- What the end says, as an output.
-said : (c : tie.After-last-output) →
-    let args = (begun c).args in c.last-output.result ≡ last_output (end_says args.w.stage args.to)
-said c = c.last-output.ensures [] [] ∙ ap last_output (c.before.end.ensures [] [])
+said : (c : tie.After-last_output-d) →
+    let args = c.args in c.last_output-d.result ≡ last_output (end_says args.w.stage args.to)
+said c = c.last_output-d.ensures [] [] ∙ ap last_output (c.end.ensures [] [])
 
 put-requires : tie.Need-put-requires
-put-requires c κs = omega (arith, output-small c.before.last-output.result)
+put-requires c κs = omega (arith, output-small c.last_output-d.result)
 
 returns : tie.Need-returns
 returns c =
-    let told = c.before.before.before.before in
-    let args = (begun told).args in
-    let pre = (begun told).requires in
-    let put = c.before.before.put.ensures in
-    let word = output_bytes told.last-output.result in
-    let h : 0 + length word ≤ length args.out.now = omega (arith, output-small told.last-output.result) in
+    let args = c.args in
+    let pre = c.requires in
+    let put = c.put.ensures in
+    let word = output_bytes c.last_output-d.result in
+    let h : 0 + length word ≤ length args.out.now = omega (arith, output-small c.last_output-d.result) in
     record {
-      tells = λ ps t c v.
-          ends (world_of args.w ps t c v) (take args.to args.buf.now) pre.1.0
+      tells = λ ps t s v.
+          ends (world_of args.w ps t s v) (take args.to args.buf.now) pre.1.0
           ∙ ap (λ (n : ℕ). output_bytes (last_output (end_says args.w.stage n)))
           (length-take-le args.to args.buf.now pre.0)
-          ∙ ap output_bytes (sym (said told))
+          ∙ ap output_bytes (sym (said c.before.before.before.before))
           ∙ sym (put-takes args.out.now word 0 put.0 put.1 h);
       kept = put_keeps args.out.now word 0 put.0 put.1 h;
       room = omega (arith, h, put.0, put-length args.out.now word 0 put.0 put.1 h);

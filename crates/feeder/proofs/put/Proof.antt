@@ -7,28 +7,28 @@ use Rattle.player.specs.Output.{output_bytes}
 use Rattle.feeder.proofs.put.Statement.{statement}
 use Rattle.feeder.proofs.put.Tie as tie
 
-put-verdict-requires : tie.Need-put-verdict-requires
+put-verdict-requires : tie.Need-put_verdict-requires
 put-verdict-requires c κs =
-    let told = c.before.before in rw told.d.given.1 at told.before.before.before.requires
+    rw c.in-Verdict.is at c.requires
 
-put-refusal-requires : tie.Need-put-refusal-requires
+put-refusal-requires : tie.Need-put_refusal-requires
 put-refusal-requires c κs =
-    let told = c.before.before in rw told.d2.given.1 at told.before.before.before.requires
+    rw c.in-Refused.is at c.requires
 
 -- Nothing; a verdict; a refusal.
-quiet : tie.Need-returns
+quiet : tie.Need-returns-in-Quiet
 unfolding output_bytes
 quiet c =
-    let args = c.before.before.before.args in
-    rw c.enum_told.given.1 (omega arith, paste-zero args.out.now args.at [])
+    let args = c.args in
+    rw c.in-Quiet.is (omega arith, paste-zero args.out.now args.at [])
 
-verdict : tie.Need-returns-2
+verdict : tie.Need-returns-in-Verdict
 verdict c =
-    let put = c.before.before in rw put.before.before.before.d.given.1 put.put-verdict.ensures
+    rw c.in-Verdict.is c.put_verdict.ensures
 
-refusal : tie.Need-returns-3
+refusal : tie.Need-returns-in-Refused
 refusal c =
-    let put = c.before.before in rw put.before.before.before.d2.given.1 put.put-refusal.ensures
+    rw c.in-Refused.is c.put_refusal.ensures
 
 pub put_spec : {M : Type 1} → statement M
 put_spec =

@@ -6,41 +6,30 @@ use Rattle.player.specs.Output.{output_bytes, refusal_digits}
 use Rattle.feeder.proofs.put_refusal.Statement.{statement}
 use Rattle.feeder.proofs.put_refusal.Tie as tie
 
--- Where the number is known to be below ten, from where the line for it is lent; and where it is ten or more.
-abbrev below-ten : tie.After-short3 → tie.Then1
-below-ten c = c.before.before.before.before
-
-abbrev from-ten : tie.After-long3 → tie.Else1
-from-ten c = c.before.before.before.before
-
 -- One digit.
-one-digit-requires : tie.Need-put-word-requires
+one-digit-requires : tie.Need-put_word-requires
 unfolding output_bytes refusal_digits
 one-digit-requires c κs =
-    let known = below-ten c in
-    rw (lt-ltb _ _ known.if1.taken) at known.before.before.pre
+    rw (lt-ltb _ _ c.if-refusal-lt10.true) at c.requires
 
-one-digit : tie.Need-returns
+one-digit : tie.Need-returns-then-refusal-lt10
 unfolding output_bytes refusal_digits
 one-digit c =
-    let known = below-ten c.before.before.before in
-    rw (lt-ltb _ _ known.if1.taken) c.before.before.put_word.ensures
+    rw (lt-ltb _ _ c.if-refusal-lt10.true) c.put_word.ensures
 
 -- Two digits.
-two-digits-requires : tie.Need-put-word-requires-2
+two-digits-requires : tie.Need-put_word-requires-2
 unfolding output_bytes refusal_digits
 two-digits-requires c κs =
-    let known = from-ten c in
-    rw (le-ltb _ _ known.if1.left) at known.before.before.pre
+    rw (le-ltb _ _ c.if-refusal-lt10.false) at c.requires
 
-two_digits : tie.Need-returns-2
+two_digits : tie.Need-returns
 unfolding output_bytes refusal_digits
 two_digits c =
-    let known = from-ten c.before.before.before in
-    rw (le-ltb _ _ known.if1.left) c.before.before.put-word2.ensures
+    rw (le-ltb _ _ c.if-refusal-lt10.false) c.put_word-2.ensures
 
-pub put-refusal-spec : {M : Type 1} → statement M
-put-refusal-spec =
+pub put_refusal_spec : {M : Type 1} → statement M
+put_refusal_spec =
     tie.close
     (tie.spec
     (λ c. search rules)

@@ -4,16 +4,16 @@ use Rattle.player.specs.Output.{output_bytes}
 use Rattle.feeder.proofs.put_verdict.Statement.{statement}
 use Rattle.feeder.proofs.put_verdict.Tie as tie
 
-put-word-requires : tie.Need-put-word-requires
+put-word-requires : tie.Need-put_word-requires
 unfolding output_bytes
-put-word-requires c κs = c.before.before.before.before.before.requires
+put-word-requires c κs = c.requires
 
 returns : tie.Need-returns
 unfolding output_bytes
-returns c = c.before.before.put_word.ensures
+returns c = c.put_word.ensures
 
-pub put-verdict-spec : {M : Type 1} → statement M
-put-verdict-spec =
+pub put_verdict_spec : {M : Type 1} → statement M
+put_verdict_spec =
     tie.close
     (tie.spec
     (λ c. search rules)

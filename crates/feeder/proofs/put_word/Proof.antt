@@ -10,25 +10,25 @@ use Rattle.feeder.proofs.Moving.{all_placed}
 use Rattle.feeder.proofs.put_word.Statement.{statement}
 use Rattle.feeder.proofs.put_word.Tie as tie
 
-abbrev invariant-loop : tie.invariant-loop
+abbrev invariant-loop : tie.invariant-loop-k
 invariant-loop out₀ at w k₀ out k =
     (out ≡ paste out₀ at w k) × (k ≤ length w) × (at + length w ≤ length out₀) × (length out ≡ length out₀)
 
-abbrev decreases-loop : tie.decreases-loop
+abbrev decreases-loop : tie.decreases-loop-k
 decreases-loop out₀ at w k₀ out k = length w - k
 
-loop-holds : tie.Need-loop-init invariant-loop decreases-loop
+loop-holds : tie.Need-loop-k-init invariant-loop decreases-loop
 loop-holds c =
     let args = c.args in
     (paste-zero args.out.now args.at args.w.now, omega arith, omega arith, refl)
 
-loop-less : tie.Need-loop-smaller invariant-loop decreases-loop
+loop-less : tie.Need-loop-k-smaller invariant-loop decreases-loop
 loop-less c = omega arith
 
-loop-again : tie.Need-loop-preserved invariant-loop decreases-loop
+loop-again : tie.Need-loop-k-preserved invariant-loop decreases-loop
 loop-again c =
-    let loop = c.before.before.loop in
-    let args = c.before.before.before.args in (
+    let loop = c.loop-k in
+    let args = c.args in (
       rw (loop.invariant.0, add-one loop.k)
           (paste-suc args.out.now args.at args.w.now loop.k 0 (omega arith) (omega arith)),
       omega arith,
@@ -38,12 +38,12 @@ loop-again c =
 
 returns : tie.Need-returns invariant-loop decreases-loop
 returns c =
-    let loop = c.before.loop in
-    let args = c.before.before.args in
+    let loop = c.loop-k in
+    let args = c.args in
     (omega arith, loop.invariant.0 ∙ all_placed args.out.now args.at args.w.now loop.k (omega arith))
 
-pub put-word-spec : {M : Type 1} → statement M
-put-word-spec =
+pub put_word_spec : {M : Type 1} → statement M
+put_word_spec =
     tie.close
     (tie.spec
     invariant-loop

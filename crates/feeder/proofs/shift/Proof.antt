@@ -7,27 +7,27 @@ use Rattle.feeder.proofs.Moving.{Moved, moved_none, moved_more, moved_all}
 use Rattle.feeder.proofs.shift.Statement.{statement}
 use Rattle.feeder.proofs.shift.Tie as tie
 
-abbrev invariant-loop : tie.invariant-loop
+abbrev invariant-loop : tie.invariant-loop-i
 invariant-loop buf₀ from to i₀ buf i = Moved buf₀ buf from i × (from ≤ i) × (i ≤ to) × (to ≤ length buf₀)
 
-abbrev decreases-loop : tie.decreases-loop
+abbrev decreases-loop : tie.decreases-loop-i
 decreases-loop buf₀ from to i₀ buf i = to - i
 
-loop-holds : tie.Need-loop-init invariant-loop decreases-loop
+loop-holds : tie.Need-loop-i-init invariant-loop decreases-loop
 loop-holds c = (moved_none _ _, omega arith, omega arith, omega arith)
 
-loop-less : tie.Need-loop-smaller invariant-loop decreases-loop
+loop-less : tie.Need-loop-i-smaller invariant-loop decreases-loop
 loop-less c = omega arith
 
-loop-again : tie.Need-loop-preserved invariant-loop decreases-loop
+loop-again : tie.Need-loop-i-preserved invariant-loop decreases-loop
 loop-again c =
-    (moved_more c.before.before.loop.invariant.0 (omega arith) (omega arith), omega arith, omega arith, omega arith)
+    (moved_more c.loop-i.invariant.0 (omega arith) (omega arith), omega arith, omega arith, omega arith)
 
 returns : tie.Need-returns invariant-loop decreases-loop
-returns c = moved_all c.before.loop.invariant.0 (omega arith)
+returns c = moved_all c.loop-i.invariant.0 (omega arith)
 
-pub shift-spec : {M : Type 1} → statement M
-shift-spec =
+pub shift_spec : {M : Type 1} → statement M
+shift_spec =
     tie.close
     (tie.spec
     invariant-loop
