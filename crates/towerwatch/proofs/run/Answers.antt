@@ -1,6 +1,7 @@
 -- `towerwatch::run` meets its contract: each turn goes on from where the one before ended. Assumes nothing.
-use Rattle.std.proofs.Common.{refl, sym, ◌∙◌, ◌≡◌, length, true, false, arith}
-use Rattle.towerwatch.specs.Run.{is_reading, output_room, Whole}
+use Rattle.std.proofs.Common.{refl, sym, ◌∙◌, ◌≡◌, length, true, arith}
+use Rattle.player.specs.Card.{world_of}
+use Rattle.towerwatch.specs.Run.{is_reading, output_room}
 use Rattle.towerwatch.proofs.Progress.{reached-start, ends-whole, fewer, reached-on}
 use Rattle.towerwatch.proofs.Showing.{whole-program}
 use Rattle.towerwatch.proofs.run.Goals as goal
@@ -27,7 +28,10 @@ loop-stdin-smaller c =
     let on : is_reading c.once-n.result.stand ≡ true = sym c.reads_on.ensures ∙ c.if-not-reads_on.false in
     omega (
       arith,
-      fewer c.loop-stdin.invariant.reached _ once on c.once-n.ensures.ready.short.below,
+      fewer
+          {w' = world_of c.once-n.result.watch c.once-n.new.parameters c.once-n.new.table c.once-n.new.state
+          c.once-n.new.values}
+          c.loop-stdin.invariant.reached _ once on c.once-n.ensures.ready.short.below,
       once.takes.more on,
     )
 
@@ -39,5 +43,8 @@ loop-stdin-preserved c =
     record {
       ready = c.once-n.ensures.ready;
       reached =
-          reached-on c.loop-stdin.invariant.reached _ c.once-n.ensures.once on c.once-n.ensures.ready.short.below room;
+          reached-on
+          {w' = world_of c.once-n.result.watch c.once-n.new.parameters c.once-n.new.table c.once-n.new.state
+          c.once-n.new.values}
+          c.loop-stdin.invariant.reached _ c.once-n.ensures.once on c.once-n.ensures.ready.short.below room;
     }
