@@ -31,7 +31,11 @@ fn say_broken(rt: &impl Print, line: &[u8]) -> usize
 }
 
 // Sets the parameters to the eight numbers that a line begins with: the place of the text behind them.
-fn read_parameters(rt: &impl Print, line: &[u8], parameters: &mut [u32; limits::PARAMETERS]) -> usize
+fn read_parameters(
+    rt: &impl Print,
+    line: &[u8],
+    parameters: &mut [u32; limits::PARAMETERS],
+) -> usize
     ensures { result ≤ length line.now }
 {
     let mut at = 0;
