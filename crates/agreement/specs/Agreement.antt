@@ -10,7 +10,7 @@ use Rattle.formulas.specs.Meaning.{verdict}
 use Rattle.formulas.specs.Laws.{Starts}
 use Rattle.tables.specs.Kind.{START, AND, OR, BOOLEAN-PRE}
 use Rattle.tables.specs.Table.{equation, equation_at, started_of, verdict_of, checked}
-use Rattle.flows.specs.Step.{AfterFresh, freshened, AfterStep}
+use Rattle.flows.specs.Step.{freshened}
 use Rattle.flows.specs.Run.{Call, Taken, from_fresh, ticks, EachTick, CallsDecide}
 use Rattle.tables.specs.declared.Checked.TheVariants.{Passed}
 use Rattle.flows.specs.declared.Fresh.TheVariants.{Made}

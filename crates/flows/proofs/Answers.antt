@@ -19,7 +19,7 @@ use Rattle.tables.specs.declared.Checked.TheVariants.{Passed, Refused as Failed}
 use Rattle.tables.proofs.Tests.{and-true}
 use Rattle.tables.proofs.Checks.{passed-both}
 use Rattle.flows.specs.Flow.{flows, answer_of, in_range}
-use Rattle.flows.specs.Step.{AfterStep, after_tick, stepped_if, step_checked, stepped}
+use Rattle.flows.specs.Step.{after_tick, stepped_if, step_checked, stepped}
 use Rattle.flows.specs.declared.Stepped.TheVariants.{Verdict, Refused}
 use Rattle.flows.proofs.Checks.{step-passed, step-admitted}
 use Rattle.flows.proofs.Ranges.{flows-range}

@@ -1,11 +1,9 @@
 -- The answers to a list of calls as a list that the calls and the verdicts of their ticks give, where the calls decide
 -- by themselves which are refused (SPEC 6.5). Assumes nothing.
 use mathlib.Core.Path.{◌≡◌, refl, ◌∙◌, sym, ap, ap₂}
-use mathlib.Core.List.{List, [], ◌∷◌, map}
+use mathlib.Core.List.{List, [], ◌∷◌}
 use Prim.Native.Nat.{ℕ, suc}
-use native.Mathlib.Omega.{arith}
 use Rattle.traces.specs.declared.Tick.{Tick}
-use Rattle.flows.specs.Step.{AfterStep, stepped}
 use Rattle.flows.specs.Run.{Call, called, Taken, steps, answered, tick_if, ticks, EachTick}
 use Rattle.flows.specs.Run.{admits, refusal_in, CallsDecide}
 use Rattle.flows.specs.Run.EachTick.{none, tick as ticked, refused as skipped}

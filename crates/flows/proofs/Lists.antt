@@ -2,32 +2,29 @@
 -- (SPEC 6.5), and the others are the ticks of a run, so that each leaves the flows that Lustre gives (SPEC 6.4).
 -- Assumes nothing.
 use mathlib.Core.Path.{◌≡◌, refl, ◌∙◌, sym, ap, ap₂, subst}
-use mathlib.Core.Bool.{Bool, true, false, cond}
-use mathlib.Core.List.{List, [], ◌∷◌, ◌++◌, map}
+use mathlib.Core.Bool.{true}
+use mathlib.Core.List.{List, [], ◌∷◌, ◌++◌}
 use Prim.Native.Nat.{ℕ, zero, suc, ◌+◌, ◌≤◌, ◌<◌}
 use native.Mathlib.Omega.{arith}
 use native.Mathlib.Nat.{add-zero, zero-add}
-use lib.Dec.{leb}
 use lib.ListN.{length, get_or, drop, replicate, length-append, length-replicate}
 use borrow.Author.Tests.{le-leb, lt-ltb}
 use Rattle.traces.specs.declared.Tick.{Tick}
 use Rattle.traces.specs.Trace.{Trace, trace_of, tick_of}
 use Rattle.traces.specs.Parameters.{parameter_fits}
 use Rattle.lists.specs.Number.{number_at}
-use Rattle.tables.specs.Table.{all, checked}
-use Rattle.limits.specs.Limits.{parameter_count}
+use Rattle.tables.specs.Table.{checked}
 use Rattle.flows.specs.Flow.{flows, operand_at, fresh_state, next_state}
 use Rattle.flows.specs.Step.{cells_fit, fresh_checked, step_checked}
 use Rattle.flows.specs.Step.{AfterFresh, after_fresh, freshened, AfterStep, after_tick, stepped_if, stepped}
-use Rattle.flows.specs.Run.{Call, called, Taken, steps, from_fresh, answered, tick_if, ticks, EachTick}
+use Rattle.flows.specs.Run.{Call, called, Taken, steps, from_fresh, tick_if, ticks, EachTick}
 use Rattle.flows.specs.Run.{call_checked, admits, refusal_in, CallsDecide}
 use Rattle.flows.specs.Run.EachTick.{none, tick as ticked, refused as skipped}
-use Rattle.flows.specs.Lustre.{Lustre, Solves, firsts, Leaves, RunsAsLustre}
+use Rattle.flows.specs.Lustre.{Solves, firsts, Leaves, RunsAsLustre}
 use Rattle.tables.specs.declared.Checked.{Checked}
 use Rattle.tables.specs.declared.Checked.TheVariants.{Passed, Refused as Failed}
 use Rattle.flows.specs.declared.Fresh.TheVariants.{Made}
-use Rattle.flows.specs.declared.Stepped.{Stepped}
-use Rattle.flows.specs.declared.Stepped.TheVariants.{Verdict, Refused as NotStepped}
+use Rattle.flows.specs.declared.Stepped.TheVariants.{Verdict}
 use Rattle.flows.proofs.Buffers.{length-flows, flows-at, length-memories}
 use Rattle.tables.proofs.Checks.{Fitting, checked-fitting, passed-both}
 use Rattle.flows.proofs.Checks.{step-passed, step-admitted}

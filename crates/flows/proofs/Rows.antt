@@ -19,7 +19,7 @@ use Rattle.tables.specs.Table.{is_memory}
 use Rattle.flows.specs.Step.{fresh_reply, step_reply}
 use Rattle.flows.specs.Step.{cell_fits, fresh_checked, step_checked, freshened, after_step, after_tick}
 use Rattle.flows.specs.Step.{stepped}
-use Rattle.flows.specs.Run.{Call, Taken, steps, answered}
+use Rattle.flows.specs.Run.{Call, steps, answered}
 use Rattle.flows.specs.declared.Stepped.TheVariants.{Verdict}
 
 -- f0=s5; f1=b; f2=true; f3=not f0; f4=f0 and f1; f5=f0 or f1; f6=true->pre(f0); f7=0->pre(f8); f8=cap(f7,f0);

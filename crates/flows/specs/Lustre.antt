@@ -6,7 +6,6 @@ use Rattle.traces.specs.declared.Tick.{Tick}
 use Rattle.traces.specs.Trace.{Trace, trace_of}
 use Rattle.tables.specs.Table.{equation_at, kind_at, sort_of}
 use Rattle.flows.specs.Flow.{value_of, answer_of, initial_at, in_range}
-use Rattle.flows.specs.Step.{AfterStep}
 use Rattle.flows.specs.Run.{Call, Taken, from_fresh, ticks, EachTick, CallsDecide}
 use Rattle.flows.specs.declared.Stepped.TheVariants.{Verdict}
 

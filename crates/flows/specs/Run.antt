@@ -3,7 +3,7 @@ use Rattle.std.specs.Prelude.{List, [], ◌∷◌, map, ◌≡◌, ℕ, suc, leb
 use Rattle.traces.specs.declared.Tick.{Tick}
 use Rattle.traces.specs.Parameters.{with_parameters}
 use Rattle.tables.specs.Table.{test, first_failed}
-use Rattle.flows.specs.Step.{AfterFresh, freshened, AfterStep, parameter_test, velocity_test, stepped}
+use Rattle.flows.specs.Step.{freshened, AfterStep, parameter_test, velocity_test, stepped}
 use Rattle.tables.specs.declared.Checked.{Checked}
 use Rattle.tables.specs.declared.Checked.TheVariants.{Passed, Refused as Failed}
 use Rattle.flows.specs.declared.Stepped.{Stepped}

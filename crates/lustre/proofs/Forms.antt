@@ -16,7 +16,7 @@ use Rattle.lists.specs.Decimal.{is_digit}
 use Rattle.lists.proofs.Choice.{false-true}
 use Rattle.tables.specs.Kind.{SIGNAL, START, CONSTANT, NOT, AND, OR, BOOLEAN-PRE, COUNT-PRE, CAPPED, IF}
 use Rattle.tables.specs.Kind.{COMPARE-LITERAL, COMPARE-PARAMETER, VELOCITY, kind_count}
-use Rattle.tables.specs.Table.{all, Equation, kinds, kind_of, shape_of, is_flow, operand_fits, shape_fits}
+use Rattle.tables.specs.Table.{all, Equation, kind_of, shape_of, is_flow, operand_fits, shape_fits}
 use Rattle.limits.specs.Limits.{equation_limit, literal_count, last_literal, truth_count, comparison_count}
 use Rattle.tables.specs.declared.Operand.{Operand}
 use Rattle.tables.specs.declared.Operand.TheVariants.{Unused, Earlier, Anywhere, Below, Velocity}

@@ -14,7 +14,7 @@ use Rattle.tables.specs.declared.Checked.{Checked}
 use Rattle.tables.specs.declared.Checked.TheVariants.{Passed, Refused as Failed}
 use Rattle.tables.proofs.Checks.{passed-one}
 use Rattle.flows.specs.Flow.{answer_of}
-use Rattle.flows.specs.Step.{AfterStep, step_checked, stepped_if, stepped}
+use Rattle.flows.specs.Step.{step_checked, stepped_if, stepped}
 use Rattle.flows.specs.Run.{Call, called, steps, from_fresh, answered, ticks, EachTick, call_checked, admits}
 use Rattle.flows.specs.Lustre.{Solves, RunsAsLustre}
 use Rattle.flows.specs.declared.Stepped.TheVariants.{Verdict}

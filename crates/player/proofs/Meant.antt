@@ -22,7 +22,7 @@ use Rattle.tables.specs.Table.{Equation}
 use Rattle.limits.specs.Limits.{parameter_count, standard_cap, text_limit, equation_limit, table_room}
 use Rattle.limits.specs.declared.Context.{Context}
 use Rattle.flows.specs.Step.{AfterStep, freshened, stepped, step_checked, stepped_if, after_tick as tick_after}
-use Rattle.flows.specs.Run.{Call, Taken, steps, answered, call_checked}
+use Rattle.flows.specs.Run.{Call, steps, answered, call_checked}
 use Rattle.flows.proofs.Expected.{admitted as admitted_ticks, expected}
 use Rattle.tables.specs.declared.Checked.{Checked}
 use Rattle.tables.specs.declared.Checked.TheVariants.{Passed, Refused as Failed}

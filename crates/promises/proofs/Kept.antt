@@ -18,7 +18,7 @@ use Rattle.formulas.specs.Tree.{Tree, formula_of}
 use Rattle.formulas.proofs.Laws.{means}
 use Rattle.formulas.proofs.Only.{only-verdict}
 use Rattle.grammar.proofs.Theorems.{rule-names}
-use Rattle.rules.specs.Reading.{Outcome, HasOutcome}
+use Rattle.rules.specs.Reading.{HasOutcome}
 use Rattle.rules.specs.Reading.Outcome.{rule, refused}
 use Rattle.rules.specs.Reading.HasOutcome.{is-rule}
 use Rattle.rules.specs.Computed.{rule_of}
@@ -53,8 +53,8 @@ use Rattle.packing.proofs.Again.{refused-packed, again, behind}
 use Rattle.lustre.proofs.Theorems as lustre
 use Rattle.player.specs.Card.{printed}
 use Rattle.player.proofs.Shown.{shown, one-output}
-use Rattle.promises.specs.Promises.{Reading, Meaning, Whether, Comparing, Compiling, SameRules}
-use Rattle.promises.specs.Promises.{RoundTrips, Promises}
+use Rattle.promises.specs.Promises.{Reading, Whether, Comparing, SameRules}
+use Rattle.promises.specs.Promises.{Promises}
 
 reading : (context : Context) → Reading context
 reading context =

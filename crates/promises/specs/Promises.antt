@@ -49,7 +49,7 @@ use Rattle.observers.specs.declared.Compiled.TheVariants.{Equations, Refused}
 use Rattle.packing.specs.Laws.{Packs, PackAnswer}
 use Rattle.packing.specs.declared.Packed.{Packed}
 use Rattle.packing.specs.declared.Packed.TheVariants.{Equations as PackedTo, Refused as NotPacked}
-use Rattle.lustre.specs.Write.{AfterWrite, after_write, write_effect}
+use Rattle.lustre.specs.Write.{after_write, write_effect}
 use Rattle.lustre.specs.Read.{AfterRead}
 use Rattle.lustre.specs.declared.Written.TheVariants.{Length}
 use Rattle.lustre.specs.declared.Loaded.{Loaded}

@@ -3,7 +3,7 @@ use Rattle.std.specs.Prelude.{◌≡◌, List, ℕ}
 use Rattle.limits.specs.declared.Context.{Context}
 use Rattle.limits.specs.Reply as Reply
 use Rattle.limits.specs.Reply.{Reply, gives}
-use Rattle.formulas.specs.Tree.{Tree, nodes}
+use Rattle.formulas.specs.Tree.{nodes}
 use Rattle.rules.specs.Reading.{Outcome, HasOutcome}
 use Rattle.rules.specs.Reading.Outcome.{refused, rule}
 use Rattle.rules.specs.declared.Read.{Read}

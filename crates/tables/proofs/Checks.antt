@@ -3,11 +3,11 @@
 use mathlib.Core.Path.{◌≡◌, refl}
 use mathlib.Core.Bool.{Bool, true, false, cond, ◌&&◌}
 use mathlib.Core.List.{List, [], ◌++◌}
-use Prim.Native.Nat.{ℕ, ◌+◌, ◌*◌, ◌-◌, ◌≤◌, ◌<◌}
+use Prim.Native.Nat.{ℕ, ◌+◌, ◌*◌, ◌≤◌, ◌<◌}
 use native.Mathlib.Omega.{arith}
 use lib.Dec.{leb, ltb}
 use lib.ListN.{length}
-use borrow.Author.Tests.{le-ltb, lt-ltb, lt-leb, le-leb, ltb-true, leb-true}
+use borrow.Author.Tests.{le-ltb, lt-ltb, lt-leb, le-leb, leb-true}
 use Rattle.lists.specs.Number.{number_at}
 use Rattle.tables.specs.Kind.{kind_count}
 use Rattle.tables.specs.Table.{all, equation_at, equation_fits, operand_fits, shape_fits, shape_of, kind_of}

@@ -1,6 +1,6 @@
 -- Every word that splitting a text makes is from 1 to the highest word, one that is a velocity's literal is below the
 -- context's velocities, and there are at most as many words as a text can have. Assumes nothing.
-use mathlib.Core.Bool.{Bool, true, not, ◌&&◌, ◌||◌, and-eq-true_iff}
+use mathlib.Core.Bool.{Bool, true, not, ◌&&◌, and-eq-true_iff}
 use mathlib.Core.List.{List, [], ◌∷◌, ◌++◌}
 use mathlib.Core.Path.{◌≡◌, refl, subst}
 use Prim.Native.Nat.{ℕ, suc, ◌+◌, ◌-◌, ◌≤◌, ◌<◌}

@@ -138,8 +138,7 @@ loop-less c = omega (arith, ended c.before.before.before.before.before.before.be
 
 loop-again : tie.Need-loop-out-preserved invariant-loop decreases-loop
 loop-again c =
-    let word = c.put-at.ensures in
-    (
+    let word = c.put-at.ensures in (
       after_line (run c.before.before.before.before.before.before.before.before.before.before.before.before.before.before.before.before.before.before.before.before.before.before.before.before.before.before.before) c.line_length.result c.line_length.ensures (ended c.before.before.before.before.before.before.before.before.before.before.before.before.before.before.before.before)
           c.on_line-t.ensures word.0 word.1,
       omega (arith, c.on_line-t.auto.table, (lengths c.before.before.before.before.before.before.before.before.before.before.before.before.before.before.before.before.before.before.before.before.before.before.before.before.before.before.before).0),

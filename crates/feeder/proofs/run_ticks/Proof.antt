@@ -3,13 +3,9 @@
 use mathlib.Core.Path.{◌≡◌, refl, sym, ◌∙◌}
 use native.Mathlib.Omega.{arith}
 use borrow.Author.Rules.{rules}
-use mathlib.Core.List.{List}
-use Prim.Native.Nat.{ℕ}
 use lib.ListN.{length}
 use Rattle.limits.specs.Context.{standard_context}
 use Rattle.cards.specs.Says.{stage_at}
-use Rattle.cards.specs.Place.{tick_at}
-use Rattle.cards.specs.declared.TickFound.TheVariants as F
 use Rattle.player.specs.Card.{world_of, watch_of}
 use Rattle.cards.proofs.Front.{none_first}
 use Rattle.player.proofs.Playing.{some-velocity}

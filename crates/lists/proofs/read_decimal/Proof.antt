@@ -6,7 +6,6 @@ use mathlib.Core.Path.{◌≡◌, sym, ◌∙◌}
 use Prim.Native.Nat.{◌-◌}
 use native.Mathlib.Omega.{arith}
 use borrow.Author.Rules.{rules}
-use borrow.Author.Tests.{not-true, not-false}
 use lib.ListN.{length, get_or}
 use Rattle.lists.specs.Decimal.{is_digit}
 use Rattle.lists.proofs.Decimals.{digit-range, numeral-past, numeral-zero, numeral-none, DigitsRead}

@@ -26,12 +26,11 @@ add_at c =
     omega (arith, c.loop-j.invariant.1.short, c.write_piece-at.ensures.short)
 
 loop-again : tie.Need-loop-j-preserved invariant-loop decreases-loop
-loop-again c =
-    (
-      omega arith,
-      form-more _ _ _ _ c.loop-j.invariant.1 c.loop-j-test.true refl c.least-q.ensures
-          c.write_piece-at.ensures,
-    )
+loop-again c = (
+  omega arith,
+  form-more _ _ _ _ c.loop-j.invariant.1 c.loop-j-test.true refl c.least-q.ensures
+      c.write_piece-at.ensures,
+)
 
 same_length : tie.Need-shape_of-out invariant-loop decreases-loop
 same_length c = placed-length c.loop-j.invariant.1

@@ -68,11 +68,10 @@ less c =
     omega (arith, (reach-below _ _ _ _ _ (markable c.before.before.before.before.before.before.before.before.before) _ _ c.loop-done.invariant.0 c.loop-done-test.true).1)
 
 loop-again : tie.Need-loop-done-preserved invariant-loop decreases-loop
-loop-again c =
-    (
-      reach-more _ _ _ _ _ (markable c.before.before.before.before.before.before.before.before.before) _ _ c.loop-done.invariant.0 c.loop-done-test.true c.expand-size.ensures,
-      search rules,
-    )
+loop-again c = (
+  reach-more _ _ _ _ _ (markable c.before.before.before.before.before.before.before.before.before) _ _ c.loop-done.invariant.0 c.loop-done-test.true c.expand-size.ensures,
+  search rules,
+)
 
 returns : tie.Need-returns invariant-loop decreases-loop
 returns c =

@@ -72,14 +72,13 @@ low : (c : tie.After-walk-j invariant-loop decreases-loop) → c.walk-j.result �
 low c = rw c.walk-j.ensures (first-le _ _)
 
 loop-again : tie.Need-loop-i-preserved invariant-loop decreases-loop
-loop-again c =
-    (
-      omega arith,
-      λ old e.
-          turn _ _ _ _ (buffers c.before.before.before.before.before.before) c.loop-i.i c.key_at-x.result (c.loop-i.invariant.1 old e)
-          c.key_at-x.ensures c.bucket_of-b.ensures.0 c.walk-j.ensures
-          c.head_after.ensures,
-    )
+loop-again c = (
+  omega arith,
+  λ old e.
+      turn _ _ _ _ (buffers c.before.before.before.before.before.before) c.loop-i.i c.key_at-x.result (c.loop-i.invariant.1 old e)
+      c.key_at-x.ensures c.bucket_of-b.ensures.0 c.walk-j.ensures
+      c.head_after.ensures,
+)
 
 returns : tie.Need-returns invariant-loop decreases-loop
 returns c =

@@ -21,7 +21,7 @@ use Rattle.facts.specs.Facts.{facts_of, leaf_facts}
 use Rattle.facts.specs.declared.Facts.{Facts}
 use Rattle.parser.specs.Contract.{ParsesVelocity, ParsesLeaf, Pushed}
 use Rattle.parser.specs.declared.Parsed.{Parsed}
-use Rattle.parser.specs.declared.Parsed.TheVariants.{At, No}
+use Rattle.parser.specs.declared.Parsed.TheVariants.{At}
 use Rattle.parser.proofs.Stored.{to-tree, to_same, reads-to, pushed, stored-as, past_first, fits-push}
 use Rattle.parser.proofs.leaf.Statement.{statement}
 use Rattle.parser.proofs.leaf.Tie as tie

@@ -1,10 +1,10 @@
 -- `parser::velocity` meets its contract: three words, each of its class, and then one record. Assumes nothing.
 use mathlib.Core.Bool.{true, false}
 use mathlib.Core.List.{List}
-use mathlib.Core.Path.{◌≡◌, refl, sym, ap, ap₂, ◌∙◌}
+use mathlib.Core.Path.{◌≡◌, sym, ap, ap₂, ◌∙◌}
 use Prim.Native.Nat.{ℕ, ◌+◌}
 use borrow.Author.Rules.{rules}
-use borrow.Author.Tests.{eq-eqb, ne_eqb, not-true, not-false}
+use borrow.Author.Tests.{eq-eqb, ne_eqb}
 use native.Mathlib.Omega.{arith}
 use Rattle.traces.specs.Compare.{op_number}
 use Rattle.formulas.specs.Arena.{row}
@@ -12,7 +12,7 @@ use Rattle.formulas.specs.Arena
 use Rattle.formulas.specs.Tree.Tree.{velocity}
 use Rattle.words.specs.Word.{VEL, is_op, is_velocity}
 use Rattle.grammar.specs.Grammar.{op_word, velocity_word}
-use Rattle.grammar.specs.Parse.{velocity_at, word}
+use Rattle.grammar.specs.Parse.{word}
 use Rattle.grammar.proofs.Position.{op-pos, velocity-pos}
 use Rattle.grammar.proofs.Words.{op-number}
 use Rattle.facts.specs.Facts.{leaf_facts}

@@ -2,7 +2,6 @@
 -- `read_tree` leaves them. Assumes nothing.
 use mathlib.Core.Path.{◌≡◌, sym, ◌∙◌, subst}
 use borrow.Author.Rules.{rules}
-use borrow.Author.Tests.{not-true, not-false}
 use Rattle.rules.specs.Reading.{Outcome}
 use Rattle.rules.specs.Computed.{rule_of, side_of}
 use Rattle.rules.specs.Laid.{Laid}

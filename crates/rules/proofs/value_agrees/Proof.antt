@@ -1,7 +1,6 @@
 -- `rules::value_agrees` meets its contract: a record that names no parameter agrees, one that names it by the two
 -- values. Assumes nothing.
 use borrow.Author.Rules.{rules}
-use borrow.Author.Tests.{not-true, not-false}
 use Rattle.rules.proofs.value_agrees.Statement.{statement}
 use Rattle.rules.proofs.value_agrees.Tie as tie
 

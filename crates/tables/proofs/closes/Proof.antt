@@ -1,6 +1,6 @@
 -- `tables::closes` meets its contract: a table of fewer than two equations does not close, another by the sorts of its
 -- last two. Assumes nothing.
-use mathlib.Core.Path.{◌≡◌, refl, sym, ap, ◌∙◌}
+use mathlib.Core.Path.{refl, sym, ap, ◌∙◌}
 use mathlib.Core.Bool.{true, false, not}
 use native.Mathlib.Omega.{arith}
 use Rattle.tables.proofs.Numbers.{boolean-or-count}

@@ -1,6 +1,5 @@
 -- `words::literal_word` meets its contract: whether a velocity is awaited decides. Assumes nothing.
 use mathlib.Core.Path.{◌∙◌}
-use native.Mathlib.Omega.{arith}
 use borrow.Author.Rules.{rules}
 use Rattle.words.proofs.literal_word.Statement.{statement}
 use Rattle.words.proofs.literal_word.Tie as tie

@@ -1,10 +1,9 @@
 -- The answers of the member `lag`: P between `[` and `,`, n, Q between `,` and `]`. The words `lag` and n leave room
 -- for a record each, those around P and around Q for two each; three are put. Assumes nothing.
-use mathlib.Core.Bool.{true, false}
+use mathlib.Core.Bool.{true}
 use mathlib.Core.Path.{◌≡◌, sym, ap, ◌∙◌}
 use Prim.Native.Nat.{ℕ, ◌+◌}
 use borrow.Author.Rules.{rules}
-use borrow.Author.Tests.{not-true, not-false}
 use borrow.Fn.Kinds.{In, Out}
 use native.Mathlib.Omega.{arith}
 use Rattle.words.specs.Word
