@@ -1,8 +1,8 @@
-// The program's two system calls: a read of standard input, and a write of standard output. No contract of the library's
-// says that a call was made, or which bytes it moved: an error is an answer that each of them may give. So each function
-// here is one line, and what it promises, `Came` and `Wrote`, can be had by no other crate but from a call of it
-// (specs/Calls.antt). Neither buffers: a call of a function here is one system call. `at` says how many bytes of the
-// stream came before these.
+// The program's two system calls: a read of standard input, and a write of standard output, each of them one call with
+// no buffer between. No contract of the library's says that a call was made, or which bytes it moved: an error is an
+// answer that each of them may give. So each function here is one line, and what it promises, `Came` and `Wrote`, can
+// be had by no other crate but from a call of it (specs/Calls.antt). `at` says how many bytes of the stream came before
+// these.
 #![tactic(auto)]
 
 ghost use Rattle.std.specs.Prelude.{◌≡◌, ◌+◌, ◌-◌, ◌≤◌, ◌<◌, length, take, drop};

@@ -1,5 +1,5 @@
--- `towerwatch::run`: from the start the turns have come to the player's memory and to what is left over (`Reached`), and
--- the bytes that may still come fall.
+-- `towerwatch::run`: from the start the turns have come to the player's memory and to what is left over (`Reached`),
+-- and the bytes that may still come fall.
 use Rattle.std.proofs.Common.{length, take}
 use Rattle.player.specs.Card.{world_of}
 use Rattle.feeder.specs.Feed.{Ready}
