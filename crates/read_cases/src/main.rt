@@ -4,38 +4,47 @@
 // order.
 #![tactic(auto)]
 
-use libc::{STDIN_FILENO, STDOUT_FILENO};
-use rules::Read;
+use std::io::Read;
+
+// A write that fails is passed over: it shows in what is compared with `stdout`.
+fn say(rt: &impl Print, text: &[u8]) {
+    let _ = rt.write_all(text);
+}
+
+fn say_number(rt: &impl Print, x: u32) {
+    let _ = print!(rt; "{x}");
+}
 
 // Prints the answer for a text, and the text.
-fn show(text: &[u8]) {
+fn show(rt: &impl Print, text: &[u8]) {
     match rules::read_rule(text) {
-        Read::Rule(n) => {
-            io::write_all(STDOUT_FILENO, b"nodes=");
-            io::print_decimal(STDOUT_FILENO, n as u64);
+        rules::Read::Rule(n) => {
+            say(rt, b"nodes=");
+            say_number(rt, n);
         }
-        Read::Refused(n) => {
-            io::write_all(STDOUT_FILENO, b"refused=");
-            io::print_decimal(STDOUT_FILENO, n as u64);
+        rules::Read::Refused(n) => {
+            say(rt, b"refused=");
+            say_number(rt, n);
         }
     }
-    io::write_all(STDOUT_FILENO, b": ");
-    io::write_all(STDOUT_FILENO, text);
-    io::write_all(STDOUT_FILENO, b"\n");
+    say(rt, b": ");
+    say(rt, text);
+    say(rt, b"\n");
 }
 
 // Shows each line.
-fn show_lines(s: &[u8]) {
+fn show_lines(rt: &impl Print, s: &[u8]) {
     let mut at = 0;
     while at < s.len() {
         let end = lines::line_end(s, at);
-        show(&s[at..end]);
+        show(rt, &s[at..end]);
         at = end + 1;
     }
 }
 
-fn main() {
-    let mut input = io::large_buffer();
-    let n = io::read_full(STDIN_FILENO, &mut input);
-    show_lines(&input[..n]);
+// A read that fails counts as the end of the input.
+fn main(rt: HostRuntime) {
+    let mut input = Vec::new(rt.alloc());
+    let _ = rt.stdin().read_to_end(&mut input);
+    show_lines(&rt, &input);
 }

@@ -6,40 +6,49 @@
 
 ghost use Rattle.std.specs.Prelude.{◌≤◌, length};
 
-use libc::{STDIN_FILENO, STDOUT_FILENO};
 use lists::Decimal;
 use rules::Same;
+use std::io::Read;
 
 // The highest number that a line can have: also those that are refused can be given.
 const HIGHEST: u32 = 4294967295;
 
-fn say(text: &[u8]) {
-    io::write_all(STDOUT_FILENO, text);
+// A write that fails is passed over: it shows in what is compared with `stdout`.
+fn say(rt: &impl Print, text: &[u8]) {
+    let _ = rt.write_all(text);
+}
+
+fn say_number(rt: &impl Print, x: u32) {
+    let _ = print!(rt; "{x}");
 }
 
 // Says that a line does not begin with eight numbers, which no line of `stdout` says: there is no text behind them.
-fn say_broken(line: &[u8]) -> usize
+fn say_broken(rt: &impl Print, line: &[u8]) -> usize
     ensures { result ≤ length line.now }
 {
-    say(b"no eight numbers: ");
+    say(rt, b"no eight numbers: ");
     line.len()
 }
 
 // Sets the parameters to the eight numbers that a line begins with: the place of the text behind them.
-fn read_parameters(line: &[u8], parameters: &mut [u32; limits::PARAMETERS]) -> usize
+fn read_parameters(
+    rt: &impl Print,
+    line: &[u8],
+    parameters: &mut [u32; limits::PARAMETERS],
+) -> usize
     ensures { result ≤ length line.now }
 {
     let mut at = 0;
     let mut i = 0;
     while i < limits::PARAMETERS {
         let Decimal::Is { value, next } = lists::read_decimal(line, at, HIGHEST) else {
-            return say_broken(line);
+            return say_broken(rt, line);
         };
         if line.len() <= next {
-            return say_broken(line);
+            return say_broken(rt, line);
         }
         if line[next] != b' ' {
-            return say_broken(line);
+            return say_broken(rt, line);
         }
         parameters[i] = value;
         at = next + 1;
@@ -48,50 +57,52 @@ fn read_parameters(line: &[u8], parameters: &mut [u32; limits::PARAMETERS]) -> u
     at
 }
 
-fn say_same(same: Same) {
+fn say_same(rt: &impl Print, same: Same) {
     match same {
-        Same::Yes => say(b"yes"),
-        Same::No => say(b"no"),
+        Same::Yes => say(rt, b"yes"),
+        Same::No => say(rt, b"no"),
         Same::Refused(n) => {
-            say(b"refused=");
-            io::print_decimal(STDOUT_FILENO, n as u64);
+            say(rt, b"refused=");
+            say_number(rt, n);
         }
     }
 }
 
 // Prints the answer for two lines, and the lines.
-fn show(first: &[u8], second: &[u8]) {
+fn show(rt: &impl Print, first: &[u8], second: &[u8]) {
     let mut first_parameters = [0u32; limits::PARAMETERS];
-    let first_text = read_parameters(first, &mut first_parameters);
+    let first_text = read_parameters(rt, first, &mut first_parameters);
     let mut second_parameters = [0u32; limits::PARAMETERS];
-    let second_text = read_parameters(second, &mut second_parameters);
-    say_same(rules::same_rule(
+    let second_text = read_parameters(rt, second, &mut second_parameters);
+    let same = rules::same_rule(
         &first[first_text..],
         &first_parameters,
         &second[second_text..],
         &second_parameters,
-    ));
-    say(b": ");
-    say(first);
-    say(b" / ");
-    say(second);
-    say(b"\n");
+    );
+    say_same(rt, same);
+    say(rt, b": ");
+    say(rt, first);
+    say(rt, b" / ");
+    say(rt, second);
+    say(rt, b"\n");
 }
 
 // Shows each pair of lines.
-fn show_pairs(s: &[u8]) {
+fn show_pairs(rt: &impl Print, s: &[u8]) {
     let mut at = 0;
     while at < s.len() {
         let end = lines::line_end(s, at);
         let from = lines::next_line(s, end);
         let to = lines::line_end(s, from);
-        show(&s[at..end], &s[from..to]);
+        show(rt, &s[at..end], &s[from..to]);
         at = to + 1;
     }
 }
 
-fn main() {
-    let mut input = io::large_buffer();
-    let n = io::read_full(STDIN_FILENO, &mut input);
-    show_pairs(&input[..n]);
+// A read that fails counts as the end of the input.
+fn main(rt: HostRuntime) {
+    let mut input = Vec::new(rt.alloc());
+    let _ = rt.stdin().read_to_end(&mut input);
+    show_pairs(&rt, &input);
 }

@@ -1,5 +1,5 @@
 -- Bytes handed to one write after another, from the front on. Assumes nothing.
-use mathlib.Core.Path.{◌≡◌, ◌∙◌, ap, subst, sym}
+use mathlib.Core.Path.{◌≡◌, ◌∙◌, ap}
 use mathlib.Core.Bool.{Bool, true, false}
 use mathlib.Core.List.{List}
 use Prim.Native.Nat.{ℕ, ◌+◌, ◌-◌, ◌≤◌, ◌<◌}

@@ -2,7 +2,7 @@
 -- nothing.
 use mathlib.Core.List.{List, ◌++◌}
 use mathlib.Core.Path.{◌≡◌, sym, subst}
-use mathlib.Core.Logic.{◌⊎◌, inl, inr, ⊎_elim}
+use mathlib.Core.Logic.{inl, inr, ⊎_elim}
 use Prim.Native.Nat.{ℕ}
 use Rattle.player.specs.Card.{start_world, prints, printed}
 use Rattle.player.specs.Shows.{Shows}

@@ -1,6 +1,6 @@
 -- What the program does between its reads and its writes, as it is computed: one turn, and a whole run. Definitions
 -- only. The same of a whole run with no word on how a card is played is in Program.antt.
-use Rattle.std.specs.Prelude.{List, [], ◌++◌, Bool, true, false, ◌≡◌, ◌⊎◌, ℕ, ◌+◌, ◌<◌, ◌≤◌, length, take, drop}
+use Rattle.std.specs.Prelude.{List, [], ◌++◌, Bool, true, false, ◌≡◌, ◌⊎◌, ℕ, ◌<◌, ◌≤◌, length, take}
 use Rattle.player.specs.Card.{World, start_world, prints}
 use Rattle.cards.specs.Says.{is_over}
 use Rattle.feeder.specs.Feed.{Goes, fed_world, left_over}

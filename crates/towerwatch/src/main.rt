@@ -14,6 +14,7 @@ ghost use Rattle.towerwatch.specs.Program.{Program};
 ghost use Rattle.towerwatch.specs.Turns.{Handed};
 
 use player::Watch;
+use std::io::{Stdin, Stdout};
 
 // The bytes that the output has room for.
 const OUTPUT: usize = 65536;
@@ -51,13 +52,13 @@ struct Total {
 
 // Hands over the first n bytes, in as many writes as it takes (SPEC 11.3), and answers whether all were taken. So many
 // bytes of the output came before.
-fn hand(out: &[u8], n: usize, at: u64) -> bool
+fn hand(stdout: Stdout, out: &[u8], n: usize, at: u64) -> bool
     requires { n ≤ length out.now }
     ensures { Handed at (take n out.now) result }
 {
     let mut from = 0;
     while from < n {
-        let k = streams::write(out, from, n, at);
+        let k = streams::write(stdout, out, from, n, at);
         if k == 0 {
             return false;
         }
@@ -99,13 +100,21 @@ fn reads_on(stand: Stand) -> bool
 
 // The end of the input, where no byte came in and the first `to` bytes of buf are left over: what they print, whatever
 // the lent arrays hold. `at` bytes of the output came before.
-fn end(watch: Watch, buf: &[u8], to: usize, got: usize, out: &mut [u8], at: u64) -> Next
+fn end(
+    stdout: Stdout,
+    watch: Watch,
+    buf: &[u8],
+    to: usize,
+    got: usize,
+    out: &mut [u8],
+    at: u64,
+) -> Next
     requires { Ready buf.now to out.old × (got ≡ 0) }
     ensures { (result.to ≡ 0) × ((ps t c v : List ℕ) (w : World) (s : List ℕ) →
         Takes at [] (world_of watch ps t c v) (take to buf.now) result w s out.new) }
 {
     let last = feeder::finish(watch, buf, to, out);
-    let done = hand(out, last, at);
+    let done = hand(stdout, out, last, at);
     let stand = ended(done);
     Next {
         watch: watch,
@@ -119,6 +128,7 @@ fn end(watch: Watch, buf: &[u8], to: usize, got: usize, out: &mut [u8], at: u64)
 // A piece of `got` bytes, after the first `to` bytes of buf, which were left over: what it prints. `at` bytes of the
 // output came before.
 fn piece(
+    stdout: Stdout,
     watch: Watch,
     buf: &mut [u8],
     to: usize,
@@ -140,7 +150,7 @@ fn piece(
     let filled = f.filled;
     let next = f.watch;
     let rest = f.rest;
-    let done = hand(out, filled, at);
+    let done = hand(stdout, out, filled, at);
     let over = player::is_over(next);
     let stand = going(done, over);
     Next {
@@ -154,6 +164,8 @@ fn piece(
 
 // One read, and what it prints. `before` bytes of the input came before, and `at` bytes of the output.
 fn once(
+    stdin: Stdin,
+    stdout: Stdout,
     watch: Watch,
     buf: &mut [u8],
     to: usize,
@@ -171,17 +183,19 @@ fn once(
         (world_of watch parameters.old table.old state.old values.old) (take to buf.old) result
         (world_of result.watch parameters.new table.new state.new values.new) (take result.to buf.new) out.new }
 {
-    let got = streams::read(buf, to, before);
+    let got = streams::read(stdin, buf, to, before);
     if got == 0 {
-        return end(watch, buf, to, got, out, at);
+        return end(stdout, watch, buf, to, got, out, at);
     }
     piece(
-        watch, buf, to, got, parameters, table, state, values, out, at,
+        stdout, watch, buf, to, got, parameters, table, state, values, out, at,
     )
 }
 
 // Reads until the input ends, the card is over or a write fails. `ps` are the parameters.
 fn run(
+    stdin: Stdin,
+    stdout: Stdout,
     buf: &mut [u8],
     ps: &mut [u32; limits::PARAMETERS],
     table: &mut [u32],
@@ -199,7 +213,9 @@ fn run(
     let mut got = 0u64;
     let mut shown = 0u64;
     loop {
-        let n = once(watch, buf, to, ps, table, state, values, out, got, shown);
+        let n = once(
+            stdin, stdout, watch, buf, to, ps, table, state, values, out, got, shown,
+        );
         got += n.got as u64;
         shown += n.shown as u64;
         let stand = n.stand;
@@ -214,7 +230,7 @@ fn run(
 
 // The table has room for the largest rule, state and values for its equations; out is longer than buf by a refusal. The
 // exit status is 0, however the run ended (SPEC 11.3).
-fn main() {
+fn main(rt: HostRuntime) {
     let mut buf = [0u8; 32768];
     let mut out = [0u8; OUTPUT];
     let mut parameters = [0u32; limits::PARAMETERS];
@@ -222,6 +238,8 @@ fn main() {
     let mut state = [0u32; limits::EQUATIONS];
     let mut values = [0u32; limits::EQUATIONS];
     run(
+        rt.stdin(),
+        rt.stdout(),
         &mut buf,
         &mut parameters,
         &mut table,
