@@ -1,4 +1,4 @@
-// Links the archive that `rt staticlib firmware` writes.
+// Links the archive that `tools/build` writes.
 fn main() {
     let root = std::env::var("CARGO_MANIFEST_DIR").unwrap();
     println!("cargo:rustc-link-search=native={root}/../target/staticlib");
