@@ -51,8 +51,10 @@ after-space c =
 -- A word too many.
 word-too-many : tie.Need-returns-then-count-eq-WORDS invariant-loop decreases-loop
 word-too-many c =
+    let at-loop-i = c.before.before.before.before.before in
+    let else-wrong_size = at-loop-i.before in
     let refusal = too_many c.loop-i.invariant (inside c.before.before) c.class-c.result c.class-c.ensures in
-    refuses _ _ _ _ 4 (by-words c.before.before.before.before.before.before ∙ refusal c.if-c-eq-SPACE.false c.if-count-eq-WORDS.true)
+    refuses _ _ _ _ 4 (by-words else-wrong_size ∙ refusal c.if-c-eq-SPACE.false c.if-count-eq-WORDS.true)
 
 -- What reading a word asks.
 begun : tie.Need-word_at-token-requires invariant-loop decreases-loop
@@ -67,7 +69,9 @@ room c =
 
 less-after-word : tie.Need-loop-i-smaller invariant-loop decreases-loop
 less-after-word c =
-    let some = width_some (text c.before.before.before.before.before.before.before.before.before) c.loop-i.i _ (inside c.before.before.before.before.before) c.class-c.ensures in
+    let after-class-c = c.before.before.before.before.before in
+    let else-wrong_size = after-class-c.before.before.before.before in
+    let some = width_some (text else-wrong_size) c.loop-i.i _ (inside c.before.before.before.before.before) c.class-c.ensures in
     omega (arith, some, inside c.before.before.before.before.before, c.word_at-token.ensures.1)
 
 after-word : tie.Need-loop-i-preserved invariant-loop decreases-loop
@@ -80,10 +84,12 @@ after-word c =
 -- A word that cannot be made.
 bad-word : tie.Need-returns-in-Bad invariant-loop decreases-loop
 bad-word c =
+    let after-class-c = c.before.before.before.before.before in
+    let else-wrong_size = after-class-c.before.before.before.before in
     let why = sym c.word_at-token.ensures.0 ∙ c.in-Bad.is in
     let refusal = breaks c.loop-i.invariant (inside c.before.before.before.before.before) c.class-c.result c.class-c.ensures _
     c.awaits_velocity.ensures c.if-c-eq-SPACE.false c.if-count-eq-WORDS.false _ why in
-    refuses _ _ _ _ _ (by-words c.before.before.before.before.before.before.before.before.before ∙ refusal)
+    refuses _ _ _ _ _ (by-words else-wrong_size ∙ refusal)
 
 pub split_text_spec : {M : Type 1} → statement M
 split_text_spec =

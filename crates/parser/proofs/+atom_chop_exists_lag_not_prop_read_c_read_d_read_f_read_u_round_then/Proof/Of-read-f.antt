@@ -92,7 +92,9 @@ module _ (t : ℕ) where
 
   a-then : Here lts.Need-returns-then-k-eq-THEN
   a-then c =
-      Steps.F-then (d-tree c.before.before.before.before.before.before.before) c.if-inside.false (then-word c.before.before.before.before) c.then.ensures
+      let after-number_at-k = c.before.before.before.before.before in
+      let in-At = after-number_at-k.before.before in
+      Steps.F-then (d-tree in-At) c.if-inside.false (then-word c.before.before.before.before) c.then.ensures
 
   -- or `chop` and an F.
   chop-word : (c : Here lts.Then-k-eq-CHOP) → word (text c.before.before.before.before) (next c.before.before.before.before) ≡ Word.CHOP
@@ -111,7 +113,9 @@ module _ (t : ℕ) where
 
   a-chop : Here lts.Need-returns-then-k-eq-CHOP
   a-chop c =
-      Steps.F-chop (d-tree c.before.before.before.before.before.before.before.before) c.if-inside.false (chop-word c.before.before.before.before)
+      let else-k-eq-THEN = c.before.before.before.before.before in
+      let in-At = else-k-eq-THEN.before.before.before in
+      Steps.F-chop (d-tree in-At) c.if-inside.false (chop-word c.before.before.before.before)
       c.chop.ensures
 
   -- Neither: the D alone.
