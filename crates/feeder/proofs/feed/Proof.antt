@@ -22,7 +22,8 @@ invariant-loop bytes ps₀ table₀ state₀ values₀ out₀ w₀ used₀ at₀
     × (length table ≡ length table₀) × (length state ≡ length state₀) × (length values ≡ length values₀)
 
 abbrev decreases-loop : tie.decreases-loop-out
-decreases-loop bytes ps₀ table₀ state₀ values₀ out₀ w₀ used₀ at₀ ps table state values out w used at = length bytes - used
+decreases-loop bytes ps₀ table₀ state₀ values₀ out₀ w₀ used₀ at₀ ps table state values out w used at = length bytes
+    - used
 
 -- ---- after the tick lines that `feed_ticks` runs
 
@@ -122,7 +123,13 @@ start_of c =
     let after-slice_known-in-loop-out-3-1 = c.before.before.before.before.before in
     let after-state-1 = after-slice_known-in-loop-out-3-1.before.before.before.before.before in
     let after-feed_ticks-f = after-state-1.before in
-    omega (arith, c.line_length.ensures, c.if-to-bytes.true, length-drop (used after-feed_ticks-f) (bytes after-feed_ticks-f))
+    omega (
+      arith,
+      c.line_length.ensures,
+      c.if-to-bytes.true,
+      length-drop (used after-feed_ticks-f)
+          (bytes after-feed_ticks-f),
+    )
 
 feed-tail-requires : tie.Need-feed_tail-requires invariant-loop decreases-loop
 feed-tail-requires c κs =
@@ -156,7 +163,11 @@ on-line-requires c κs =
     let after-line_length = c.before.before.before.before.before in
     let after-out-1 = after-line_length.before.before.before.before.before in
     let after-feed_ticks-f = after-out-1.before.before.before.before.before in
-    record { ends = ap (λ (n : ℕ). used after-feed_ticks-f + n) c.line_length.ensures; whole = ended c.before.before.before.before }
+    record {
+      ends = ap (λ (n : ℕ). used after-feed_ticks-f + n) c.line_length.ensures;
+      whole = ended
+          c.before.before.before.before;
+    }
 
 room : (c : tie.After-put-arg-1 invariant-loop decreases-loop) →
     let after-state-in-loop-out-1 = c.before.before.before.before.before in
@@ -230,9 +241,15 @@ feed_spec =
     (λ c κs. search rules)
     add-to
     feed-tail-requires
-    (λ c. let after-line_length = c.before.before.before.before.before in let after-out-1 = after-line_length.before.before.before.before.before in let after-feed_ticks-f = after-out-1.before.before.before.before.before in (lengths after-feed_ticks-f).0)
-    (λ c. let after-line_length = c.before.before.before.before.before in let after-out-1 = after-line_length.before.before.before.before.before in let after-feed_ticks-f = after-out-1.before.before.before.before.before in (lengths after-feed_ticks-f).1)
-    (λ c. let after-line_length = c.before.before.before.before.before in let after-out-1 = after-line_length.before.before.before.before.before in let after-feed_ticks-f = after-out-1.before.before.before.before.before in (lengths after-feed_ticks-f).2)
+    (λ c. let after-line_length = c.before.before.before.before.before in
+    let after-out-1 = after-line_length.before.before.before.before.before in
+    let after-feed_ticks-f = after-out-1.before.before.before.before.before in (lengths after-feed_ticks-f).0)
+    (λ c. let after-line_length = c.before.before.before.before.before in
+    let after-out-1 = after-line_length.before.before.before.before.before in
+    let after-feed_ticks-f = after-out-1.before.before.before.before.before in (lengths after-feed_ticks-f).1)
+    (λ c. let after-line_length = c.before.before.before.before.before in
+    let after-out-1 = after-line_length.before.before.before.before.before in
+    let after-feed_ticks-f = after-out-1.before.before.before.before.before in (lengths after-feed_ticks-f).2)
     out-length
     returns
     on-line-requires

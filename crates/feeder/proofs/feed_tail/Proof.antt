@@ -43,7 +43,8 @@ over-long c =
     let args = c.args in
     let h = c.if-to-used-lt-LINE.false in (
       c.fed_to-2.ensures
-          ∙ ap₂ (λ (w : Watch) (n : ℕ). fed_to w args.to n) (ap (λ (a : Answered). a.watch) c.end_over_long-over.ensures)
+          ∙ ap₂ (λ (w : Watch) (n : ℕ). fed_to w args.to n)
+          (ap (λ (a : Answered). a.watch) c.end_over_long-over.ensures)
           (c.put-past.ensures.0 ∙ ap (λ (l : List ℕ). args.at + length l) (says after-end_over_long-over))
           ∙ sym (tail-long args.w args.used args.to args.at h),
       c.put-past.ensures.1

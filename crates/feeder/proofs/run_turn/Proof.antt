@@ -75,7 +75,9 @@ run_turn_spec =
     slice-aggregate-feed
     feed-requires
     shift-requires
-    (λ c. let after-slice_known-9-1 = c.before.before.before.before.before in let after-state-1 = after-slice_known-9-1.before.before.before.before.before in let after-feed-f = after-state-1.before.before.before in used-in after-feed-f)
+    (λ c. let after-slice_known-9-1 = c.before.before.before.before.before in
+    let after-state-1 = after-slice_known-9-1.before.before.before.before.before in
+    let after-feed-f = after-state-1.before.before.before in used-in after-feed-f)
     (λ c. search rules)
     (λ c. search rules)
     (λ c. search rules)

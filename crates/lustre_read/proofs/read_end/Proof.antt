@@ -32,7 +32,8 @@ is-form : (c : tie.At-loop-f invariant-loop decreases-loop) → form c ≡ form_
 unfolding form_at
 is-form c = ap (λ (l : List Form). get_or l c.loop-f.f no_form) c.all_forms-forms.ensures
 
-room : (c : tie.After-bytes-1 invariant-loop decreases-loop) → (form c.before.before.before.before).len ≤ length (form c.before.before.before.before).text
+room : (c : tie.After-bytes-1 invariant-loop decreases-loop)
+    → (form c.before.before.before.before).len ≤ length (form c.before.before.before.before).text
 room c = rw (is-form c.before.before.before.before) (form-room c.loop-f.f c.loop-f-test.true)
 
 slice-aggregate-scan-form : tie.Need-slice_bounds-scan_form-end invariant-loop decreases-loop

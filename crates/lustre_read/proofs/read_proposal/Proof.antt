@@ -93,7 +93,8 @@ all_found c =
     let after-slice_known-2-1 = in-Found-tail.before.before.before.before.before in
     let in-Found = after-slice_known-2-1.before.before.before.before in
     proposes (opened in-Found) c.read_lines-lines.ensures (equation_of c.only-2.result)
-    (equation_of c.in-Found-tail.last) c.in-Found-tail.end (closed c.before.before.before.before.before) c.if-end-text.false c.if-last-n.false
+    (equation_of c.in-Found-tail.last) c.in-Found-tail.end (closed c.before.before.before.before.before)
+    c.if-end-text.false c.if-last-n.false
     c.if-last-n-2.false
 
 pub read_proposal_spec : {M : Type 1} → statement M

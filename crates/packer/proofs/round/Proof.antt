@@ -63,7 +63,8 @@ walk-requires c κs =
       key = key.ensures;
       quick = so_far.quick;
       chain =
-          chain-of args.table.now (bucket_of args.n) args.n (number_at args.before.now) (buffers c.before.before.before.before) _ _
+          chain-of args.table.now (bucket_of args.n) args.n (number_at args.before.now)
+          (buffers c.before.before.before.before) _ _
           so_far.buckets bucket.ensures.1 key.ensures bucket.ensures.0;
     }
 
@@ -107,7 +108,8 @@ round_spec =
     (λ c. omega (arith, (known c.before.before.before.before.before).next))
     (λ c κs. omega (arith, c.requires.0.few))
     (λ c. search rules)
-    (λ c. let in-loop-i = c.before.before.before.before.before in let at-loop-i = in-loop-i.before in omega (arith, (known at-loop-i).heads))
+    (λ c. let in-loop-i = c.before.before.before.before.before in let at-loop-i = in-loop-i.before in
+    omega (arith, (known at-loop-i).heads))
     (λ c. omega arith)
     (λ c. omega arith)
     loop-again

@@ -80,7 +80,8 @@ not-literal c =
     let else-number_at-ne-VEL = after-number_at-o.before in
     let test = c.is_velocity in
     let no = sym test.ensures ∙ c.if-not-is_velocity.true in
-    no-literal (is-vel else-number_at-ne-VEL) (op-word c.before.before) (ap is_velocity (sym c.number_at-n.ensures) ∙ no)
+    no-literal (is-vel else-number_at-ne-VEL) (op-word c.before.before)
+    (ap is_velocity (sym c.number_at-n.ensures) ∙ no)
 
 -- The record.
 sub-op : tie.Need-overflow_sub-o
@@ -102,7 +103,8 @@ all_three c =
     let else-number_at-ne-VEL = else-not-is_op.before.before.before.before in
     let o = c.number_at-o in
     let n = c.number_at-n in
-    a_test (is-vel else-number_at-ne-VEL) (op-word else-not-is_op) (ap is_velocity (sym n.ensures) ∙ is-literal c.before.before.before.before.before)
+    a_test (is-vel else-number_at-ne-VEL) (op-word else-not-is_op)
+    (ap is_velocity (sym n.ensures) ∙ is-literal c.before.before.before.before.before)
     (sym (op-number o.result (is-op else-not-is_op)) ∙ ap (λ (x : ℕ). op_number (op_word x)) o.ensures)
     (ap velocity_word n.ensures) c.push-end.ensures c.leaf_facts.ensures
 

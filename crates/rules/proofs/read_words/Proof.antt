@@ -51,13 +51,15 @@ fragment c = beyond-told _ (within c.before.before.before) c.limits_of-limits.en
 part-only : tie.Need-returns-then-next-ws
 part-only c =
     let ws = text c.before.before.before.before in
-    laid-refused 6 (tree-words ws (within c.before.before.before.before) (part-tree ws (tree c.before).is c.if-next-ws.true))
+    laid-refused 6 (tree-words ws (within c.before.before.before.before)
+    (part-tree ws (tree c.before).is c.if-next-ws.true))
 
 -- one of all, outside the fragment;
 outside : tie.Need-returns-then-beyond
 outside c =
     laid-refused 7
-    (beyond-words (tree c.before.before) (omega arith) (within c.before.before.before.before.before) c.if-next-ws.false (fragment c.before.before ∙ c.if-beyond.true))
+    (beyond-words (tree c.before.before) (omega arith) (within c.before.before.before.before.before) c.if-next-ws.false
+    (fragment c.before.before ∙ c.if-beyond.true))
 
 -- inside it, without and with its leads.
 no_lead : tie.Need-returns-then-not-leads

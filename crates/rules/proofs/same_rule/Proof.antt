@@ -61,14 +61,16 @@ told a ps b qs r e = (e, same_answer standard_context a ps b qs r e)
 refuses-first : tie.Need-returns-in_default
 refuses-first c =
     let args = c.args in
-    let x = refused_as (first-laid c.before.before.before) c.in_default.field-0 _ c.in_default.is c.records_refusal.ensures in
+    let x = refused_as (first-laid c.before.before.before) c.in_default.field-0 _ c.in_default.is
+    c.records_refusal.ensures in
     told args.first.now args.ps.now args.second.now args.qs.now _
     (sym (ap (λ (o : Outcome). same_of args.ps.now args.qs.now o (other-outcome c.before.before.before)) x))
 
 refuses-second : tie.Need-returns-in_default-others
 refuses-second c =
     let args = c.args in
-    let y = refused_as (second-laid c.before.before.before) c.in_default-others.field-0 _ c.in_default-others.is c.records_refusal-in_default-others.ensures in
+    let y = refused_as (second-laid c.before.before.before) c.in_default-others.field-0 _ c.in_default-others.is
+    c.records_refusal-in_default-others.ensures in
     told args.first.now args.ps.now args.second.now args.qs.now _
     (sym (ap₂ (same_of args.ps.now args.qs.now) (first-tree c.before.before.before.before.before).is y))
 
@@ -123,7 +125,8 @@ one-tree : (c : tie.After-values_agree) (w : Bool) →
     let after-read_side-records = in-Rule.before.before in
     c.values_agree.result ≡ w → (
     let args = c.args in
-    cond w Yes No ≡ same_of args.ps.now args.qs.now (outcome after-read_side-records) (other-outcome after-read_side-records))
+    cond w Yes No ≡ same_of args.ps.now args.qs.now (outcome after-read_side-records)
+    (other-outcome after-read_side-records))
 one-tree c w e =
     let after-arena-3-1 = c.before.before.before.before.before in
     let in-Rule-others = after-arena-3-1.before in

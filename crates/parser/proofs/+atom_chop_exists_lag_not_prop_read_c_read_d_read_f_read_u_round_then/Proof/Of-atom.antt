@@ -194,7 +194,8 @@ module _ (t : ℕ) where
   count-p c =
       let in-At-prop = c.before.before.before.before.before in
       let then-is_count = in-At-prop.before.before.before.before.before in
-      Steps.A-count (count_word_lem then-is_count) (count-tree c.before.before.before.before.before) c.number_at-k.ensures
+      Steps.A-count (count_word_lem then-is_count) (count-tree c.before.before.before.before.before)
+      c.number_at-k.ensures
       c.is_lead_count.ensures c.comparison-then-is_count.ensures
 
   -- `lag`.

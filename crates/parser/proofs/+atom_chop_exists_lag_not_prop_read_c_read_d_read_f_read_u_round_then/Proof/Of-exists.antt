@@ -114,7 +114,8 @@ module _ (t : ℕ) where
       let in-At = c.before.before.before.before.before in
       let else-not-is_signal = in-At.before.before.before.before.before in
       let after-slice_known-1 = else-not-is_signal.before.before.before in
-      Steps.U-exists refl (exists-word after-slice_known-1) (signal-word else-not-is_signal) (tree c.before.before.before.before.before)
+      Steps.U-exists refl (exists-word after-slice_known-1) (signal-word else-not-is_signal)
+      (tree c.before.before.before.before.before)
       c.number_at-w.ensures c.push-end.ensures
       c.exists_facts.ensures
 

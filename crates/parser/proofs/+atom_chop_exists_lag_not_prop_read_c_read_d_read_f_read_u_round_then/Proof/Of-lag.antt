@@ -127,7 +127,8 @@ module _ (t : ℕ) where
   -- or there is one,
   q-tree : (c : Here lts.In-At-prop) →
       Gave (go_b Word.COMMA Word.SQUARE-END) c.args.ws.now (c.in-At.j + 1)
-      c.push-run.new.arena c.push-run.result (c.in-At-prop.m, (c.in-At-prop.e, (c.in-At-prop.field-2, tt))) c.prop-2.new.arena
+      c.push-run.new.arena c.push-run.result (c.in-At-prop.m, (c.in-At-prop.e, (c.in-At-prop.field-2, tt)))
+      c.prop-2.new.arena
   q-tree c = took c.prop-2.ensures (λ a m h. span (h (omega arith))) c.in-At-prop.is
 
   -- and room behind it.

@@ -34,7 +34,8 @@ abbrev μ-loop : lts.decreases-loop-arena
 
 module _ (t : ℕ) where
   -- A place or a need of the member, where its measure is t.
-  abbrev Here : (lts.Claims → In 2 ps → Out 2 ps r → lts.invariant-loop-arena → lts.decreases-loop-arena → Type 0) → Type 0
+  abbrev Here : (lts.Claims → In 2 ps → Out 2 ps r → lts.invariant-loop-arena → lts.decreases-loop-arena → Type 0)
+      → Type 0
   Here place = place (calls-read-d t) (at ps μ-read-d reads.Pre t) reads.Post Inv-loop μ-loop
 
   -- The first part, if there is one,
@@ -131,7 +132,8 @@ module _ (t : ℕ) where
       let in-At-read_c = c.before.before.before.before.before in
       let in-loop-arena = in-At-read_c.before.before.before.before.before in
       λ o h.
-      Chains.more (chain-D c.args.inside) (c.loop-arena.invariant o h) (join-word in-loop-arena) (more c.before.before.before.before.before)
+      Chains.more (chain-D c.args.inside) (c.loop-arena.invariant o h) (join-word in-loop-arena)
+      (more c.before.before.before.before.before)
       c.push-t.ensures c.join_facts-facts.ensures
 
   -- No part more.

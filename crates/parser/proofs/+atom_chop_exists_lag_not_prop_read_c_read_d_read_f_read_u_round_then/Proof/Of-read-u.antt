@@ -72,7 +72,8 @@ module _ (t : ℕ) where
 
   a-leaf : Here lts.Need-returns-then-inside
   a-leaf c =
-      Steps.U-leaf (no-not c.before.before.before.before.before) (no-round c.before.before.before.before.before) c.if-inside.true c.leaf.ensures
+      Steps.U-leaf (no-not c.before.before.before.before.before) (no-round c.before.before.before.before.before)
+      c.if-inside.true c.leaf.ensures
 
   -- Outside them: `exists`,
   exists-requires : Here lts.Need-exists-requires
