@@ -15,17 +15,18 @@ use Rattle.scheme.proofs.Formed.{start-stands, whole-stands, result-before}
 use Rattle.agreement.specs.Agreement.{Closing}
 
 module _ (cap velocities : ℕ) (low : cap ≤ literal_count) (m : ℕ) (few : m ≤ signal_count) (f : Formula)
-    (bound : bounded cap velocities (raw f) ≡ true) (below : (j : ℕ) → named_by f j ≡ true → j < m) (junk : List ℕ) where
-  pub closing-over : Closing (numbers_of (observer_over m f) ++ junk) (length (observer_over m f))
-  closing-over =
-      let rows = whole-stands cap velocities low m few f bound below junk in
-      record {
-        start = start-stands cap velocities low m few f bound below junk;
-        memory = rw (memory-last m f, started-last m f) rows.0;
-        started = rw (memory-last m f, started-last m f) rows.1.0;
-        verdict = (
-          (body_block m f).out,
-          rw (memory-last m f) (result-before cap velocities low m few f bound below junk),
-          rw (started-last m f, verdict-last m f) rows.1.1.0,
-        );
-      }
+    (bound : bounded cap velocities (raw f) ≡ true) (below : (j : ℕ) → named_by f j ≡ true → j < m) (junk : List ℕ)
+  where
+    pub closing-over : Closing (numbers_of (observer_over m f) ++ junk) (length (observer_over m f))
+    closing-over =
+        let rows = whole-stands cap velocities low m few f bound below junk in
+        record {
+          start = start-stands cap velocities low m few f bound below junk;
+          memory = rw (memory-last m f, started-last m f) rows.0;
+          started = rw (memory-last m f, started-last m f) rows.1.0;
+          verdict = (
+            (body_block m f).out,
+            rw (memory-last m f) (result-before cap velocities low m few f bound below junk),
+            rw (started-last m f, verdict-last m f) rows.1.1.0,
+          );
+        }

@@ -71,7 +71,8 @@ module _ (cap velocities : ℕ) (trace : Trace) (flow : ℕ → ℕ → ℕ) whe
         (led : leads (raw f) ≡ true) (bound : bounded cap velocities (raw f) ≡ true)
         (below : (j : ℕ) → named_by f j ≡ true → j < m) where
       -- The flow of each named signal is the signal.
-      signals : (j : ℕ) → named_by f j ≡ true → (k : ℕ) → on flow (flow_among (named_by f) m j) k ≡ signal_at (trace k) j
+      signals : (j : ℕ) → named_by f j ≡ true → (k : ℕ) → on flow (flow_among (named_by f) m j) k
+          ≡ signal_at (trace k) j
       unfolding kind_of
       signals j e k =
           let e' : named_by f (0 ⊕ j) ≡ true = rw zero-⊕ e in

@@ -1,6 +1,6 @@
 -- What a line of a card says (`line_says`), the line that comes next after it (`stage_after`), and what the end of the
--- input says (`end_says`): the card as lines, with no table, no state and no step. A rule's own refusal and a step's are
--- the player's. Definitions only.
+-- input says (`end_says`): the card as lines, with no table, no state and no step. A rule's own refusal and a step's
+-- are the player's. Definitions only.
 use Rattle.std.specs.Prelude.{Bool, true, false, cond, List, [], ◌∷◌, ℕ, ◌-◌, eqb}
 use Rattle.lists.specs.Same.{same}
 use Rattle.cards.specs.Heads.{editions, edition_line, no_edition, rule_head, after_head, head_refusal, tick_refusal}

@@ -12,7 +12,8 @@ use Rattle.formulas.specs.Formula.Prop.{constant, signal, velocity, neg_p, and_p
 use Rattle.formulas.specs.Formula.Test.{begin, end, point, held, kept}
 use Rattle.formulas.specs.Formula.Count.{sum, age}
 use Rattle.formulas.specs.Formula.Formula.{test, len, count, lag, neg, and, or, then}
-use Rattle.formulas.specs.Arena.{NOT, AND, OR, TEST, COUNT, RUN, FINE, ALWAYS, LEAD-END, THEN, test_number, count_number}
+use Rattle.formulas.specs.Arena.{NOT, AND, OR, TEST, COUNT, RUN, FINE, ALWAYS, LEAD-END, THEN, test_number}
+use Rattle.formulas.specs.Arena.{count_number}
 use Rattle.formulas.specs.Arena.{num_kind, num_value, row, flat}
 use Rattle.formulas.proofs.Formulas.{raw_p, raw}
 use Rattle.tables.specs.Table.{Equation}

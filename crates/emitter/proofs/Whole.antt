@@ -147,5 +147,6 @@ emitted {arena} {t} {named} {t₁} {ps} {u} {t₂} {o} {t₃} {r} short e-named 
         ∙ ap (after-tests arena (tests_in arena)) (front f e)
         ∙ ap₂
         (λ (l : List ℕ) (ts : List Equation). after-tests l ts
-        (header_of (with_equations t 0 (head f signal_count t)) (flows f signal_count t) (tests_place f signal_count t)))
+        (header_of (with_equations t 0 (head f signal_count t)) (flows f signal_count t)
+        (tests_place f signal_count t)))
         e (ap tests_in e ∙ tests-are f)

@@ -174,7 +174,8 @@ module _ (cap velocities : ℕ) (t : List ℕ) (n : ℕ) (passed : checked veloc
         (steps cap velocities t n z.state calls)) (sym (made velocities t n old passed room))
         (ran-from (trace_of d ks) calls 0 (follows_itself d ks))
 
-    pub calls-decide : (calls : List Call) → CallsDecide cap velocities n calls (from_fresh cap velocities t n old calls)
+    pub calls-decide : (calls : List Call) → CallsDecide cap velocities n calls
+        (from_fresh cap velocities t n old calls)
     unfolding state_at
     calls-decide calls =
         let trace : Trace = λ k. tick_of 0 0 0 [] in

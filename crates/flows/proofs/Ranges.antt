@@ -50,7 +50,8 @@ pub flow-below : (t : List ℕ) (m : ℕ) (s : Sort) (x : ℕ) → is_flow t m s
 unfolding is_flow
 flow-below t m s x e = ltb-true x m (and-true (ltb x m) _ e).0
 
-flow-sort : (t : List ℕ) (m : ℕ) (s : Sort) (x : ℕ) → is_flow t m s x ≡ true → same_sort (sort_of (kind_at t x)) s ≡ true
+flow-sort : (t : List ℕ) (m : ℕ) (s : Sort) (x : ℕ) → is_flow t m s x ≡ true → same_sort (sort_of (kind_at t x)) s
+    ≡ true
 unfolding is_flow
 flow-sort t m s x e = (and-true (ltb x m) _ e).1
 

@@ -65,26 +65,30 @@ unfolding checked length_fits equations_fit closes all shape_fits shape_of kind_
 check-rows = refl
 
 fresh-row : (freshened velocity_count table 12 old).state ≡ fresh
-unfolding freshened fresh_checked length_fits equations_fit closes all shape_fits shape_of kind_of operand_fits is_flow same_sort
+unfolding freshened fresh_checked length_fits equations_fit closes all shape_fits shape_of kind_of operand_fits is_flow
+    same_sort
     memories_set is_memory initial
 fresh-row = refl
 
 fresh-short : fresh_reply (freshened velocity_count table 12 (replicate 11 9)).answer ≡ refused 12
-unfolding freshened fresh_checked length_fits equations_fit closes all shape_fits shape_of kind_of operand_fits is_flow same_sort
+unfolding freshened fresh_checked length_fits equations_fit closes all shape_fits shape_of kind_of operand_fits is_flow
+    same_sort
 fresh-short = refl
 
 -- One equation alone, and a count last but one: 11, before all that a fresh state and a step refuse by 12 and 13.
 fresh-unclosed : map fresh_reply
     ((freshened velocity_count table 1 []).answer ∷ (freshened velocity_count table 11 []).answer ∷ [])
     ≡ refused 11 ∷ refused 11 ∷ []
-unfolding freshened fresh_checked length_fits equations_fit closes all shape_fits shape_of kind_of operand_fits is_flow same_sort
+unfolding freshened fresh_checked length_fits equations_fit closes all shape_fits shape_of kind_of operand_fits is_flow
+    same_sort
 fresh-unclosed = refl
 
 step-unclosed : map step_reply
     ((stepped standard_cap velocity_count table 1 [] [] (tick 1 32 1000000)).answer
     ∷ (stepped standard_cap velocity_count table 11 [] [] (tick 1 32 1000000)).answer ∷ [])
     ≡ refused 11 ∷ refused 11 ∷ []
-unfolding stepped step_checked length_fits equations_fit closes all shape_fits shape_of kind_of operand_fits is_flow same_sort
+unfolding stepped step_checked length_fits equations_fit closes all shape_fits shape_of kind_of operand_fits is_flow
+    same_sort
 step-unclosed = refl
 
 -- Three ticks, with refused calls among them: too few values (SPEC 7.12), and too high a parameter (SPEC 7.13). The
@@ -92,7 +96,8 @@ step-unclosed = refl
 step-rows : told
     (call 1 32 1 12 ∷ call 1 32 1 11 ∷ call 0 32 1 13 ∷ call 0 0 1000000 12 ∷ call 0 0 1 12 ∷ [])
     ≡ gives 2 ∷ refused 12 ∷ gives 0 ∷ refused 13 ∷ gives 0 ∷ []
-unfolding steps stepped step_checked length_fits equations_fit closes all shape_fits shape_of kind_of operand_fits is_flow
+unfolding steps stepped step_checked length_fits equations_fit closes all shape_fits shape_of kind_of operand_fits
+    is_flow
     same_sort memories_set is_memory after_tick answer_of flows value_of increased parameter_fits cell_fits in_range
 step-rows = refl
 
@@ -101,7 +106,8 @@ step_row : stepped standard_cap velocity_count table 12
     (replicate 6 9 ++ (1 ∷ 1 ∷ replicate 6 9)) (replicate 13 7) (tick 0 32 1)
     ≡ after_step (Verdict 0) (replicate 6 9 ++ (1 ∷ 2 ∷ replicate 6 9))
     (1 ∷ 0 ∷ 1 ∷ 0 ∷ 0 ∷ 1 ∷ 1 ∷ 1 ∷ 2 ∷ 2 ∷ 1 ∷ 0 ∷ 7 ∷ [])
-unfolding stepped step_checked length_fits equations_fit closes all shape_fits shape_of kind_of operand_fits is_flow same_sort
+unfolding stepped step_checked length_fits equations_fit closes all shape_fits shape_of kind_of operand_fits is_flow
+    same_sort
     memories_set is_memory after_tick answer_of flows value_of increased parameter_fits cell_fits in_range
 step_row = refl
 
@@ -110,7 +116,8 @@ falls-back : map step_reply
     (answered (steps standard_cap velocity_count (0 ∷ 5 ∷ 0 ∷ 0 ∷ 0 ∷ 6 ∷ 0 ∷ 0 ∷ []) 2 (replicate 2 9)
     (call 0 32 0 2 ∷ call 0 64 0 2 ∷ call 0 96 0 2 ∷ call 1 0 0 2 ∷ [])))
     ≡ gives 0 ∷ gives 2 ∷ gives 1 ∷ gives 2 ∷ []
-unfolding steps stepped step_checked length_fits equations_fit closes all shape_fits shape_of kind_of operand_fits is_flow
+unfolding steps stepped step_checked length_fits equations_fit closes all shape_fits shape_of kind_of operand_fits
+    is_flow
     same_sort memories_set is_memory after_tick answer_of flows value_of increased parameter_fits cell_fits in_range
 falls-back = refl
 
@@ -124,7 +131,8 @@ cell_row :
     (stepped standard_cap velocity_count table 12
     (replicate 7 1 ++ (1000001 ∷ replicate 4 0)) (replicate 12 7) (tick 0 0 1)).answer
     ≡ refused 14
-unfolding stepped step_checked length_fits equations_fit closes all shape_fits shape_of kind_of operand_fits is_flow same_sort
+unfolding stepped step_checked length_fits equations_fit closes all shape_fits shape_of kind_of operand_fits is_flow
+    same_sort
     parameter_fits cell_fits in_range is_memory
 cell_row = refl
 
@@ -144,7 +152,8 @@ flows_at v = (stepped standard_cap velocity_count strokes 7 (replicate 7 9) (rep
 comparison-rows : map flows_at (89 ∷ 90 ∷ 91 ∷ 0 ∷ 127 ∷ [])
     ≡ (1 ∷ 1 ∷ 0 ∷ 0 ∷ 0 ∷ 1 ∷ 0 ∷ []) ∷ (1 ∷ 0 ∷ 1 ∷ 0 ∷ 1 ∷ 1 ∷ 0 ∷ []) ∷ (0 ∷ 0 ∷ 0 ∷ 1 ∷ 1 ∷ 1 ∷ 0 ∷ [])
     ∷ (1 ∷ 1 ∷ 0 ∷ 0 ∷ 0 ∷ 1 ∷ 0 ∷ []) ∷ (0 ∷ 0 ∷ 0 ∷ 1 ∷ 1 ∷ 1 ∷ 1 ∷ []) ∷ []
-unfolding stepped step_checked length_fits equations_fit closes all shape_fits shape_of kind_of operand_fits is_flow same_sort
+unfolding stepped step_checked length_fits equations_fit closes all shape_fits shape_of kind_of operand_fits is_flow
+    same_sort
     memories_set is_memory after_tick answer_of flows value_of increased parameter_fits cell_fits in_range
 comparison-rows = refl
 
@@ -168,6 +177,7 @@ velocity-rows : (
     refusal_of 12 1 0 127 ∷ refusal_of 12 1 0 128 ∷ refusal_of 11 1 0 128 ∷ refusal_of 12 1000000 0 128
     ∷ refusal_of 12 1 1000001 128 ∷ [])
     ≡ gives 2 ∷ refused 19 ∷ refused 12 ∷ refused 13 ∷ refused 14 ∷ []
-unfolding stepped step_checked length_fits equations_fit closes all shape_fits shape_of kind_of operand_fits is_flow same_sort
+unfolding stepped step_checked length_fits equations_fit closes all shape_fits shape_of kind_of operand_fits is_flow
+    same_sort
     memories_set is_memory after_tick answer_of flows value_of increased parameter_fits cell_fits in_range
 velocity-rows = refl

@@ -47,7 +47,8 @@ module _ (cap : ℕ) (t : List ℕ) (n : ℕ) (old : List ℕ) (trace : Trace) w
   answer_at k = answer_of n (flow_at k)
 
 -- Flows that are the same answer the same.
-pub answer-same : (n : ℕ) (f g : ℕ → ℕ) → closing_count ≤ n → ((i : ℕ) → i < n → f i ≡ g i) → answer_of n f ≡ answer_of n g
+pub answer-same : (n : ℕ) (f g : ℕ → ℕ) → closing_count ≤ n → ((i : ℕ) → i < n → f i ≡ g i) → answer_of n f
+    ≡ answer_of n g
 unfolding answer_of
 answer-same n f g closed same = rw (same (started_of n) (omega arith), same (verdict_of n) (omega arith))
 
@@ -159,7 +160,8 @@ module _ (cap velocities : ℕ) (t : List ℕ) (n : ℕ) (trace : Trace) (fit : 
   cells_same zero i before l m = refl
   cells_same (suc k) i before l m =
       before _
-      (memory-operand velocities t n i (kind_at t i) (equation_at t i) m (all-at (equation_fits velocities t n) n fit i l))
+      (memory-operand velocities t n i (kind_at t i) (equation_at t i) m
+      (all-at (equation_fits velocities t n) n fit i l))
 
   -- So are the first m flows of tick k.
   tick-same : (k : ℕ) → Before k → (m i : ℕ) → i < m → i < n → f k i ≡ g k i

@@ -52,8 +52,8 @@ cells_fit cap t n state = all (cell_fits_at cap t state) n
 abbrev pub cell_test : ℕ → List ℕ → ℕ → List ℕ → Test
 cell_test cap t n state = test 14 (cells_fit cap t n state)
 
--- The test of refusal 19 (SPEC 7.19): the tick's velocity is below how many there are, which is `velocity_count` in that
--- clause.
+-- The test of refusal 19 (SPEC 7.19): the tick's velocity is below how many there are, which is `velocity_count` in
+-- that clause.
 abbrev pub velocity_test : ℕ → Tick → Test
 velocity_test velocities k = test 19 (ltb k.velocity velocities)
 

@@ -59,7 +59,8 @@ module _ (trace trace' : Trace) where
         ap₂ (λ (x : ℕ → Bool) (y : ℕ). compares o (streak x e (e - b)) y) (ats p)
         (value-alike n (named-right (names_parameter (raw_p p)) (num_names n) h) e)
     meaning-alike (lag p n q) h b e =
-        let numbers = named-left (num_names n) (names_parameter (raw_p q)) (named-right (names_parameter (raw_p p)) _ h) in
+        let numbers = named-left (num_names n) (names_parameter (raw_p q)) (named-right (names_parameter (raw_p p)) _ h)
+        in
         ap₂ (λ (x y : ℕ → Bool). lagged x (value n (trace e)) y b e) (ats p) (ats q)
         ∙ ap (λ (v : ℕ). lagged (at trace' p) v (at trace' q) b e) (value-alike n numbers e)
     meaning-alike (neg f) h b e = ap not (meaning-alike f h b e)

@@ -194,10 +194,12 @@ module _ (ws : List ℕ) where
   complete (f-one {l} {i} {j} {t} r) = λ n.
       F-at l i join-none (complete r n.no-and ∙ stop_d l t j n.no_or) (stop-join l _ n.no-then n.no-chop)
   complete (f-then {i} {m} {j} {a} {b} r e s) = λ n.
-      F-at false i join-then (complete r (λ x. omega arith) ∙ stop_d false a m (λ x. omega arith)) (ap (join_of false) e)
+      F-at false i join-then (complete r (λ x. omega arith) ∙ stop_d false a m (λ x. omega arith))
+      (ap (join_of false) e)
       ∙ then-on _ (complete s n)
   complete (f-chop {i} {m} {j} {a} {b} r e s) = λ n.
-      F-at false i join-chop (complete r (λ x. omega arith) ∙ stop_d false a m (λ x. omega arith)) (ap (join_of false) e)
+      F-at false i join-chop (complete r (λ x. omega arith) ∙ stop_d false a m (λ x. omega arith))
+      (ap (join_of false) e)
       ∙ then-on _ (complete s n)
   complete (d-one {l} {i} {j} {t} r) = λ n. read-eq ws (go_d l) i ∙ then-on _ (complete r ∙ stop_c l t j n)
   complete (d-or {l} {i} {m} {j} {a} {b} r e s) = λ n.

@@ -35,7 +35,8 @@ beyond-hits : (s : List ℕ) → beyond s ≡ hits hit s
 unfolding has_word
 beyond-hits [] = refl
 beyond-hits (w ∷ s) =
-    swap (eqb w CHOP) (eqb w EXISTS) (has_word CHOP s) (has_word EXISTS s) ∙ ap (λ (x : Bool). hit w || x) (beyond-hits s)
+    swap (eqb w CHOP) (eqb w EXISTS) (has_word CHOP s) (has_word EXISTS s)
+    ∙ ap (λ (x : Bool). hit w || x) (beyond-hits s)
   where
     swap : (a b c d : Bool) → (a || c) || (b || d) ≡ (a || b) || (c || d)
     swap true b c d = refl

@@ -60,7 +60,8 @@ pub data DerivesAt (ws : List ℕ) : Bool → Symbol → ℕ → Tree → ℕ �
   u-count : {i j : ℕ} {p : Tree} →
       is_count (word ws i) ≡ true → DerivesAt ws false Square (i + 1) p j →
       is_op (word ws j) ≡ true → is_num (word ws (j + 1)) ≡ true →
-      DerivesAt ws false U i (count (count_word (word ws i)) p (op_word (word ws j)) (num_word (word ws (j + 1)))) (j + 2)
+      DerivesAt ws false U i (count (count_word (word ws i)) p (op_word (word ws j)) (num_word (word ws (j + 1))))
+      (j + 2)
   u-lag : {i j m : ℕ} {p q : Tree} →
       word ws i ≡ LAG → DerivesAt ws false (B SQUARE COMMA) (i + 1) p j → is_num (word ws j) ≡ true →
       DerivesAt ws false (B COMMA SQUARE-END) (j + 1) q m → DerivesAt ws false U i (lag p (num_word (word ws j)) q) m

@@ -336,7 +336,8 @@ module _ (ws : List ℕ) where
     same-D l true a m d e =
         let w = eqb-true (word ws m) OR e in
         let h = inside ws m (omega arith) in
-        same-bind (go_c l) (m + 1) _ _ (omega arith) (λ b j s. same (go_ds l (or a b)) j (omega (arith, (span s).moves)))
+        same-bind (go_c l) (m + 1) _ _ (omega arith)
+        (λ b j s. same (go_ds l (or a b)) j (omega (arith, (span s).moves)))
     same-D l false a m d e = refl
 
     same-C : (l b : Bool) (a : Tree) (m : ℕ) → depth ws (go_cs l a) m ≤ n → eqb (word ws m) AND ≡ b →
@@ -344,7 +345,8 @@ module _ (ws : List ℕ) where
     same-C l true a m d e =
         let w = eqb-true (word ws m) AND e in
         let h = inside ws m (omega arith) in
-        same-bind (go_u l) (m + 1) _ _ (omega arith) (λ b j s. same (go_cs l (and a b)) j (omega (arith, (span s).moves)))
+        same-bind (go_u l) (m + 1) _ _ (omega arith)
+        (λ b j s. same (go_cs l (and a b)) j (omega (arith, (span s).moves)))
     same-C l false a m d e = refl
 
     same-exists : (b : Bool) (i : ℕ) → depth ws (go_u false) i ≤ n → is_signal (word ws (i + 1)) ≡ b →

@@ -87,7 +87,8 @@ module _ (ws : List ℕ) where
 
   -- what they make of an atom
   abbrev pub with_comparison : (Op → Num → Tree) → ℕ → Result
-  with_comparison f j = cond (comparison_at j) (ok (f (op_word (word ws j)) (num_word (word ws (j + 1)))) (j + 2)) no-rule
+  with_comparison f j = cond (comparison_at j) (ok (f (op_word (word ws j)) (num_word (word ws (j + 1)))) (j + 2))
+      no-rule
 
   -- the tree, if the word at j closes it
   abbrev pub closed : ℕ → Tree → ℕ → Result

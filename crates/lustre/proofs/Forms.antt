@@ -100,7 +100,8 @@ no_sharing = refl
 forms-apart : (f g : ℕ) → f < form_count → g < form_count → (f ≡ g → ⊥)
     → apart (form_text (form_at f)) (form_text (form_at g)) ≡ true
 forms-apart f g hf hg d =
-    let p = all-at (apart_from f) form_count (all-at (λ f. all (apart_from f) form_count) form_count no_sharing f hf) g hg in
+    let p = all-at (apart_from f) form_count (all-at (λ f. all (apart_from f) form_count) form_count no_sharing f hf) g
+    hg in
     rw (ne_eqb f g d) at p
 
 -- A form is the one of each equation that agrees with it, and gives its text.
@@ -171,7 +172,8 @@ form-plain f e h w =
 pub end-form : (e : Equation) → Plain e → line_rest e ≡ render e (form_text (form_at (form_of e)))
 end-form e w = (gives (form_of e) w.known e w.fits.agrees).text
 
-pub end-as : (f : ℕ) (e : Equation) → f < form_count → Fits (form_at f) e → line_rest e ≡ render e (form_text (form_at f))
+pub end-as : (f : ℕ) (e : Equation) → f < form_count → Fits (form_at f) e → line_rest e
+    ≡ render e (form_text (form_at f))
 end-as f e h w = (gives f h e w.agrees).text
 
 -- What a kind's row says of a number, without the table, where no velocity is above the highest literal.
@@ -185,7 +187,8 @@ Admits Velocity x = x < literal_count
 flow-admitted : (t : List ℕ) (m x : ℕ) (b : Bool) → m ≤ equation_limit → (ltb x m && b) ≡ true → x < equation_limit
 flow-admitted t m x b h e = omega (arith, ltb-true x m (and-true (ltb x m) b e).0)
 
-admitted : (velocities : ℕ) (t : List ℕ) (n i : ℕ) (o : Operand) (x : ℕ) → velocities ≤ literal_count → n ≤ equation_limit
+admitted : (velocities : ℕ) (t : List ℕ) (n i : ℕ) (o : Operand) (x : ℕ) → velocities ≤ literal_count
+    → n ≤ equation_limit
     → i ≤ equation_limit → operand_fits velocities t n i o x ≡ true → Admits o x
 unfolding operand_fits is_flow
 admitted velocities t n i Unused x hv hn hi e = eqb-true x 0 e
@@ -237,7 +240,8 @@ having k n a b c hk ka kb kc h = form-plain (first_form k + n) (equation k a b c
 -- Every equation that keeps the rules of its kind has a form.
 abbrev Formed : ℕ → Type 0
 Formed k =
-    (a b c : ℕ) → Admits (shape_of (kind_of k)).a a → Admits (shape_of (kind_of k)).b b → Admits (shape_of (kind_of k)).c c
+    (a b c : ℕ) → Admits (shape_of (kind_of k)).a a → Admits (shape_of (kind_of k)).b b
+    → Admits (shape_of (kind_of k)).c c
     → Plain (equation k a b c)
 
 of-kind : (k : ℕ) → Formed k → Formed k
@@ -324,7 +328,8 @@ unfolding shape_of
 no_kind k a h p = let z = rw (kind-beyond k h) at p in omega (arith, z)
 
 pub fitting-plain : (velocities : ℕ) (t : List ℕ) (n i : ℕ) (e : Equation) → velocities ≤ literal_count
-    → n ≤ equation_limit → i ≤ equation_limit → shape_fits velocities t n i (shape_of (kind_of e.kind)) e ≡ true → Plain e
+    → n ≤ equation_limit → i ≤ equation_limit → shape_fits velocities t n i (shape_of (kind_of e.kind)) e ≡ true
+    → Plain e
 unfolding shape_fits
 fitting-plain velocities t n i e hv hn hi h =
     let s = shape_of (kind_of e.kind) in
@@ -344,7 +349,8 @@ pub one_end : (e e' : Equation) (l r : List ℕ) → Plain e → Plain e' → li
 one_end e e' l r w w' h = go (ℕ_discrete (form_of e) (form_of e'))
   where
     scans-back : (d : Equation) (k : List ℕ) → Plain d
-        → scan (form_text (form_at (form_of d))) (line_rest d ++ k) (equation_of (form_at (form_of d)).settled) ≡ scanned d k
+        → scan (form_text (form_at (form_of d))) (line_rest d ++ k) (equation_of (form_at (form_of d)).settled)
+        ≡ scanned d k
     scans-back d k p =
         let f = form-fine (form_of d) p.known in
         rw (end-form d p) (scans d p.fits.small (form_text (form_at (form_of d))) k _ f.closes p.fits.agrees)

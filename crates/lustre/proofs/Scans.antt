@@ -223,7 +223,8 @@ sees (x ∷ f) l e₀ h =
         → ((r : List ℕ) (v : ℕ) → Seen f r (put e₀ x v) (scan f r (put e₀ x v)))
         → ((r : List ℕ) → Seen f r e₀ (scan f r e₀))
         → Seen (x ∷ f) l e₀
-        (cond b (after_number (numeral last_literal l) (λ v r. scan f r (put e₀ x v))) (after_byte x l (λ r. scan f r e₀)))
+        (cond b (after_number (numeral last_literal l) (λ v r. scan f r (put e₀ x v)))
+        (after_byte x l (λ r. scan f r e₀)))
     go true p q k m = after-number x f l e₀ (numeral last_literal l) p q (number-stood last_literal l) k
     go false p q k m = after-byte x f l e₀ p m
 

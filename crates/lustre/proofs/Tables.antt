@@ -55,7 +55,8 @@ one_line : (i : ℕ) (e e' : Equation) (l r : List ℕ) → i ≤ last_literal �
 unfolding is_digit
 one_line i e e' l r h w w' q =
     let a = sym (line-shape i e l) ∙ q ∙ line-shape i e' r in
-    let b : number_text i ++ (bytes "=" ++ (line_rest e ++ l)) ≡ number_text i ++ (bytes "=" ++ (line_rest e' ++ r)) = cc in
+    let b : number_text i ++ (bytes "=" ++ (line_rest e ++ l))
+    ≡ number_text i ++ (bytes "=" ++ (line_rest e' ++ r)) = cc in
     let c = (same_number_lem last_literal i i _ _ h h refl refl b).1 in
     one_end e e' l r w w' (cc)
 

@@ -24,7 +24,8 @@ use Rattle.lustre.proofs.Tables.{well-plain, same-equations, same_numbers, same_
 use Rattle.lustre.proofs.Differ.{refused-length, refused-equations}
 
 -- Two well-formed tables with the same text are the same table, if velocities are literals.
-pub same-table : (velocities : ℕ) (t u : List ℕ) (n m : ℕ) → velocities ≤ literal_count → checked velocities t n ≡ Passed
+pub same-table : (velocities : ℕ) (t u : List ℕ) (n m : ℕ) → velocities ≤ literal_count → checked velocities t n
+    ≡ Passed
     → checked velocities u m ≡ Passed → text_of t n ≡ text_of u m → (n ≡ m) × (take (4 * n) t ≡ take (4 * m) u)
 same-table velocities t u n m v p q e =
     let r = same-equations (well-plain velocities t n v p) (well-plain velocities u m v q) e in
@@ -125,7 +126,8 @@ written-of-read velocities text table buffer n after w h = go (Equations n) afte
         let y : m ≡ n = cc in
         let f = (checked-fitting velocities u m v.well-formed).whole in
         let b = take (4 * m) u ++ drop (4 * m) table in
-        let s : (j : ℕ) → j < m → equation_at u j ≡ equation_at b j = λ j g. front_same u (drop (4 * m) table) m j f g in
+        let s : (j : ℕ) → j < m → equation_at u j ≡ equation_at b j = λ j g. front_same u (drop (4 * m) table) m j f g
+        in
         let c = same_check velocities u b m s (omega (
           arith,
           length-append (take (4 * m) u) (drop (4 * m) table),

@@ -1,7 +1,8 @@
 -- Forms: the texts that can follow `fN=` in a line (SPEC 5.3), with the letters A, B and C where numbers stand.
 -- Definitions only.
 -- The one line writer and the one line parser both walk them; that they give the text of specs/Text.antt is proved.
-use Rattle.std.specs.Prelude.{Bool, true, not, ◌&&◌, cond, List, [], ◌∷◌, ◌++◌, ◌≡◌, ℕ, zero, suc, ◌+◌, ◌≤◌, ◌<◌, leb, eqb, length, get_or, take}
+use Rattle.std.specs.Prelude.{Bool, true, not, ◌&&◌, cond, List, [], ◌∷◌, ◌++◌, ◌≡◌, ℕ, zero, suc, ◌+◌, ◌≤◌, ◌<◌, leb}
+use Rattle.std.specs.Prelude.{eqb, length, get_or, take}
 use Prim.Native.String.{String}
 use Rattle.lists.specs.Text.{bytes, byte}
 use Rattle.traces.specs.Compare.{op_number}

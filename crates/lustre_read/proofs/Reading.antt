@@ -92,7 +92,8 @@ module _ (f l : List ℕ) (j p : ℕ) (e : Equation) where
       → scan (drop (j + 1) f) (drop q l) m ≡ scan (drop j f) (drop p l) e
   scan-goes q m h g = ap (λ (s : Scanned). go_on s (drop (j + 1) f)) g ∙ steps h
 
-  pub scan-stuck : j < length f → unlike ≡ scan_piece (get_or f j 0) (drop p l) e → unlike ≡ scan (drop j f) (drop p l) e
+  pub scan-stuck : j < length f → unlike ≡ scan_piece (get_or f j 0) (drop p l) e → unlike
+      ≡ scan (drop j f) (drop p l) e
   scan-stuck h g = ap (λ (s : Scanned). go_on s (drop (j + 1) f)) g ∙ steps h
 
   pub scan-ends : length f ≤ j → scanned e (drop p l) ≡ scan (drop j f) (drop p l) e

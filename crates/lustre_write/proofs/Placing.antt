@@ -130,7 +130,8 @@ form-more f e x q {b} {m} {p} {r} {j} {k} w h ex eq v =
     let n : piece_room * j + piece_room ≡ piece_room * (j + 1) = omega arith in
     rw (render-more e f j h, ← ex, ← n) (joined q w eq v)
 
-pub form-all : (f : List ℕ) (e : Equation) {b a : List ℕ} {r j : ℕ} → Placed (piece_room * j) (render e (take j f)) b a r
+pub form-all : (f : List ℕ) (e : Equation) {b a : List ℕ} {r j : ℕ}
+    → Placed (piece_room * j) (render e (take j f)) b a r
     → length f ≤ j → j ≤ form_width → Placed form_room (render e f) b a r
 form-all f e {b} {a} {r} {j} w h g =
     let z : take j f ≡ f = take_all j f h in

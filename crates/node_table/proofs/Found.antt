@@ -27,7 +27,8 @@ none : (k : ℕ) → node_count ≤ k → node_of k ≡ no_node
 unfolding node_of
 none k h = get_or-eq_default node_list no_node h
 
-as_at : (l : List SchemeNode) (k : ℕ) (x : Node) → k < length l → get_or (map as_node l) k x ≡ as_node (get_or l k no_node)
+as_at : (l : List SchemeNode) (k : ℕ) (x : Node) → k < length l → get_or (map as_node l) k x
+    ≡ as_node (get_or l k no_node)
 as_at [] k x h = absurd (omega arith)
 as_at (d ∷ l) zero x h = refl
 as_at (d ∷ l) (suc k) x h = as_at l k x (omega arith)

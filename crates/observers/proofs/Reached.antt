@@ -1,5 +1,5 @@
--- A rule of 240 words has as many equations as a rule can have: `rule_equations`. It is read and its observer is counted
--- by computation. Assumes nothing.
+-- A rule of 240 words has as many equations as a rule can have: `rule_equations`. It is read and its observer is
+-- counted by computation. Assumes nothing.
 use mathlib.Core.Bool.{true}
 use mathlib.Core.List.{List, [], ◌++◌}
 use mathlib.Core.Path.{◌≡◌, refl, sym, ap, ◌∙◌}
@@ -51,7 +51,8 @@ abbrev formula : Formula
 formula = thens 21 long (thens 11 short (and short short))
 
 is_read : rule_of standard_context widest_text ≡ rule (raw formula)
-unfolding rule_of split_of words word_of run_of run class_of keyword_of keyword_among number_of is_digit digits_after numeral
+unfolding rule_of split_of words word_of run_of run class_of keyword_of keyword_among number_of is_digit digits_after
+    numeral
     tree_of read parse is_op is_signal is_num is_bit is_test is_count has_word deep counted operator_count
 is_read = refl
 

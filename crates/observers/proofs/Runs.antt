@@ -47,7 +47,8 @@ answers_of es r =
 -- The tables of the rows' formulas.
 tables-ran : map (λ (r : Trial). answers_of (observer_of (formula_of (raw r.formula))) r) trials
     ≡ map (λ (r : Trial). map Verdict r.verdicts) trials
-unfolding steps freshened fresh_checked stepped step_checked after_tick parameter_fits cell_fits increased value_of flows
+unfolding steps freshened fresh_checked stepped step_checked after_tick parameter_fits cell_fits increased value_of
+    flows
     is_memory memories_set initial in_range kind_of shape_of same_sort is_flow operand_fits shape_fits length_fits
     equations_fit closes answer_of all
     checked

@@ -25,7 +25,8 @@ pub data Compiles (context : Context) (text before : List ℕ) : Compiled → Li
   -- Else the first n equations of the table observe the rule's formula and have the memories of SPEC 12.8, whatever
   -- numbers or none stand after them where they are used. They are not many (SPEC 12.6), and the last of them close by
   -- SPEC 12.7. All other numbers of the lent table are kept.
-  observed : {n : ℕ} {after : List ℕ} {t : Tree} {f : Formula} → HasOutcome context text (rule t) → formula_of t ≡ some f
+  observed : {n : ℕ} {after : List ℕ} {t : Tree} {f : Formula} → HasOutcome context text (rule t) → formula_of t
+      ≡ some f
       → table_room ≤ length before → n ≤ rule_equations
       → length after ≡ length before → drop (4 * n) after ≡ drop (4 * n) before
       → ((rest : List ℕ) → Observes standard_cap context.velocities (take (4 * n) after ++ rest) n f)

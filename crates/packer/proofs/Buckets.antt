@@ -224,7 +224,8 @@ module _ {t : List ℕ} {bucket : Equation → ℕ} {p c : ℕ → ℕ} {i : ℕ
           bound = omega (arith, C.low x l);
           own = λ y q. C.own x y l q ∙ W.own x z;
           past = λ y u r v k. elim (ℕ_discrete y x) [
-            | yes q ↦ not-both (same_quick_key t c p i x) (rw q at (true_same (quick_key t c p y) (quick_key t c p i) k)) e
+            | yes q ↦ not-both (same_quick_key t c p i x)
+                (rw q at (true_same (quick_key t c p y) (quick_key t c p i) k)) e
             | no q ↦ elim (dec_le at y) [
               | yes g ↦ W.past y u r g k
               | no g ↦ let h = C.link x y l (omega arith) r (ap bucket k ∙ sym (W.own x z)) in omega arith

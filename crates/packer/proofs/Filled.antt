@@ -36,7 +36,8 @@ module _ (f : ℕ → ℕ) where
 
   -- No other list has these.
   pub filled_is : (n : ℕ) (l l' : List ℕ) → n ≤ length l → length l' ≡ length l
-      → ((i : ℕ) → i < n → number_at l' i ≡ f i) → ((i : ℕ) → n ≤ i → number_at l' i ≡ number_at l i) → l' ≡ filled f n l
+      → ((i : ℕ) → i < n → number_at l' i ≡ f i) → ((i : ℕ) → n ≤ i → number_at l' i ≡ number_at l i) → l'
+      ≡ filled f n l
   filled_is n l l' u e low high =
       ext_get_or 0 l' (filled f n l) (e ∙ sym (length-filled n l))
       (λ i v. elim (dec_lt i n) [

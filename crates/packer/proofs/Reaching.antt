@@ -351,7 +351,8 @@ module _ (t : List ℕ) (n : ℕ) (l m f : List ℕ) (G : Markable t n l m) wher
               ];
         }
 
-    pub reach-more : {w' : Marking} → w' ≡ expanded (number_at l) w (equation_at t next) → Reaching t n m f w' (done + 1)
+    pub reach-more : {w' : Marking} → w' ≡ expanded (number_at l) w (equation_at t next)
+        → Reaching t n m f w' (done + 1)
     reach-more e = rw e one-passed
 
     -- The next one is an equation, and fewer than n are passed.

@@ -1,6 +1,7 @@
 -- The rounds of the program: they find the classes of SPEC 16.2 in fewer rounds than the definition's, and look for an
 -- equation's key in chains of the classes found so far. Definitions only.
-use Rattle.std.specs.Prelude.{Bool, true, cond, List, ◌++◌, ◌≡◌, ℕ, zero, suc, ◌+◌, ◌*◌, ◌%◌, ◌/◌, ◌≤◌, ◌<◌, eqb, length, set, replicate, drop}
+use Rattle.std.specs.Prelude.{Bool, true, cond, List, ◌++◌, ◌≡◌, ℕ, zero, suc, ◌+◌, ◌*◌, ◌%◌, ◌/◌, ◌≤◌, ◌<◌, eqb}
+use Rattle.std.specs.Prelude.{length, set, replicate, drop}
 use Rattle.lists.specs.Number.{number_at}
 use Rattle.limits.specs.Limits.{equation_limit}
 use Rattle.tables.specs.Table.{Equation, equation, equation_at, all, equation_fits}

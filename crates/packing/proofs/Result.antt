@@ -15,7 +15,8 @@ use lib.Seq.{get_or-append-add}
 use borrow.Author.Tests.{eq-eqb, lt-ltb, le-ltb, le-leb}
 use Rattle.traces.specs.Trace.{Trace}
 use Rattle.lists.specs.Number.{number_at}
-use Rattle.tables.specs.Table.{all, Equation, equation_at, equation_fits, kind_at, kind_of, shape_of, is_flow, operand_fits}
+use Rattle.tables.specs.Table.{all, Equation, equation_at, equation_fits, kind_at, kind_of, shape_of, is_flow}
+use Rattle.tables.specs.Table.{operand_fits}
 use Rattle.tables.specs.Table.{shape_fits, equations_fit, checked, is_memory, memories}
 use Rattle.tables.specs.Table.{closing_count, started_of, verdict_of, closes}
 use Rattle.tables.specs.Table.Kind.{compare_literal}

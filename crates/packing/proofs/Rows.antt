@@ -169,5 +169,6 @@ class-rows = refl
 -- and the second table is kept.
 refused-rows : map (λ n. packing velocity_count fetched_twice.given n (7 ∷ [])) (0 ∷ 1 ∷ 5 ∷ [])
     ≡ map (λ r. after_pack (Refused r) (7 ∷ [])) (10 ∷ 11 ∷ 9 ∷ [])
-unfolding packing pack_checked length_fits equations_fit closes all shape_fits shape_of kind_of operand_fits is_flow same_sort
+unfolding packing pack_checked length_fits equations_fit closes all shape_fits shape_of kind_of operand_fits is_flow
+    same_sort
 refused-rows = refl

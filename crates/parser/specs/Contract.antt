@@ -92,6 +92,7 @@ comparison_record k o n = row k (op_number o) (num_kind n) (num_value n)
 -- may have (SPEC 3.9) makes the atom one.
 pub record ParsesComparison (ws : List ℕ) (j : ℕ) (before : List ℕ) (top k : ℕ) (lead : Bool) (r : Parsed)
     (after : List ℕ) : Type 0 where
-  pub result : r ≡ cond (comparison_at ws j) (At (j + 2) (top + 4) (atom_facts (lead && upper (op_word (word ws j))))) No
+  pub result : r ≡ cond (comparison_at ws j) (At (j + 2) (top + 4) (atom_facts (lead && upper (op_word (word ws j)))))
+      No
   pub filled : comparison_at ws j ≡ true →
       after ≡ sets before top (comparison_record k (op_word (word ws j)) (num_word (word ws (j + 1))))

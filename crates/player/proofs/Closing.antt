@@ -53,7 +53,8 @@ module _ (w : World) {r : ℕ} {Broken : List ℕ → Type 0} (h : Refuses (velo
   line_refused true l e f = long-refused l e
   line_refused false l e f = rw e (h.bad l f)
 
-  pub fails-owed : {ls : List (List ℕ)} → Fails Broken ls → (tail : List ℕ) → owed w ls tail ≡ output_bytes (O.Refused r)
+  pub fails-owed : {ls : List (List ℕ)} → Fails Broken ls → (tail : List ℕ) → owed w ls tail
+      ≡ output_bytes (O.Refused r)
   unfolding owed
   fails-owed missing tail = ap (λ (s : Says). output_bytes (last_output s)) (h.end (length tail))
   fails-owed (broken {l} {ls} f) tail = refused-owed w r l ls tail (line_refused (over_long l) l refl f)

@@ -227,7 +227,8 @@ split-short : (context : Context) (text ws : List ℕ) → split_of context text
 unfolding split_of
 split-short context text ws e = ltb-false _ _ (not-long (eqb (length text) 0) (ltb text_limit (length text)) _ ws e)
 
-pub rule-short : (context : Context) (text : List ℕ) (t : Tree) → rule_of context text ≡ rule t → length text ≤ text_limit
+pub rule-short : (context : Context) (text : List ℕ) (t : Tree) → rule_of context text ≡ rule t
+    → length text ≤ text_limit
 rule-short context text t e = let a = (accepted context text t).0 e in split-short context text a.ws a.words
 
 -- Compiling the text gives a table that observes the formula.

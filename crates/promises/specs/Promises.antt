@@ -216,8 +216,8 @@ pub record Cards : Type 0 where
 
 -- All of it. SPEC 12.1 (demand 1): that each call gets its result or its first refusal, and with a refusal keeps what
 -- it was lent, is in the relations named above; that they settle the answer, in the parts here that say that it is one.
--- The operations have `velocity_count` velocities, and what is proved of them holds for other numbers too; cards are the
--- program's, in the context of the specification.
+-- The operations have `velocity_count` velocities, and what is proved of them holds for other numbers too; cards are
+-- the program's, in the context of the specification.
 pub record Promises : Type 1 where
   pub reading : (context : Context) → Reading context
   pub meaning : (trace : Trace) → Meaning trace

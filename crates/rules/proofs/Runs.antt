@@ -33,12 +33,14 @@ abbrev AllRead : List Trial → Type 0
 AllRead rs = map outcome rs ≡ map (λ (r : Trial). rule (raw r.formula)) rs
 
 pub trials-read : AllRead trials
-unfolding rule_of split_of words word_of run_of run class_of keyword_of keyword_among number_of is_digit digits_after numeral
+unfolding rule_of split_of words word_of run_of run class_of keyword_of keyword_among number_of is_digit digits_after
+    numeral
     tree_of read parse is_op is_signal is_num is_velocity is_bit is_test is_count has_word deep counted operator_count
 trials-read = refl
 
 further-read : AllRead further_trials
-unfolding rule_of split_of words word_of run_of run class_of keyword_of keyword_among number_of is_digit digits_after numeral
+unfolding rule_of split_of words word_of run_of run class_of keyword_of keyword_among number_of is_digit digits_after
+    numeral
     tree_of read parse is_op is_signal is_num is_velocity is_bit is_test is_count has_word deep counted operator_count
 further-read = refl
 
@@ -67,7 +69,9 @@ further-runs = holds further_trials further-read further-counted further-remembe
 
 -- SPEC 4.11: with n = 0 and with n = 1 a `lag` is not the same rule.
 pub lag-differs : (ps qs : List ℕ)
-    → same_of ps qs (rule_of standard_context (bytes "lag[s0,0,s1]")) (rule_of standard_context (bytes "lag[s0,1,s1]")) ≡ No
-unfolding rule_of split_of words word_of run_of run class_of keyword_of keyword_among number_of is_digit digits_after numeral
+    → same_of ps qs (rule_of standard_context (bytes "lag[s0,0,s1]")) (rule_of standard_context (bytes "lag[s0,1,s1]"))
+    ≡ No
+unfolding rule_of split_of words word_of run_of run class_of keyword_of keyword_among number_of is_digit digits_after
+    numeral
     tree_of read parse is_op is_signal is_num is_velocity is_bit is_test is_count has_word deep counted operator_count
 lag-differs ps qs = refl

@@ -27,7 +27,8 @@ module _ (ps : List ℕ) where
   pub fits-within : parameters_fit literal_count ps ≡ true → Within ps
   unfolding parameter_fits
   fits-within e j h =
-      let below = ltb-true (number_at ps j) literal_count (all-at (parameter_fits literal_count ps) parameter_count e j h) in
+      let below = ltb-true (number_at ps j) literal_count
+      (all-at (parameter_fits literal_count ps) parameter_count e j h) in
       omega arith
 
   pub within-fits : Within ps → parameters_fit literal_count ps ≡ true
@@ -46,7 +47,8 @@ module _ (ps : List ℕ) where
   above-unfit : Above ps → parameters_fit literal_count ps ≡ false
   unfolding parameter_fits
   above-unfit (j, h, high) =
-      all-stop (parameter_fits literal_count ps) j parameter_count h (le-ltb (number_at ps j) literal_count (omega arith))
+      all-stop (parameter_fits literal_count ps) j parameter_count h
+      (le-ltb (number_at ps j) literal_count (omega arith))
 
   -- So of an outcome: a text that is refused stays so,
   pub side-refused : (o : Outcome) {k : ℕ} → records_of o ≡ No-records k → side_of ps o ≡ o

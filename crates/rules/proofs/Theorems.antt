@@ -44,7 +44,8 @@ module _ {context : Context} {text : List ℕ} where
   of-fragment e o r true f = outside e o r f
   of-fragment {t = t} e o r false f = of-lead e o r f (leads t) refl
 
-  of_tree_lem : {ws : List ℕ} → split_of context text ≡ made ws → beyond_limits ws ≡ false → (x : Option Tree) → tree_of ws ≡ x
+  of_tree_lem : {ws : List ℕ} → split_of context text ≡ made ws → beyond_limits ws ≡ false → (x : Option Tree)
+      → tree_of ws ≡ x
       → HasOutcome context text (of_tree ws x)
   of_tree_lem {ws} e o none g = no-grammar e o (no-tree ws g)
   of_tree_lem {ws} e o (some t) g = of-fragment e o (tree-rule ws t g) (beyond ws) refl

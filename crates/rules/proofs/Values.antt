@@ -83,7 +83,8 @@ module _ (ps qs : List ℕ) where
       (e : x ≡ value_agrees ps qs (number_at r i) (number_at r (i + 2)) (number_at r (i + 3))) where
     agree-one : values_agree ps qs (drop i r) ≡ x && values_agree ps qs (drop (i + 4) r)
     unfolding values_agree
-    agree-one = ap (values_agree ps qs) (four r i h) ∙ ap (λ (y : Bool). y && values_agree ps qs (drop (i + 4) r)) (sym e)
+    agree-one = ap (values_agree ps qs) (four r i h)
+        ∙ ap (λ (y : Bool). y && values_agree ps qs (drop (i + 4) r)) (sym e)
 
     pub agree-stop : x ≡ false → values_agree ps qs (drop i r) ≡ false
     agree-stop f = agree-one ∙ ap (λ (y : Bool). y && values_agree ps qs (drop (i + 4) r)) f

@@ -121,7 +121,8 @@ module _ (cap velocities : ℕ) (trace : Trace) (flow : ℕ → ℕ → ℕ) whe
 
     abbrev pub GivenOf : Formula → ℕ → ℕ → ℕ → ℕ → Type 0
     GivenOf f s n t o =
-        Given (leads (raw f)) (bounded cap velocities (raw f)) (names_parameter (raw f)) (named_by f) s n t o (tests_of f)
+        Given (leads (raw f)) (bounded cap velocities (raw f)) (names_parameter (raw f)) (named_by f) s n t o
+        (tests_of f)
         (emit flow_of f s n t o).es
 
     -- An atom's proposition, and the rows that follow its equations.

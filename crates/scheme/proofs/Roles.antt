@@ -8,7 +8,8 @@ use native.Mathlib.Omega.{arith}
 use lib.Dec.{ltb, leb}
 use lib.ListN.{get_or, length}
 use borrow.Author.Tests.{lt-ltb, ltb-true, leb-true, eq-eqb}
-use Rattle.tables.specs.Table.{all, Equation, Kind, kind_of, kind_at, shape_of, sort_of, same_sort, is_flow, operand_fits}
+use Rattle.tables.specs.Table.{all, Equation, Kind, kind_of, kind_at, shape_of, sort_of, same_sort, is_flow}
+use Rattle.tables.specs.Table.{operand_fits}
 use Rattle.tables.specs.Table.{shape_fits}
 use Rattle.tables.specs.declared.Sort.{Sort}
 use Rattle.tables.specs.declared.Sort.TheVariants.{Boolean, Count}

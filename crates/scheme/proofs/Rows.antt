@@ -217,7 +217,8 @@ module _ (velocities : ℕ) (t : List ℕ) (N o : ℕ) where
 
   -- and that its q holds if it is due after the run r.
   pub due-fine : {r q : ℕ} → Before t o Count r → Before t o Boolean q → (cap : ℕ) → cap ≤ literal_count → (x : Num)
-      → num_bound cap velocities x ≡ true → o ⊕ 4 ≤ N → Kinded (fine-es x o r q) → Fine (fine-es x o r q) (o ⊕ 4) (o ⊕ 3)
+      → num_bound cap velocities x ≡ true → o ⊕ 4 ≤ N → Kinded (fine-es x o r q)
+      → Fine (fine-es x o r q) (o ⊕ 4) (o ⊕ 3)
   unfolding all kind_of shape_of same_sort
   due-fine br bq cap low x bound room k = (
     compare-fit unused (used bq) (used br) cap low lt x bound fine_rows room k (λ c. refl) (λ c. refl),

@@ -1,8 +1,10 @@
 -- Equation tables: the numbers of an equation, the thirteen kinds, and which tables are well formed. Definitions only.
-use Rattle.std.specs.Prelude.{Bool, true, false, ◌&&◌, cond, List, [], ◌∷◌, ℕ, zero, suc, ◌+◌, ◌*◌, ◌-◌, leb, ltb, eqb, length, get_or}
+use Rattle.std.specs.Prelude.{Bool, true, false, ◌&&◌, cond, List, [], ◌∷◌, ℕ, zero, suc, ◌+◌, ◌*◌, ◌-◌, leb, ltb, eqb}
+use Rattle.std.specs.Prelude.{length, get_or}
 unfoldable pub use Rattle.lists.specs.All.{all}
 use Rattle.lists.specs.Number.{number_at}
-use Rattle.limits.specs.Limits.{signal_count, truth_count, comparison_count, literal_count, parameter_count, equation_limit}
+use Rattle.limits.specs.Limits.{signal_count, truth_count, comparison_count, literal_count, parameter_count}
+use Rattle.limits.specs.Limits.{equation_limit}
 use Rattle.tables.specs.declared.Sort.{Sort}
 use Rattle.tables.specs.declared.Sort.TheVariants.{Boolean, Count}
 use Rattle.tables.specs.declared.Operand.{Operand}

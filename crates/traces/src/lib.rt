@@ -77,7 +77,8 @@ pub fn parameters_fit(limit: u32, parameters: &[u32; limits::PARAMETERS]) -> boo
 // that asks for it is refused by 11; here it stands for `>=`.
 pub fn op_of(number: u32) -> Op
     ensures value { result ≡ op_of number }
-    ensures result_value { (number < comparison_count → op_number result ≡ number) × (comparison_count ≤ number → result ≡ Op.AtLeast) }
+    ensures result_value { (number < comparison_count → op_number result ≡ number)
+        × (comparison_count ≤ number → result ≡ Op.AtLeast) }
 {
     match number {
         AT_MOST => Op::AtMost,

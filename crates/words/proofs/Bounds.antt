@@ -180,7 +180,8 @@ module _ (context : Context) where
       chosen (FineOut context) (begins p c)
       (λ t. chosen (FineOut context) (eqb (length ws) word_limit) (λ _. (omega arith, omega arith))
       (λ n. add-fine (word_of context (awaits_velocity ws) c (b ∷ l)) ws (λ more. words context l c more)
-      (word-fine (awaits_velocity ws) c (b ∷ l) (class-some p c t) (class-small b)) h (eqb-false (length ws) word_limit n)
+      (word-fine (awaits_velocity ws) c (b ∷ l) (class-some p c t) (class-small b)) h
+      (eqb-false (length ws) word_limit n)
       (λ more f. words-fine l c more f)))
       (λ _. words-fine l c ws h)
 

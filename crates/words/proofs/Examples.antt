@@ -141,6 +141,7 @@ examples =
     []
 
 pub examples-hold : map (λ e. split_of standard_context e.text) examples ≡ map (λ e. e.out) examples
-unfolding examples is_digit digits_after numeral is_op class_of run keyword_among keyword_of number_of run_of word_of words
+unfolding examples is_digit digits_after numeral is_op class_of run keyword_among keyword_of number_of run_of word_of
+    words
     split_of
 examples-hold = refl

@@ -68,7 +68,8 @@ module _ (t : List ℕ) (i : ℕ) where
 -- The word of a run that is no keyword, by its first byte.
 module _ (context : Context) (awaited : Bool) where
   module _ (r : List ℕ) (n : keyword_of r ≡ 0) where
-    pub run-signal : number_at r 0 ≡ byte "s" → run_of context awaited r ≡ number_of SIGNAL (signal_count - 1) (drop 1 r)
+    pub run-signal : number_at r 0 ≡ byte "s" → run_of context awaited r
+        ≡ number_of SIGNAL (signal_count - 1) (drop 1 r)
     unfolding run_of
     run-signal e = simp (n, e)
 

@@ -1,5 +1,6 @@
 -- How a text is split into words (SPEC 2.1 to SPEC 2.9, SPEC 2.11), and refusals 1 to 4. Definitions only.
-use Rattle.std.specs.Prelude.{Bool, not, ◌&&◌, ◌||◌, cond, List, [], ◌∷◌, ◌++◌, reverse, ℕ, suc, ◌+◌, ◌-◌, eqb, ltb, length, drop}
+use Rattle.std.specs.Prelude.{Bool, not, ◌&&◌, ◌||◌, cond, List, [], ◌∷◌, ◌++◌, reverse, ℕ, suc, ◌+◌, ◌-◌, eqb, ltb}
+use Rattle.std.specs.Prelude.{length, drop}
 use Prim.Native.String.{String}
 use Rattle.limits.specs.Limits.{text_limit, word_limit, signal_count, parameter_count, last_literal}
 use Rattle.limits.specs.declared.Context.{Context}

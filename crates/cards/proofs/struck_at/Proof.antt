@@ -53,10 +53,12 @@ unended c e other =
 
 found : tie.Need-returns
 found c e other =
+    let in-Is = c.before.before.before.before.before in
+    let after-plain_line = in-Is.before in
     let args = c.args in
     struck-found args.velocities e other args.s.now args.at c.velocity_at.ensures
     c.in-Is-velocity_at.is c.if-s-next.false c.if-s-next-ne-LINE_END.false
-    (sym (front-says c.before.before.before.before.before.before) ∙ c.in-Is.is)
+    (sym (front-says after-plain_line) ∙ c.in-Is.is)
 
 pub struck_at_spec : {M : Type 1} → statement M
 struck_at_spec =

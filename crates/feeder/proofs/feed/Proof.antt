@@ -22,7 +22,8 @@ invariant-loop bytes ps₀ table₀ state₀ values₀ out₀ w₀ used₀ at₀
     × (length table ≡ length table₀) × (length state ≡ length state₀) × (length values ≡ length values₀)
 
 abbrev decreases-loop : tie.decreases-loop-out
-decreases-loop bytes ps₀ table₀ state₀ values₀ out₀ w₀ used₀ at₀ ps table state values out w used at = length bytes - used
+decreases-loop bytes ps₀ table₀ state₀ values₀ out₀ w₀ used₀ at₀ ps table state values out w used at = length bytes
+    - used
 
 -- ---- after the tick lines that `feed_ticks` runs
 
@@ -75,75 +76,150 @@ loop-holds : tie.Need-loop-out-init invariant-loop decreases-loop
 loop-holds c = (begun _ _ _ c.requires, refl, refl, refl)
 
 add-used-ticks : tie.Need-overflow_add-used invariant-loop decreases-loop
-add-used-ticks c = omega (arith, (run c.before.before.before.before.before.before.before.before).within, size c.before.before.before.before.before.before.before.before)
+add-used-ticks c =
+    let after-values-1 = c.before.before.before.before.before in
+    let after-feed_ticks-f = after-values-1.before.before.before in
+    omega (arith, (run after-feed_ticks-f).within, size after-feed_ticks-f)
 
 add_at : tie.Need-overflow_add-at invariant-loop decreases-loop
 add_at c =
-    omega (arith, written-room (run c.before.before.before.before.before.before.before.before.before), (run c.before.before.before.before.before.before.before.before.before).same, size c.before.before.before.before.before.before.before.before.before)
+    let after-slice_known-in-loop-out-2-1 = c.before.before.before.before.before in
+    let after-feed_ticks-f = after-slice_known-in-loop-out-2-1.before.before.before.before in
+    omega (arith, written-room (run after-feed_ticks-f), (run after-feed_ticks-f).same, size after-feed_ticks-f)
 
 -- ---- the line after them
 
 -- It ends in the piece,
-inside : (c : tie.After-line_length invariant-loop decreases-loop) → used c.before.before.before.before.before.before.before.before.before.before + c.line_length.result ≤ length (bytes c.before.before.before.before.before.before.before.before.before.before)
-inside c = line-inside (run c.before.before.before.before.before.before.before.before.before.before) c.line_length.result c.line_length.ensures
+inside : (c : tie.After-line_length invariant-loop decreases-loop) →
+    let after-out-1 = c.before.before.before.before.before in
+    let after-feed_ticks-f = after-out-1.before.before.before.before.before in
+    used after-feed_ticks-f + c.line_length.result ≤ length (bytes after-feed_ticks-f)
+inside c =
+    let after-out-1 = c.before.before.before.before.before in
+    let after-feed_ticks-f = after-out-1.before.before.before.before.before in
+    line-inside (run after-feed_ticks-f) c.line_length.result c.line_length.ensures
 
 add-to : tie.Need-overflow_add-to invariant-loop decreases-loop
-add-to c = omega (arith, inside c, size c.before.before.before.before.before.before.before.before.before.before)
+add-to c =
+    let after-out-1 = c.before.before.before.before.before in
+    let after-feed_ticks-f = after-out-1.before.before.before.before.before in
+    omega (arith, inside c, size after-feed_ticks-f)
 
 -- and where it does not reach the end, so does its byte 10.
 ended : (c : tie.Else-to-bytes invariant-loop decreases-loop) →
-    used c.before.before.before.before.before.before.before.before.before.before.before + c.line_length.result < length (bytes c.before.before.before.before.before.before.before.before.before.before.before)
+    let after-slice_known-in-loop-out-3-1 = c.before.before.before.before.before in
+    let after-state-1 = after-slice_known-in-loop-out-3-1.before.before.before.before.before in
+    let after-feed_ticks-f = after-state-1.before in
+    used after-feed_ticks-f + c.line_length.result < length (bytes after-feed_ticks-f)
 ended c = omega (arith, inside c.before, c.if-to-bytes.false)
 
 -- Where it reaches the end of the piece, it is the start of a line.
 start_of : (c : tie.Then-to-bytes invariant-loop decreases-loop) →
-    let rest = drop (used c.before.before.before.before.before.before.before.before.before.before.before) (bytes c.before.before.before.before.before.before.before.before.before.before.before) in length (line rest) ≡ length rest
+    let after-slice_known-in-loop-out-3-1 = c.before.before.before.before.before in
+    let after-state-1 = after-slice_known-in-loop-out-3-1.before.before.before.before.before in
+    let after-feed_ticks-f = after-state-1.before in
+    let rest = drop (used after-feed_ticks-f) (bytes after-feed_ticks-f) in length (line rest) ≡ length rest
 start_of c =
-    omega (arith, c.line_length.ensures, c.if-to-bytes.true, length-drop (used c.before.before.before.before.before.before.before.before.before.before.before) (bytes c.before.before.before.before.before.before.before.before.before.before.before))
+    let after-slice_known-in-loop-out-3-1 = c.before.before.before.before.before in
+    let after-state-1 = after-slice_known-in-loop-out-3-1.before.before.before.before.before in
+    let after-feed_ticks-f = after-state-1.before in
+    omega (
+      arith,
+      c.line_length.ensures,
+      c.if-to-bytes.true,
+      length-drop (used after-feed_ticks-f)
+          (bytes after-feed_ticks-f),
+    )
 
 feed-tail-requires : tie.Need-feed_tail-requires invariant-loop decreases-loop
 feed-tail-requires c κs =
-    (omega arith, tail-room (run c.before.before.before.before.before.before.before.before.before.before.before.before) _ c.if-to-bytes.true (start_of c.before))
+    let after-ran-1 = c.before.before.before.before.before in
+    let after-slice_known-in-loop-out-1 = after-ran-1.before.before.before.before.before in
+    let after-feed_ticks-f = after-slice_known-in-loop-out-1.before.before in
+    (omega arith, tail-room (run after-feed_ticks-f) _ c.if-to-bytes.true (start_of c.before))
 
 -- The output keeps its length.
 out-length : tie.Need-shape_of-out-then-to-bytes invariant-loop decreases-loop
 out-length c =
-    let here = run c.before.before.before.before.before.before.before.before.before.before.before.before.before.before.before in
+    let after-line_length = c.before.before.before.before.before in
+    let after-out-1 = after-line_length.before.before.before.before.before in
+    let after-feed_ticks-f = after-out-1.before.before.before.before.before in
+    let here = run after-feed_ticks-f in
     put-length _ _ _ refl c.feed_tail.ensures.1
     (tail-room here _ c.if-to-bytes.true (start_of c.before.before.before.before))
     ∙ here.same
 
 returns : tie.Need-returns-then-to-bytes invariant-loop decreases-loop
 returns c =
+    let after-line_length = c.before.before.before.before.before in
+    let after-out-1 = after-line_length.before.before.before.before.before in
+    let after-feed_ticks-f = after-out-1.before.before.before.before.before in
     let fed = c.feed_tail.ensures in
-    tail-feeds (run c.before.before.before.before.before.before.before.before.before.before.before.before.before.before.before) _ c.if-to-bytes.true (start_of c.before.before.before.before) fed.0 fed.1
+    tail-feeds (run after-feed_ticks-f) _ c.if-to-bytes.true (start_of c.before.before.before.before) fed.0 fed.1
 
 -- A whole line.
 on-line-requires : tie.Need-on_line-t-requires invariant-loop decreases-loop
 on-line-requires c κs =
-    record { ends = ap (λ (n : ℕ). used c.before.before.before.before.before.before.before.before.before.before.before.before.before.before.before + n) c.line_length.ensures; whole = ended c.before.before.before.before }
+    let after-line_length = c.before.before.before.before.before in
+    let after-out-1 = after-line_length.before.before.before.before.before in
+    let after-feed_ticks-f = after-out-1.before.before.before.before.before in
+    record {
+      ends = ap (λ (n : ℕ). used after-feed_ticks-f + n) c.line_length.ensures;
+      whole = ended
+          c.before.before.before.before;
+    }
 
 room : (c : tie.After-put-arg-1 invariant-loop decreases-loop) →
-    at c.before.before.before.before.before.before.before.before.before.before.before.before.before.before.before.before.before.before.before.before.before.before.before.before + length (output_bytes c.on_line-t.result.output) ≤ length (out c.before.before.before.before.before.before.before.before.before.before.before.before.before.before.before.before.before.before.before.before.before.before.before.before)
+    let after-state-in-loop-out-1 = c.before.before.before.before.before in
+    let after-on_line-arg-in-loop-out-2-1 = after-state-in-loop-out-1.before.before.before.before.before in
+    let after-struct_known-in-loop-out-1 = after-on_line-arg-in-loop-out-2-1.before.before.before.before.before in
+    let after-slice_known-in-loop-out-2-1 = after-struct_known-in-loop-out-1.before.before.before.before.before in
+    let after-feed_ticks-f = after-slice_known-in-loop-out-2-1.before.before.before.before in
+    at after-feed_ticks-f + length (output_bytes c.on_line-t.result.output) ≤ length (out after-feed_ticks-f)
 room c =
-    said-room (run c.before.before.before.before.before.before.before.before.before.before.before.before.before.before.before.before.before.before.before.before.before.before.before.before) c.line_length.result c.line_length.ensures
-    (ended c.before.before.before.before.before.before.before.before.before.before.before.before.before) c.on_line-t.ensures
+    let after-state-in-loop-out-1 = c.before.before.before.before.before in
+    let after-on_line-arg-in-loop-out-2-1 = after-state-in-loop-out-1.before.before.before.before.before in
+    let else-to-bytes = after-on_line-arg-in-loop-out-2-1.before.before.before in
+    let after-slice_known-in-loop-out-3-1 = else-to-bytes.before.before.before.before.before in
+    let after-state-1 = after-slice_known-in-loop-out-3-1.before.before.before.before.before in
+    let after-feed_ticks-f = after-state-1.before in
+    said-room (run after-feed_ticks-f) c.line_length.result c.line_length.ensures
+    (ended else-to-bytes) c.on_line-t.ensures
 
 add-used-line : tie.Need-overflow_add-used-in-loop-out invariant-loop decreases-loop
 add-used-line c =
-    omega (arith, ended c.before.before.before.before.before.before.before.before.before.before.before.before.before.before.before.before, size c.before.before.before.before.before.before.before.before.before.before.before.before.before.before.before.before.before.before.before.before.before.before.before.before.before.before.before)
+    let after-slice_known-in-loop-out-6-1 = c.before.before.before.before.before in
+    let after-table-1 = after-slice_known-in-loop-out-6-1.before.before.before.before.before in
+    let after-on_line-arg-1 = after-table-1.before.before.before.before.before in
+    let else-to-bytes = after-on_line-arg-1.before in
+    let after-slice_known-in-loop-out-3-1 = else-to-bytes.before.before.before.before.before in
+    let after-state-1 = after-slice_known-in-loop-out-3-1.before.before.before.before.before in
+    let after-feed_ticks-f = after-state-1.before in
+    omega (arith, ended else-to-bytes, size after-feed_ticks-f)
 
 loop-less : tie.Need-loop-out-smaller invariant-loop decreases-loop
-loop-less c = omega (arith, ended c.before.before.before.before.before.before.before.before.before.before.before.before.before.before.before.before)
+loop-less c =
+    let after-slice_known-in-loop-out-6-1 = c.before.before.before.before.before in
+    let after-table-1 = after-slice_known-in-loop-out-6-1.before.before.before.before.before in
+    let after-on_line-arg-1 = after-table-1.before.before.before.before.before in
+    let else-to-bytes = after-on_line-arg-1.before in
+    omega (arith, ended else-to-bytes)
 
 loop-again : tie.Need-loop-out-preserved invariant-loop decreases-loop
 loop-again c =
+    let after-slice_known-in-loop-out-6-1 = c.before.before.before.before.before in
+    let after-table-1 = after-slice_known-in-loop-out-6-1.before.before.before.before.before in
+    let after-on_line-arg-1 = after-table-1.before.before.before.before.before in
+    let else-to-bytes = after-on_line-arg-1.before in
+    let after-slice_known-in-loop-out-3-1 = else-to-bytes.before.before.before.before.before in
+    let after-state-1 = after-slice_known-in-loop-out-3-1.before.before.before.before.before in
+    let after-feed_ticks-f = after-state-1.before in
     let word = c.put-at.ensures in (
-      after_line (run c.before.before.before.before.before.before.before.before.before.before.before.before.before.before.before.before.before.before.before.before.before.before.before.before.before.before.before) c.line_length.result c.line_length.ensures (ended c.before.before.before.before.before.before.before.before.before.before.before.before.before.before.before.before)
+      after_line (run after-feed_ticks-f) c.line_length.result c.line_length.ensures (ended else-to-bytes)
           c.on_line-t.ensures word.0 word.1,
-      omega (arith, c.on_line-t.auto.table, (lengths c.before.before.before.before.before.before.before.before.before.before.before.before.before.before.before.before.before.before.before.before.before.before.before.before.before.before.before).0),
-      omega (arith, c.on_line-t.auto.state, (lengths c.before.before.before.before.before.before.before.before.before.before.before.before.before.before.before.before.before.before.before.before.before.before.before.before.before.before.before).1),
-      omega (arith, c.on_line-t.auto.values, (lengths c.before.before.before.before.before.before.before.before.before.before.before.before.before.before.before.before.before.before.before.before.before.before.before.before.before.before.before).2),
+      omega (arith, c.on_line-t.auto.table, (lengths after-feed_ticks-f).0),
+      omega (arith, c.on_line-t.auto.state, (lengths after-feed_ticks-f).1),
+      omega (arith, c.on_line-t.auto.values, (lengths after-feed_ticks-f).2),
     )
 
 pub feed_spec : {M : Type 1} → statement M
@@ -165,9 +241,15 @@ feed_spec =
     (λ c κs. search rules)
     add-to
     feed-tail-requires
-    (λ c. (lengths c.before.before.before.before.before.before.before.before.before.before.before.before.before.before.before).0)
-    (λ c. (lengths c.before.before.before.before.before.before.before.before.before.before.before.before.before.before.before).1)
-    (λ c. (lengths c.before.before.before.before.before.before.before.before.before.before.before.before.before.before.before).2)
+    (λ c. let after-line_length = c.before.before.before.before.before in
+    let after-out-1 = after-line_length.before.before.before.before.before in
+    let after-feed_ticks-f = after-out-1.before.before.before.before.before in (lengths after-feed_ticks-f).0)
+    (λ c. let after-line_length = c.before.before.before.before.before in
+    let after-out-1 = after-line_length.before.before.before.before.before in
+    let after-feed_ticks-f = after-out-1.before.before.before.before.before in (lengths after-feed_ticks-f).1)
+    (λ c. let after-line_length = c.before.before.before.before.before in
+    let after-out-1 = after-line_length.before.before.before.before.before in
+    let after-feed_ticks-f = after-out-1.before.before.before.before.before in (lengths after-feed_ticks-f).2)
     out-length
     returns
     on-line-requires

@@ -38,15 +38,18 @@ put-requires c κs =
 
 over-long : tie.Need-returns
 over-long c =
+    let after-last-1 = c.before.before.before.before.before in
+    let after-end_over_long-over = after-last-1.before in
     let args = c.args in
     let h = c.if-to-used-lt-LINE.false in (
       c.fed_to-2.ensures
-          ∙ ap₂ (λ (w : Watch) (n : ℕ). fed_to w args.to n) (ap (λ (a : Answered). a.watch) c.end_over_long-over.ensures)
-          (c.put-past.ensures.0 ∙ ap (λ (l : List ℕ). args.at + length l) (says c.before.before.before.before.before.before))
+          ∙ ap₂ (λ (w : Watch) (n : ℕ). fed_to w args.to n)
+          (ap (λ (a : Answered). a.watch) c.end_over_long-over.ensures)
+          (c.put-past.ensures.0 ∙ ap (λ (l : List ℕ). args.at + length l) (says after-end_over_long-over))
           ∙ sym (tail-long args.w args.used args.to args.at h),
       c.put-past.ensures.1
           ∙ ap (placed args.out.now args.at)
-          (says c.before.before.before.before.before.before ∙ sym (bytes-long args.w.stage.phase (args.to - args.used) h)),
+          (says after-end_over_long-over ∙ sym (bytes-long args.w.stage.phase (args.to - args.used) h)),
     )
 
 pub feed_tail_spec : {M : Type 1} → statement M

@@ -50,8 +50,10 @@ run-ticks-requires c κs =
 
 ticks-run : tie.Need-returns
 ticks-run c =
+    let after-state-1 = c.before.before.before.before.before in
+    let in-Passed = after-state-1.before.before.before.before.before in
     let run = c.run_ticks.ensures in
-    (run.0, (λ admits. run.1, λ no. absurd (no (admitted c.before.before.before.before.before.before.before.before.before.before))))
+    (run.0, (λ admits. run.1, λ no. absurd (no (admitted in-Passed))))
 
 pub feed_ticks_spec : {M : Type 1} → statement M
 feed_ticks_spec =

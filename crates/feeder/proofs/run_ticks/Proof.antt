@@ -24,7 +24,8 @@ invariant-loop bytes ps table state₀ values₀ out₀ phase edition n hex left
     × (length state ≡ length state₀) × (length values ≡ length values₀)
 
 abbrev decreases-loop : tie.decreases-loop-left
-decreases-loop bytes ps table state₀ values₀ out₀ phase edition n hex left₀ used₀ at₀ state values out left used at = left
+decreases-loop bytes ps table state₀ values₀ out₀ phase edition n hex left₀ used₀ at₀ state values out left used
+    at = left
 
 loop-holds : tie.Need-loop-left-init invariant-loop decreases-loop
 loop-holds c = let pre = c.requires in (begun _ _ _ pre.0, pre.1, refl, refl)
@@ -50,7 +51,8 @@ none_left c =
 step-passed-requires : tie.Need-step_passed-v-requires invariant-loop decreases-loop
 step-passed-requires c κs =
     let admits = c.loop-left.invariant.1 in
-    let low = velocity-low _ _ _ some-velocity c.args.bytes.now c.loop-left.used admits (sym c.in-Is.is ∙ c.tick_at-found.ensures) in
+    let low = velocity-low _ _ _ some-velocity c.args.bytes.now c.loop-left.used admits
+    (sym c.in-Is.is ∙ c.tick_at-found.ensures) in
     passes_at _ _ _ admits low c.tick_of-now.ensures
 
 put-verdict-requires : tie.Need-put_verdict-at-requires invariant-loop decreases-loop

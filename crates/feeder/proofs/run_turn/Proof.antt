@@ -29,7 +29,10 @@ used-in c =
     omega (arith, c.feed-f.ensures.used, length-take-le c.args.to c.args.buf.now c.requires.0)
 
 shift-requires : tie.Need-shift-requires
-shift-requires c κs = (used-in c.before.before.before.before.before.before.before.before.before.before, c.requires.0)
+shift-requires c κs =
+    let after-values-1 = c.before.before.before.before.before in
+    let after-feed-f = after-values-1.before.before.before.before.before in
+    (used-in after-feed-f, c.requires.0)
 
 -- What is left over stands at the front of the buffer.
 front : (c : tie.After-feed-f) →
@@ -44,12 +47,15 @@ front c =
 
 returns : tie.Need-returns
 returns c =
+    let after-slice_known-9-1 = c.before.before.before.before.before in
+    let after-state-1 = after-slice_known-9-1.before.before.before.before.before in
+    let after-feed-f = after-state-1.before.before.before in
     let shift = c.shift.ensures in
     let feed = c.feed-f.ensures in
     let to = c.args.to in
     let used = c.feed-f.result.used in
-    let z : to - (to - used) ≡ used = omega (arith, used-in c.before.before.before.before.before.before.before.before.before.before.before.before.before) in
-    let e = ap (take (to - used)) shift ∙ front c.before.before.before.before.before.before.before.before.before.before.before.before.before in
+    let z : to - (to - used) ≡ used = omega (arith, used-in after-feed-f) in
+    let e = ap (take (to - used)) shift ∙ front after-feed-f in
     record {
       goes = goes-rest e feed.goes;
       world = feed.world;
@@ -69,7 +75,9 @@ run_turn_spec =
     slice-aggregate-feed
     feed-requires
     shift-requires
-    (λ c. used-in c.before.before.before.before.before.before.before.before.before.before.before.before.before)
+    (λ c. let after-slice_known-9-1 = c.before.before.before.before.before in
+    let after-state-1 = after-slice_known-9-1.before.before.before.before.before in
+    let after-feed-f = after-state-1.before.before.before in used-in after-feed-f)
     (λ c. search rules)
     (λ c. search rules)
     (λ c. search rules)

@@ -20,7 +20,8 @@ loop-again : tie.Need-loop-i-preserved invariant-loop decreases-loop
 loop-again c =
     let memory = sym c.is_memory.ensures in
     ⊎_elim
-    (λ w. set-memory c.loop-i.invariant _ (omega arith) (memory ∙ w.if-is_memory.true) w.initial_value.ensures w.state-is)
+    (λ w. set-memory c.loop-i.invariant _ (omega arith) (memory ∙ w.if-is_memory.true) w.initial_value.ensures
+    w.state-is)
     (λ w. set_other c.loop-i.invariant (omega arith) (memory ∙ w.if-is_memory.false) w.state-is)
     c.if-is_memory.branch-raw
 

@@ -46,7 +46,8 @@ loop-again : tie.Need-loop-next-preserved invariant-loop decreases-loop
 loop-again c =
     let known = c.loop-next.invariant in
     ⊎_elim
-    (λ w. digits_more known (omega arith) (later c.before) _ w.if-value-max.true (omega (arith, w.wide.ensures, w.value-is)))
+    (λ w. digits_more known (omega arith) (later c.before) _ w.if-value-max.true
+    (omega (arith, w.wide.ensures, w.value-is)))
     (λ w. digits-held known (omega arith) (later c.before) _ w.if-value-max.false w.value-is)
     c.if-value-max.branch-raw
 

@@ -32,7 +32,8 @@ is-form : (c : tie.At-loop-f invariant-loop decreases-loop) → form c ≡ form_
 unfolding form_at
 is-form c = ap (λ (l : List Form). get_or l c.loop-f.f no_form) c.all_forms-forms.ensures
 
-room : (c : tie.After-bytes-1 invariant-loop decreases-loop) → (form c.before.before.before.before).len ≤ length (form c.before.before.before.before).text
+room : (c : tie.After-bytes-1 invariant-loop decreases-loop)
+    → (form c.before.before.before.before).len ≤ length (form c.before.before.before.before).text
 room c = rw (is-form c.before.before.before.before) (form-room c.loop-f.f c.loop-f-test.true)
 
 slice-aggregate-scan-form : tie.Need-slice_bounds-scan_form-end invariant-loop decreases-loop
@@ -42,16 +43,20 @@ slice-aggregate-scan-form c =
 
 form-found : tie.Need-returns-in-Found invariant-loop decreases-loop
 form-found c =
+    let after-form-1 = c.before.before.before.before.before in
+    let at-loop-f = after-form-1.before.before in
     let args = c.args in
-    end-found args.text.now args.p c.loop-f.f c.in-Found.next (form c.before.before.before.before.before.before.before) (equation_of c.in-Found.numbers)
-    c.loop-f-test.true (is-form c.before.before.before.before.before.before.before)
+    end-found args.text.now args.p c.loop-f.f c.in-Found.next (form at-loop-f) (equation_of c.in-Found.numbers)
+    c.loop-f-test.true (is-form at-loop-f)
     (found-told args.text.now c.scan_form-s.result c.in-Found.numbers c.in-Found.next c.in-Found.is
     c.scan_form-s.ensures)
 
 loop-again : tie.Need-loop-f-preserved invariant-loop decreases-loop
 loop-again c =
+    let after-form-1 = c.before.before.before.before.before in
+    let at-loop-f = after-form-1.before.before in
     let args = c.args in
-    none_more args.text.now args.p c.loop-f.f (form c.before.before.before.before.before.before.before) (is-form c.before.before.before.before.before.before.before) c.loop-f.invariant
+    none_more args.text.now args.p c.loop-f.f (form at-loop-f) (is-form at-loop-f) c.loop-f.invariant
     (unlike-told args.text.now c.scan_form-s.result c.in_default.is c.scan_form-s.ensures)
 
 no-form : tie.Need-returns invariant-loop decreases-loop

@@ -45,16 +45,20 @@ first_absent c =
 -- The last lines are not there.
 last-absent : tie.Need-returns-in_default-tail
 last-absent c =
+    let after-slice_known-2-1 = c.before.before.before.before.before in
+    let in-Found = after-slice_known-2-1.before.before.before.before in
     let number = c.only-2 in
-    no-closing (opened c.before.before.before.before.before.before.before.before.before) c.read_lines-lines.ensures (equation_of number.result) number.ensures
+    no-closing (opened in-Found) c.read_lines-lines.ensures (equation_of number.result) number.ensures
     (unlike-told c.args.text.now c.scan_form-tail.result c.in_default-tail.is
     c.scan_form-tail.ensures)
 
 -- Bytes follow them.
 bytes_after : tie.Need-returns-then-end-text
 bytes_after c =
+    let after-scan_form-arg-3-1 = c.before.before.before.before.before in
+    let in-Found = after-scan_form-arg-3-1.before.before.before.before.before in
     let number = c.only-2 in
-    bytes_left (opened c.before.before.before.before.before.before.before.before.before.before) c.read_lines-lines.ensures (equation_of number.result)
+    bytes_left (opened in-Found) c.read_lines-lines.ensures (equation_of number.result)
     (equation_of c.in-Found-tail.last) c.in-Found-tail.end number.ensures (closed c.before) c.if-end-text.true
 
 -- The last lines name the last two flows.
@@ -68,8 +72,10 @@ last_named c =
 others-named : (c : tie.In-Found-tail) → (last_named c → ⊥)
     → (t : List ℕ) (m : ℕ) → Proposed c.args.text.now t m → ⊥
 others-named c h =
+    let after-slice_known-2-1 = c.before.before.before.before.before in
+    let in-Found = after-slice_known-2-1.before.before.before.before in
     let number = c.only-2 in
-    other_last (opened c.before.before.before.before.before.before.before.before.before) c.read_lines-lines.ensures (equation_of number.result)
+    other_last (opened in-Found) c.read_lines-lines.ensures (equation_of number.result)
     (equation_of c.in-Found-tail.last) c.in-Found-tail.end number.ensures (closed c) h
 
 -- they name another flow than the started one,
@@ -83,8 +89,12 @@ other-verdict c = others-named c.before.before.before.before.before (λ named. c
 -- The text proposes the equations.
 all_found : tie.Need-returns
 all_found c =
-    proposes (opened c.before.before.before.before.before.before.before.before.before.before.before.before.before.before) c.read_lines-lines.ensures (equation_of c.only-2.result)
-    (equation_of c.in-Found-tail.last) c.in-Found-tail.end (closed c.before.before.before.before.before) c.if-end-text.false c.if-last-n.false
+    let in-Found-tail = c.before.before.before.before.before in
+    let after-slice_known-2-1 = in-Found-tail.before.before.before.before.before in
+    let in-Found = after-slice_known-2-1.before.before.before.before in
+    proposes (opened in-Found) c.read_lines-lines.ensures (equation_of c.only-2.result)
+    (equation_of c.in-Found-tail.last) c.in-Found-tail.end (closed c.before.before.before.before.before)
+    c.if-end-text.false c.if-last-n.false
     c.if-last-n-2.false
 
 pub read_proposal_spec : {M : Type 1} → statement M

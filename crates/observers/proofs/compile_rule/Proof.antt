@@ -60,7 +60,9 @@ emit-observer-requires c κs =
 -- The observer's equations are written.
 emitted : tie.Need-returns
 emitted c =
-    let h = tree c.before.before.before.before.before.before in
+    let else-table-lt-TABLE = c.before.before.before.before.before in
+    let in-Rule = else-table-lt-TABLE.before in
+    let h = tree in-Rule in
     let args = c.args in
     emitted-rule standard_context standard-ranged args.text.now args.table.now h.tree h.is
     c.if-table-lt-TABLE.false _ _ _ h.front c.emit_observer-n.ensures

@@ -44,12 +44,14 @@ known : (c : tie.After-round invariant-loop decreases-loop) →
     OneRound args.table.now args.n (chains args.names.now args.next.now args.heads.now)
     c.clear.new.numbers (chains turn.names turn.next turn.heads) turn.before (after c)
 known c =
+    let after-slice_known-5-1 = c.before.before.before.before.before in
+    let after-clear = after-slice_known-5-1.before.before in
     let pre = c.requires in
     record {
       fitted = pre.fitted;
       rooms = record {
         in-names = pre.rooms.in-names;
-        in-before = omega (arith, (first-cleared c.before.before.before.before.before.before.before).0, pre.rooms.in-before);
+        in-before = omega (arith, (first-cleared after-clear).0, pre.rooms.in-before);
         in-next = pre.rooms.in-next;
         in-heads = pre.rooms.in-heads;
       };
@@ -69,28 +71,42 @@ round-requires c κs =
 
 same-requires : tie.Need-same-requires invariant-loop decreases-loop
 same-requires c κs =
-    let round = known c.before.before.before.before.before.before in (
+    let after-names-1 = c.before.before.before.before.before in
+    let after-round = after-names-1.before in
+    let round = known after-round in (
       omega (arith, round.rooms.in-before, round.from.length_before),
       omega (arith, round.rooms.in-names, names-kept round),
     )
 
 returns : tie.Need-returns-then-same invariant-loop decreases-loop
 returns c =
-    let round = known c.before.before.before.before.before.before.before.before.before.before.before.before.before.before.before.before.before.before.before.before in (
+    let after-next-then-same-1 = c.before.before.before.before.before in
+    let after-clear-then-same = after-next-then-same-1.before.before.before.before.before in
+    let after-heads-1 = after-clear-then-same.before.before.before.before.before in
+    let after-round = after-heads-1.before.before.before.before.before in
+    let after-slice_known-5-1 = after-round.before.before.before.before.before in
+    let after-clear = after-slice_known-5-1.before.before in
+    let round = known after-round in (
       rounding-done round (sym c.same.ensures ∙ c.if-same.true),
-      c.clear-then-same.ensures ∙ round.from.rest-before ∙ (first-cleared c.before.before.before.before.before.before.before.before.before.before.before.before.before.before.before.before.before.before.before.before.before.before.before.before.before.before.before).1,
+      c.clear-then-same.ensures ∙ round.from.rest-before ∙ (first-cleared after-clear).1,
       c.clear-then-same-2.ensures ∙ next-cleared round,
       c.clear-then-same-3.ensures ∙ heads-cleared round,
     )
 
 loop-less : tie.Need-loop-before-smaller invariant-loop decreases-loop
 loop-less c =
-    rounding-less (known c.before.before.before.before.before.before.before.before.before.before.before.before) c.copy.ensures
+    let after-same = c.before.before.before.before.before in
+    let after-slice_known-in-loop-before-1 = after-same.before.before.before.before.before in
+    let after-round = after-slice_known-in-loop-before-1.before.before in
+    rounding-less (known after-round) c.copy.ensures
     (sym c.same.ensures ∙ c.if-same.false)
 
 loop-again : tie.Need-loop-before-preserved invariant-loop decreases-loop
 loop-again c =
-    rounding-more (known c.before.before.before.before.before.before.before.before.before.before.before.before) c.copy.ensures
+    let after-same = c.before.before.before.before.before in
+    let after-slice_known-in-loop-before-1 = after-same.before.before.before.before.before in
+    let after-round = after-slice_known-in-loop-before-1.before.before in
+    rounding-more (known after-round) c.copy.ensures
 
 pub classify_spec : {M : Type 1} → statement M
 classify_spec =

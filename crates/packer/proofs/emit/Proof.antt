@@ -35,9 +35,11 @@ loop-again c =
     let args = c.args in
     let marks = args.marks.now in
     ⊎_elim
-    (λ w. emit-more _ _ pre.fitted _ c.loop-i.invariant taken (not-zero _ _ marks pre.marks _ taken w.if-marks-i-ne0.true)
+    (λ w. emit-more _ _ pre.fitted _ c.loop-i.invariant taken
+    (not-zero _ _ marks pre.marks _ taken w.if-marks-i-ne0.true)
     args.places.now pre.places w.key_at.result w.key_at.ensures (w.second-is ∙ w.put.ensures) w.size-is)
-    (λ w. emit-other _ _ pre.fitted _ c.loop-i.invariant taken (is_zero _ _ marks pre.marks _ taken w.if-marks-i-ne0.false)
+    (λ w. emit-other _ _ pre.fitted _ c.loop-i.invariant taken
+    (is_zero _ _ marks pre.marks _ taken w.if-marks-i-ne0.false)
     w.second-is w.size-is)
     c.if-marks-i-ne0.branch-raw
 

@@ -18,17 +18,32 @@ visit-a c κs = rw c.row_of-row.ensures c.requires.a
 
 visit-b : tie.Need-visit-second-requires
 visit-b c κs =
-    expand-b c.args.classes.now (given c.before.before.before.before.before.before.before.before.before.before.before.before.before.before.before.before.before) (equation c.before.before.before.before.before.before.before.before.before.before.before.before.before.before.before.before.before) c.row_of-row.ensures c.visit-first.ensures
+    let after-slice_known-3-1 = c.before.before.before.before.before in
+    let after-visit-arg-1 = after-slice_known-3-1.before.before.before.before.before in
+    let after-shared_slice_known-2-1 = after-visit-arg-1.before.before.before.before.before in
+    let start = after-shared_slice_known-2-1.before.before in
+    expand-b c.args.classes.now (given start) (equation start) c.row_of-row.ensures c.visit-first.ensures
     c.requires.b
 
 visit-c : tie.Need-visit-requires
 visit-c c κs =
-    expand-c c.args.classes.now (given c.before.before.before.before.before.before.before.before.before.before.before.before.before.before.before.before.before.before.before.before.before.before.before.before.before) (equation c.before.before.before.before.before.before.before.before.before.before.before.before.before.before.before.before.before.before.before.before.before.before.before.before.before) c.row_of-row.ensures c.visit-first.ensures
+    let after-slice_known-5-1 = c.before.before.before.before.before in
+    let after-visit-arg-3-1 = after-slice_known-5-1.before.before.before.before.before in
+    let after-visit-first = after-visit-arg-3-1.before.before.before.before.before in
+    let after-shared_slice_known-3-1 = after-visit-first.before.before.before.before.before in
+    let start = after-shared_slice_known-3-1.before.before.before.before.before in
+    expand-c c.args.classes.now (given start) (equation start) c.row_of-row.ensures c.visit-first.ensures
     c.visit-second.ensures c.requires.c
 
 returns : tie.Need-returns
 returns c =
-    expand-all c.args.classes.now (given c.before.before.before.before.before.before.before.before.before.before.before.before.before.before.before.before.before.before.before.before.before.before.before.before.before.before.before.before.before.before) (equation c.before.before.before.before.before.before.before.before.before.before.before.before.before.before.before.before.before.before.before.before.before.before.before.before.before.before.before.before.before.before) c.row_of-row.ensures c.visit-first.ensures
+    let after-shared_slice_known-6-1 = c.before.before.before.before.before in
+    let after-slice_known-5-1 = after-shared_slice_known-6-1.before.before.before.before.before in
+    let after-visit-arg-3-1 = after-slice_known-5-1.before.before.before.before.before in
+    let after-visit-first = after-visit-arg-3-1.before.before.before.before.before in
+    let after-shared_slice_known-3-1 = after-visit-first.before.before.before.before.before in
+    let start = after-shared_slice_known-3-1.before.before.before.before.before in
+    expand-all c.args.classes.now (given start) (equation start) c.row_of-row.ensures c.visit-first.ensures
     c.visit-second.ensures c.visit.ensures
 
 pub expand_spec : {M : Type 1} → statement M

@@ -65,19 +65,27 @@ expand c κs =
 
 less : tie.Need-loop-done-smaller invariant-loop decreases-loop
 less c =
-    omega (arith, (reach-below _ _ _ _ _ (markable c.before.before.before.before.before.before.before.before.before) _ _ c.loop-done.invariant.0 c.loop-done-test.true).1)
+    let after-expand-arg-in-loop-done-1 = c.before.before.before.before.before in
+    let at-loop-done = after-expand-arg-in-loop-done-1.before.before.before.before in
+    omega (arith, (reach-below _ _ _ _ _ (markable at-loop-done) _ _ c.loop-done.invariant.0 c.loop-done-test.true).1)
 
 loop-again : tie.Need-loop-done-preserved invariant-loop decreases-loop
-loop-again c = (
-  reach-more _ _ _ _ _ (markable c.before.before.before.before.before.before.before.before.before) _ _ c.loop-done.invariant.0 c.loop-done-test.true c.expand-size.ensures,
-  search rules,
-)
+loop-again c =
+    let after-expand-arg-in-loop-done-1 = c.before.before.before.before.before in
+    let at-loop-done = after-expand-arg-in-loop-done-1.before.before.before.before in (
+      reach-more _ _ _ _ _ (markable at-loop-done) _ _ c.loop-done.invariant.0 c.loop-done-test.true
+          c.expand-size.ensures,
+      search rules,
+    )
 
 returns : tie.Need-returns invariant-loop decreases-loop
 returns c =
-    let began = reaching c.before.before.before.before.before.before in
+    let at-loop-done = c.before.before.before.before.before in
+    let after-slice_known-7-1 = at-loop-done.before in
+    let began = reaching after-slice_known-7-1 in
     let end = c.loop-done.invariant.0 in (
-      reach-all _ _ _ _ _ (markable c.before.before.before.before.before) _ _ end (omega arith) ∙ begun-filled began _ c.requires.0.room,
+      reach-all _ _ _ _ _ (markable c.before.before.before.before.before) _ _ end (omega arith)
+          ∙ begun-filled began _ c.requires.0.room,
       c.clear-2.ensures ∙ end.sound.spare ∙ began.sound.spare,
     )
 

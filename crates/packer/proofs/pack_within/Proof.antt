@@ -18,7 +18,10 @@ abbrev marked : tie.After-place-arg-1 → tie.After-mark
 marked c = c.before.before.before.before.before
 
 abbrev named : tie.After-mark-arg-2-1 → tie.After-classify
-named c = c.before.before.before.before.before.before.before.before.before.before
+named c =
+    let at-5 = c.before.before.before.before.before in
+    let at-10 = at-5.before.before.before.before.before in
+    at-10
 
 fits : (c : tie.Start) → Fitted c.args.table.now c.args.n
 fits c = fitted _ _ c.requires.passing
@@ -44,59 +47,96 @@ marks-there : (c : tie.After-mark) →
     let args = c.args in
     let marks = c.mark.new.marks in
     (args.n ≤ length marks) × Marked args.table.now args.n marks
-marks-there c = filled-by _ _ _ c.mark.ensures.0 (heads-there c.before.before.before.before.before.before.before.before.before.before.before)
+marks-there c =
+    let after-slice_known-8-1 = c.before.before.before.before.before in
+    let after-names-1 = after-slice_known-8-1.before.before.before.before.before in
+    let after-classify = after-names-1.before in
+    filled-by _ _ _ c.mark.ensures.0 (heads-there after-classify)
 
 places-there : (c : tie.After-place-size) →
     let args = c.args in
     let places = c.place-size.new.names in
     (args.n ≤ length places) × Placed args.table.now args.n places
-places-there c = filled-by _ _ _ c.place-size.ensures.0 (classes-there c.before.before.before.before.before.before.before.before.before.before.before.before.before.before.before.before.before).0
+places-there c =
+    let after-heads-2-1 = c.before.before.before.before.before in
+    let after-heads-1 = after-heads-2-1.before.before.before.before.before in
+    let after-slice_known-6-1 = after-heads-1.before.before.before.before.before in
+    let after-classify = after-slice_known-6-1.before.before in
+    filled-by _ _ _ c.place-size.ensures.0 (classes-there after-classify).0
 
 classify : tie.Need-classify-requires
-classify c κs = record { fitted = fits c.before.before.before.before.before.before.before.before.before.before; rooms = c.requires.rooms }
+classify c κs =
+    let after-slice_known-4-1 = c.before.before.before.before.before in
+    let start = after-slice_known-4-1.before.before.before.before.before in
+    record { fitted = fits start; rooms = c.requires.rooms }
 
 mark : tie.Need-mark-requires
 mark c κs =
-    let classed = classes-there c.before.before.before.before.before.before.before.before.before.before in (
+    let after-next-1 = c.before.before.before.before.before in
+    let after-classify = after-next-1.before.before.before.before.before in
+    let after-slice_known-5-1 = after-classify.before.before.before.before.before in
+    let after-shared_slice_known-1 = after-slice_known-5-1.before.before.before.before.before in
+    let start = after-shared_slice_known-1.before in
+    let classed = classes-there after-classify in (
       record {
-        fitted = fits c.before.before.before.before.before.before.before.before.before.before.before.before.before.before.before.before.before.before.before.before.before;
+        fitted = fits start;
         two = closed _ _ c.requires.passing;
         names = classed.1;
         named = classed.0;
-        room = heads-there c.before.before.before.before.before.before.before.before.before.before;
+        room = heads-there after-classify;
       },
-      next-there c.before.before.before.before.before.before.before.before.before.before,
+      next-there after-classify,
     )
 
 place : tie.Need-place-size-requires
 place c κs =
+    let after-mark = c.before.before.before.before.before in
+    let after-slice_known-8-1 = after-mark.before.before.before.before.before in
+    let after-names-1 = after-slice_known-8-1.before.before.before.before.before in
+    let after-classify = after-names-1.before in
+    let after-slice_known-5-1 = after-classify.before.before.before.before.before in
+    let after-shared_slice_known-1 = after-slice_known-5-1.before.before.before.before.before in
+    let start = after-shared_slice_known-1.before in
     let marks = marks-there c.before.before.before.before.before in
     record {
-      fitted = fits c.before.before.before.before.before.before.before.before.before.before.before.before.before.before.before.before.before.before.before.before.before.before.before.before.before.before.before;
-      names = (classes-there c.before.before.before.before.before.before.before.before.before.before.before.before.before.before.before.before).1;
+      fitted = fits start;
+      names = (classes-there after-classify).1;
       marks = marks.1;
       marked = marks.0;
-      named = (classes-there c.before.before.before.before.before.before.before.before.before.before.before.before.before.before.before.before).0;
+      named = (classes-there after-classify).0;
     }
 
 emit : tie.Need-emit-requires
 emit c κs =
-    let marks = marks-there c.before.before.before.before.before.before.before.before.before in
+    let after-slice_known-11-1 = c.before.before.before.before.before in
+    let after-mark = after-slice_known-11-1.before.before.before.before in
+    let after-slice_known-8-1 = after-mark.before.before.before.before.before in
+    let after-names-1 = after-slice_known-8-1.before.before.before.before.before in
+    let after-classify-arg-1 = after-names-1.before.before.before.before.before in
+    let after-slice_known-1 = after-classify-arg-1.before.before.before.before.before in
+    let start = after-slice_known-1.before.before in
+    let marks = marks-there after-mark in
     record {
-      fitted = fits c.before.before.before.before.before.before.before.before.before.before.before.before.before.before.before.before.before.before.before.before.before.before.before.before.before.before.before.before.before.before.before;
+      fitted = fits start;
       places = (places-there c.before.before.before).1;
       marks = marks.1;
       marked = marks.0;
-      room = omega (arith, (fits c.before.before.before.before.before.before.before.before.before.before.before.before.before.before.before.before.before.before.before.before.before.before.before.before.before.before.before.before.before.before.before).few, c.requires.room);
+      room = omega (arith, (fits start).few, c.requires.room);
     }
 
 clear-names : tie.Need-clear-requires
 clear-names c κs =
-    (places-there c.before.before.before.before.before.before.before).0
+    let after-slice_known-12-1 = c.before.before.before.before.before in
+    let after-place-size = after-slice_known-12-1.before.before in
+    (places-there after-place-size).0
 
 clear-heads : tie.Need-clear-requires-2
 clear-heads c κs =
-    (marks-there c.before.before.before.before.before.before.before.before.before.before.before.before.before.before.before.before.before).0
+    let after-slice_known-13-1 = c.before.before.before.before.before in
+    let after-names-2-1 = after-slice_known-13-1.before.before.before.before.before in
+    let after-slice_known-10-1 = after-names-2-1.before.before.before.before.before in
+    let after-mark = after-slice_known-10-1.before.before in
+    (marks-there after-mark).0
 
 returns : tie.Need-returns
 returns c =

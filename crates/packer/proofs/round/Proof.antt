@@ -63,7 +63,8 @@ walk-requires c κs =
       key = key.ensures;
       quick = so_far.quick;
       chain =
-          chain-of args.table.now (bucket_of args.n) args.n (number_at args.before.now) (buffers c.before.before.before.before) _ _
+          chain-of args.table.now (bucket_of args.n) args.n (number_at args.before.now)
+          (buffers c.before.before.before.before) _ _
           so_far.buckets bucket.ensures.1 key.ensures bucket.ensures.0;
     }
 
@@ -72,13 +73,15 @@ low : (c : tie.After-walk-j invariant-loop decreases-loop) → c.walk-j.result �
 low c = rw c.walk-j.ensures (first-le _ _)
 
 loop-again : tie.Need-loop-i-preserved invariant-loop decreases-loop
-loop-again c = (
-  omega arith,
-  λ old e.
-      turn _ _ _ _ (buffers c.before.before.before.before.before.before) c.loop-i.i c.key_at-x.result (c.loop-i.invariant.1 old e)
-      c.key_at-x.ensures c.bucket_of-b.ensures.0 c.walk-j.ensures
-      c.head_after.ensures,
-)
+loop-again c =
+    let in-loop-i = c.before.before.before.before.before in
+    let at-loop-i = in-loop-i.before in (
+      omega arith,
+      λ old e.
+          turn _ _ _ _ (buffers at-loop-i) c.loop-i.i c.key_at-x.result (c.loop-i.invariant.1 old e)
+          c.key_at-x.ensures c.bucket_of-b.ensures.0 c.walk-j.ensures
+          c.head_after.ensures,
+    )
 
 returns : tie.Need-returns invariant-loop decreases-loop
 returns c =
@@ -105,7 +108,8 @@ round_spec =
     (λ c. omega (arith, (known c.before.before.before.before.before).next))
     (λ c κs. omega (arith, c.requires.0.few))
     (λ c. search rules)
-    (λ c. omega (arith, (known c.before.before.before.before.before.before).heads))
+    (λ c. let in-loop-i = c.before.before.before.before.before in let at-loop-i = in-loop-i.before in
+    omega (arith, (known at-loop-i).heads))
     (λ c. omega arith)
     (λ c. omega arith)
     loop-again

@@ -7,7 +7,7 @@ use Rattle.packer.proofs.Marks.{visit-room, visit-pushes}
 use Rattle.packer.proofs.visit.Statement.{statement}
 use Rattle.packer.proofs.visit.Tie as tie
 
--- The place where the call of `push` is made, by what it is made for, and the start before it.
+-- There is room for what is read and for what is pushed, by what the operand is.
 earlier-read : tie.Need-bounds-classes-x
 earlier-read c = (visit-room _ _ _ (inl c.in-Earlier.is) c.requires).0
 

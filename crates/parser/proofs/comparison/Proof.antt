@@ -96,15 +96,21 @@ num-value-requires : tie.Need-num_value-requires
 num-value-requires c κs = is-num c.before.before
 
 is-upper-requires : tie.Need-is_upper-requires
-is-upper-requires c κs = is-op c.before.before.before.before.before.before.before.before
+is-upper-requires c κs =
+    let after-push-arg-1 = c.before.before.before.before.before in
+    let else-not-is_op = after-push-arg-1.before.before.before in
+    is-op else-not-is_op
 
 op-num : tie.Need-returns
 op-num c =
+    let after-push-end = c.before.before.before.before.before in
+    let else-not-is_num = after-push-end.before.before.before.before in
+    let else-not-is_op = else-not-is_num.before.before in
     let o = c.number_at-o.ensures in
     let n = c.number_at-n.ensures in
     let upper-op = c.is_upper.ensures ∙ ap (λ (x : ℕ). upper (op_word x)) o in
-    comparison (are-both c.before.before.before.before.before.before.before.before.before)
-    (sym (op-number c.number_at-o.result (is-op c.before.before.before.before.before.before.before.before.before.before.before)) ∙ ap (λ (x : ℕ). op_number (op_word x)) o)
+    comparison (are-both else-not-is_num)
+    (sym (op-number c.number_at-o.result (is-op else-not-is_op)) ∙ ap (λ (x : ℕ). op_number (op_word x)) o)
     (c.num_kind.ensures ∙ ap (λ (x : ℕ). num_kind (num_word x)) n)
     (c.num_value.ensures ∙ ap (λ (x : ℕ). num_value (num_word x)) n) c.push-end.ensures
     (c.atom_facts.ensures

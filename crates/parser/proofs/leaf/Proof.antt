@@ -79,7 +79,8 @@ a-bit c =
     let w = sym c.number_at-w.ensures in
     let s = ap is_signal w ∙ sym c.is_signal.ensures ∙ c.if-is_signal.false in
     let b = ap is_bit w ∙ is-bit c.before.before.before.before.before in
-    let same = ap (λ (x : ℕ). truth (bit_word x)) w ∙ bit-truth c.number_at-w.result (is-bit c.before.before.before.before.before) in
+    let same = ap (λ (x : ℕ). truth (bit_word x)) w
+    ∙ bit-truth c.number_at-w.result (is-bit c.before.before.before.before.before) in
     one-record (constant (bit_word (word args.ws.now args.at))) (simp (s, b)) refl
     (ap (λ (x : ℕ). row CONSTANT x 0 0) same) c.push-end-then-is_bit.ensures c.leaf_facts-then-is_bit.ensures
 

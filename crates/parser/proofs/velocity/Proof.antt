@@ -76,9 +76,12 @@ is-literal c = let test = c.is_velocity in sym test.ensures ∙ c.if-not-is_velo
 
 not-literal : tie.Need-returns-then-not-is_velocity
 not-literal c =
+    let after-number_at-o = c.before.before.before.before.before in
+    let else-number_at-ne-VEL = after-number_at-o.before in
     let test = c.is_velocity in
     let no = sym test.ensures ∙ c.if-not-is_velocity.true in
-    no-literal (is-vel c.before.before.before.before.before.before) (op-word c.before.before) (ap is_velocity (sym c.number_at-n.ensures) ∙ no)
+    no-literal (is-vel else-number_at-ne-VEL) (op-word c.before.before)
+    (ap is_velocity (sym c.number_at-n.ensures) ∙ no)
 
 -- The record.
 sub-op : tie.Need-overflow_sub-o
@@ -89,14 +92,20 @@ sub-literal c = velocity-pos _ (is-literal c.before)
 
 fits : tie.Need-push-end-requires
 fits c κs =
-    fits-push 0 (past_first c.requires (is-vel c.before.before.before.before.before.before.before) (omega arith))
+    let after-number_at-n = c.before.before.before.before.before in
+    let else-number_at-ne-VEL = after-number_at-n.before.before in
+    fits-push 0 (past_first c.requires (is-vel else-number_at-ne-VEL) (omega arith))
 
 all_three : tie.Need-returns
 all_three c =
+    let else-not-is_velocity = c.before.before.before.before.before in
+    let else-not-is_op = else-not-is_velocity.before.before in
+    let else-number_at-ne-VEL = else-not-is_op.before.before.before.before in
     let o = c.number_at-o in
     let n = c.number_at-n in
-    a_test (is-vel c.before.before.before.before.before.before.before.before.before.before.before) (op-word c.before.before.before.before.before.before.before) (ap is_velocity (sym n.ensures) ∙ is-literal c.before.before.before.before.before)
-    (sym (op-number o.result (is-op c.before.before.before.before.before.before.before)) ∙ ap (λ (x : ℕ). op_number (op_word x)) o.ensures)
+    a_test (is-vel else-number_at-ne-VEL) (op-word else-not-is_op)
+    (ap is_velocity (sym n.ensures) ∙ is-literal c.before.before.before.before.before)
+    (sym (op-number o.result (is-op else-not-is_op)) ∙ ap (λ (x : ℕ). op_number (op_word x)) o.ensures)
     (ap velocity_word n.ensures) c.push-end.ensures c.leaf_facts.ensures
 
 pub velocity_spec : {M : Type 1} → statement M

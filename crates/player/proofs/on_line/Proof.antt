@@ -96,12 +96,16 @@ nothing c = rw c.stop-in-Nothing.ensures (ends c.before.before Line.Nothing c.in
 
 rule : tie.Need-returns-in-Rule
 rule c =
+    let after-rule_line = c.before.before.before.before.before in
+    let after-stage_after-next = after-rule_line.before.before.before.before in
     rw c.rule_answer.ensures
-    (rule-ends c.before.before.before.before.before.before.before.before.before c.in-Rule.is _ _ _ c.rule_line.ensures)
+    (rule-ends after-stage_after-next c.in-Rule.is _ _ _ c.rule_line.ensures)
 
 tick : tie.Need-returns-in-Tick
 tick c =
-    c.on_tick.ensures ∙ ends c.before.before.before.before.before.before.before.before (Line.Tick _ _ _) c.in-Tick.is
+    let after-on_tick-arg-in-Tick-1 = c.before.before.before.before.before in
+    let after-stage_after-next = after-on_tick-arg-in-Tick-1.before.before.before in
+    c.on_tick.ensures ∙ ends after-stage_after-next (Line.Tick _ _ _) c.in-Tick.is
 
 pub on_line_spec : {M : Type 1} → statement M
 on_line_spec =

@@ -17,14 +17,18 @@ world c =
 
 verdict : tie.Need-returns-in-Verdict
 verdict c =
+    let after-state-1 = c.before.before.before.before.before in
+    let after-step-stepped = after-state-1.before in
     rw c.go_on.ensures
-    (step-ends _ _ _ _ (world c.before.before.before.before.before.before) _ (S.Verdict _) _ _ _ c.tick_of-now.ensures c.in-Verdict.is
+    (step-ends _ _ _ _ (world after-step-stepped) _ (S.Verdict _) _ _ _ c.tick_of-now.ensures c.in-Verdict.is
     c.step-stepped.ensures)
 
 refused : tie.Need-returns-in-Refused
 refused c =
+    let after-state-1 = c.before.before.before.before.before in
+    let after-step-stepped = after-state-1.before in
     rw c.stop.ensures
-    (step-ends _ _ _ _ (world c.before.before.before.before.before.before) _ (S.Refused _) _ _ _ c.tick_of-now.ensures c.in-Refused.is
+    (step-ends _ _ _ _ (world after-step-stepped) _ (S.Refused _) _ _ _ c.tick_of-now.ensures c.in-Refused.is
     c.step-stepped.ensures)
 
 pub on_tick_spec : {M : Type 1} → statement M

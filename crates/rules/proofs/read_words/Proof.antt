@@ -51,26 +51,32 @@ fragment c = beyond-told _ (within c.before.before.before) c.limits_of-limits.en
 part-only : tie.Need-returns-then-next-ws
 part-only c =
     let ws = text c.before.before.before.before in
-    laid-refused 6 (tree-words ws (within c.before.before.before.before) (part-tree ws (tree c.before).is c.if-next-ws.true))
+    laid-refused 6 (tree-words ws (within c.before.before.before.before)
+    (part-tree ws (tree c.before).is c.if-next-ws.true))
 
 -- one of all, outside the fragment;
 outside : tie.Need-returns-then-beyond
 outside c =
     laid-refused 7
-    (beyond-words (tree c.before.before) (omega arith) (within c.before.before.before.before.before) c.if-next-ws.false (fragment c.before.before ∙ c.if-beyond.true))
+    (beyond-words (tree c.before.before) (omega arith) (within c.before.before.before.before.before) c.if-next-ws.false
+    (fragment c.before.before ∙ c.if-beyond.true))
 
 -- inside it, without and with its leads.
 no_lead : tie.Need-returns-then-not-leads
 no_lead c =
+    let after-arena-1 = c.before.before.before.before.before in
+    let after-read_f = after-arena-1.before in
     let inside = fragment c.before.before.before ∙ c.if-beyond.false in
     laid-refused 8
-    (no-lead-words (tree c.before.before.before) (omega arith) (within c.before.before.before.before.before.before) c.if-next-ws.false inside
+    (no-lead-words (tree c.before.before.before) (omega arith) (within after-read_f) c.if-next-ws.false inside
     (c.if-not-leads.true))
 
 a-rule : tie.Need-returns
 a-rule c =
+    let after-arena-1 = c.before.before.before.before.before in
+    let after-read_f = after-arena-1.before in
     let inside = fragment c.before.before.before ∙ c.if-beyond.false in
-    laid-rule (tree c.before.before.before) (omega arith) (within c.before.before.before.before.before.before) c.if-next-ws.false inside
+    laid-rule (tree c.before.before.before) (omega arith) (within after-read_f) c.if-next-ws.false inside
     (c.if-not-leads.false)
 
 pub read_words_spec : {M : Type 1} → statement M

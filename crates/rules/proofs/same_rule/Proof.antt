@@ -46,7 +46,9 @@ first-tree : (c : tie.In-Rule) →
 first-tree c = front_of (first-laid c.before.before) (omega arith) _ _ c.in-Rule.is
 
 second-tree : (c : tie.In-Rule-others) →
-    Front (other-outcome c.before.before.before.before.before.before) c.in-Rule-others.m
+    let after-arena-2-1 = c.before.before.before.before.before in
+    let after-read_side-records = after-arena-2-1.before in
+    Front (other-outcome after-read_side-records) c.in-Rule-others.m
     c.read_side-others.new.arena
 second-tree c = front_of (second-laid c.before.before) (omega arith) _ _ c.in-Rule-others.is
 
@@ -59,14 +61,16 @@ told a ps b qs r e = (e, same_answer standard_context a ps b qs r e)
 refuses-first : tie.Need-returns-in_default
 refuses-first c =
     let args = c.args in
-    let x = refused_as (first-laid c.before.before.before) c.in_default.field-0 _ c.in_default.is c.records_refusal.ensures in
+    let x = refused_as (first-laid c.before.before.before) c.in_default.field-0 _ c.in_default.is
+    c.records_refusal.ensures in
     told args.first.now args.ps.now args.second.now args.qs.now _
     (sym (ap (λ (o : Outcome). same_of args.ps.now args.qs.now o (other-outcome c.before.before.before)) x))
 
 refuses-second : tie.Need-returns-in_default-others
 refuses-second c =
     let args = c.args in
-    let y = refused_as (second-laid c.before.before.before) c.in_default-others.field-0 _ c.in_default-others.is c.records_refusal-in_default-others.ensures in
+    let y = refused_as (second-laid c.before.before.before) c.in_default-others.field-0 _ c.in_default-others.is
+    c.records_refusal-in_default-others.ensures in
     told args.first.now args.ps.now args.second.now args.qs.now _
     (sym (ap₂ (same_of args.ps.now args.qs.now) (first-tree c.before.before.before.before.before).is y))
 
@@ -91,31 +95,46 @@ second-part-length c =
     part_length _ _ h.fits (omega arith)
 
 first-again : tie.Need-slice_bounds-arena-end-2
-first-again c = let h = first-tree c.before.before.before.before.before.before.before.before in omega (arith, h.fits)
+first-again c =
+    let after-other-2-1 = c.before.before.before.before.before in
+    let in-Rule = after-other-2-1.before.before.before in
+    let h = first-tree in-Rule in omega (arith, h.fits)
 
 first-again-length : tie.Need-slice_bounds-values_agree-end
 first-again-length c =
-    let h = first-tree c.before.before.before.before.before.before.before.before.before in
+    let in-Rule-others = c.before.before.before.before.before in
+    let in-Rule = in-Rule-others.before.before.before.before in
+    let h = first-tree in-Rule in
     part_length _ _ h.fits (omega arith)
 
 -- Two trees, or one with the same values or with two.
 two-trees : tie.Need-returns-then-not-same_numbers
 two-trees c =
+    let after-other-2-1 = c.before.before.before.before.before in
+    let in-Rule = after-other-2-1.before.before.before in
     let args = c.args in
     let numbers = c.same_numbers in
     let no = sym numbers.ensures ∙ c.if-not-same_numbers.true in
     told args.first.now args.ps.now args.second.now args.qs.now _
-    (by-trees args.ps.now args.qs.now (first-tree c.before.before.before.before.before.before.before.before) (second-tree c.before.before.before.before) no)
+    (by-trees args.ps.now args.qs.now (first-tree in-Rule) (second-tree c.before.before.before.before) no)
 
 -- One tree, and what `values_agree` says of it.
-one-tree : (c : tie.After-values_agree) (w : Bool) → c.values_agree.result ≡ w → (
+one-tree : (c : tie.After-values_agree) (w : Bool) →
+    let after-arena-3-1 = c.before.before.before.before.before in
+    let in-Rule = after-arena-3-1.before.before.before.before.before in
+    let after-read_side-records = in-Rule.before.before in
+    c.values_agree.result ≡ w → (
     let args = c.args in
-    cond w Yes No ≡ same_of args.ps.now args.qs.now (outcome c.before.before.before.before.before.before.before.before.before.before.before.before) (other-outcome c.before.before.before.before.before.before.before.before.before.before.before.before))
+    cond w Yes No ≡ same_of args.ps.now args.qs.now (outcome after-read_side-records)
+    (other-outcome after-read_side-records))
 one-tree c w e =
+    let after-arena-3-1 = c.before.before.before.before.before in
+    let in-Rule-others = after-arena-3-1.before in
+    let in-Rule = in-Rule-others.before.before.before.before in
     let args = c.args in
     let numbers = c.same_numbers in
     let yes = sym numbers.ensures ∙ c.if-not-same_numbers.false in
-    by_values args.ps.now args.qs.now (first-tree c.before.before.before.before.before.before.before.before.before.before) (second-tree c.before.before.before.before.before.before) w yes
+    by_values args.ps.now args.qs.now (first-tree in-Rule) (second-tree in-Rule-others) w yes
     (sym c.values_agree.ensures ∙ e)
 
 same-values : tie.Need-returns-then-values_agree

@@ -33,5 +33,6 @@ class_spec =
     (λ c. sym (digit-in-run _ c.in-97-to-122.if-b-lt48-own.false c.in-97-to-122.if-b-lt58-own.true))
     (λ c. sym (letter-in-run _ c.in-97-to-122.if-b-lt97-own.false c.in-97-to-122.if-b-lt123-own.true))
     (λ c. sym (other _ (below-digits _ c.in_default.if-b-lt48-own.true) c.in_default.in_default-own.rest))
-    (λ c. sym (other _ (between _ c.in_default.if-b-lt58-own.false c.in_default.if-b-lt97-own.true) c.in_default.in_default-own.rest))
+    (λ c. sym (other _ (between _ c.in_default.if-b-lt58-own.false c.in_default.if-b-lt97-own.true)
+    c.in_default.in_default-own.rest))
     (λ c. sym (other _ (above-letters _ c.in_default.if-b-lt123-own.false) c.in_default.in_default-own.rest)))

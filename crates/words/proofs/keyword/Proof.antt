@@ -31,13 +31,17 @@ alone i = arm (one i)
 end-or-exists : tie.Need-returns-in-101
 unfolding keyword_of keyword_among
 end-or-exists c =
-    arm (λ r. spelled_as 1 r (one 11 r)) c.before.before.before.before.before.before.before c.in-101.is tt (λ l. refl)
+    let after-spelled_or-arg-in-101-1 = c.before.before.before.before.before in
+    let after-byte_at = after-spelled_or-arg-in-101-1.before.before in
+    arm (λ r. spelled_as 1 r (one 11 r)) after-byte_at c.in-101.is tt (λ l. refl)
     (c.spelled_or-in-101-2.ensures ∙ rw c.spelled_or-in-101.ensures)
 
 len-or-lag : tie.Need-returns-in-108
 unfolding keyword_of keyword_among
 len-or-lag c =
-    arm (λ r. spelled_as 5 r (one 8 r)) c.before.before.before.before.before.before.before c.in-108.is tt (λ l. refl)
+    let after-spelled_or-arg-in-108-1 = c.before.before.before.before.before in
+    let after-byte_at = after-spelled_or-arg-in-108-1.before.before in
+    arm (λ r. spelled_as 5 r (one 8 r)) after-byte_at c.in-108.is tt (λ l. refl)
     (c.spelled_or-in-108-2.ensures ∙ rw c.spelled_or-in-108.ensures)
 
 -- No keyword begins with the byte.

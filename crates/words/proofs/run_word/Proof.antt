@@ -29,22 +29,27 @@ a-signal : tie.Need-returns-in-115
 a-signal c =
     let args = c.args in
     let key = c.in-115.is in
-    let word = run-signal args.context args.awaited (run c.before.before.before.before) (no-keyword c.before.before.before.before) key in
-    c.number.ensures ∙ ap (number_of SIGNAL (signal_count - 1)) (part_to_end (run c.before.before.before.before) 1) ∙ sym word
+    let word = run-signal args.context args.awaited (run c.before.before.before.before)
+    (no-keyword c.before.before.before.before) key in
+    c.number.ensures ∙ ap (number_of SIGNAL (signal_count - 1)) (part_to_end (run c.before.before.before.before) 1)
+    ∙ sym word
 
 a-parameter : tie.Need-returns-in-107
 a-parameter c =
     let args = c.args in
     let key = c.in-107.is in
-    let word = run-parameter args.context args.awaited (run c.before.before.before.before) (no-keyword c.before.before.before.before) key in
-    c.number-in-107.ensures ∙ ap (number_of PARAMETER (parameter_count - 1)) (part_to_end (run c.before.before.before.before) 1) ∙ sym word
+    let word = run-parameter args.context args.awaited (run c.before.before.before.before)
+    (no-keyword c.before.before.before.before) key in
+    c.number-in-107.ensures ∙ ap (number_of PARAMETER (parameter_count - 1))
+    (part_to_end (run c.before.before.before.before) 1) ∙ sym word
 
 a-literal : tie.Need-returns-in_default
 a-literal c =
     let others = c.in_default.in_default-own.rest in
     let args = c.args in
     c.literal_word.ensures
-    ∙ sym (run-literal args.context args.awaited (run c.before.before.before) (no-keyword c.before.before.before) others.0.1 others.1)
+    ∙ sym (run-literal args.context args.awaited (run c.before.before.before) (no-keyword c.before.before.before)
+    others.0.1 others.1)
 
 pub run_word_spec : {M : Type 1} → statement M
 run_word_spec =

@@ -29,11 +29,13 @@ abbrev text : tie.Else-wrong_size invariant-loop decreases-loop → List ℕ
 text c = c.args.text.now
 
 -- The byte is in the text.
-inside : (c : tie.After-class-c invariant-loop decreases-loop) → c.loop-i.i < length (text c.before.before.before.before)
+inside : (c : tie.After-class-c invariant-loop decreases-loop)
+    → c.loop-i.i < length (text c.before.before.before.before)
 inside c = c.loop-i-test.true
 
 -- After the test of the length the words decide.
-by-words : (c : tie.Else-wrong_size invariant-loop decreases-loop) → split_of (context c) (text c) ≡ words (context c) (text c) SPACE []
+by-words : (c : tie.Else-wrong_size invariant-loop decreases-loop) → split_of (context c) (text c)
+    ≡ words (context c) (text c) SPACE []
 by-words c = split-words (context c) (text c) (sym c.wrong_size.ensures ∙ c.if-wrong_size.false)
 
 -- A text that is empty or too long.
@@ -51,8 +53,10 @@ after-space c =
 -- A word too many.
 word-too-many : tie.Need-returns-then-count-eq-WORDS invariant-loop decreases-loop
 word-too-many c =
+    let at-loop-i = c.before.before.before.before.before in
+    let else-wrong_size = at-loop-i.before in
     let refusal = too_many c.loop-i.invariant (inside c.before.before) c.class-c.result c.class-c.ensures in
-    refuses _ _ _ _ 4 (by-words c.before.before.before.before.before.before ∙ refusal c.if-c-eq-SPACE.false c.if-count-eq-WORDS.true)
+    refuses _ _ _ _ 4 (by-words else-wrong_size ∙ refusal c.if-c-eq-SPACE.false c.if-count-eq-WORDS.true)
 
 -- What reading a word asks.
 begun : tie.Need-word_at-token-requires invariant-loop decreases-loop
@@ -67,7 +71,10 @@ room c =
 
 less-after-word : tie.Need-loop-i-smaller invariant-loop decreases-loop
 less-after-word c =
-    let some = width_some (text c.before.before.before.before.before.before.before.before.before) c.loop-i.i _ (inside c.before.before.before.before.before) c.class-c.ensures in
+    let after-class-c = c.before.before.before.before.before in
+    let else-wrong_size = after-class-c.before.before.before.before in
+    let some = width_some (text else-wrong_size) c.loop-i.i _ (inside c.before.before.before.before.before)
+    c.class-c.ensures in
     omega (arith, some, inside c.before.before.before.before.before, c.word_at-token.ensures.1)
 
 after-word : tie.Need-loop-i-preserved invariant-loop decreases-loop
@@ -80,10 +87,13 @@ after-word c =
 -- A word that cannot be made.
 bad-word : tie.Need-returns-in-Bad invariant-loop decreases-loop
 bad-word c =
+    let after-class-c = c.before.before.before.before.before in
+    let else-wrong_size = after-class-c.before.before.before.before in
     let why = sym c.word_at-token.ensures.0 ∙ c.in-Bad.is in
-    let refusal = breaks c.loop-i.invariant (inside c.before.before.before.before.before) c.class-c.result c.class-c.ensures _
+    let refusal = breaks c.loop-i.invariant (inside c.before.before.before.before.before) c.class-c.result
+    c.class-c.ensures _
     c.awaits_velocity.ensures c.if-c-eq-SPACE.false c.if-count-eq-WORDS.false _ why in
-    refuses _ _ _ _ _ (by-words c.before.before.before.before.before.before.before.before.before ∙ refusal)
+    refuses _ _ _ _ _ (by-words else-wrong_size ∙ refusal)
 
 pub split_text_spec : {M : Type 1} → statement M
 split_text_spec =

@@ -64,7 +64,8 @@ an-operator c =
     let class = args.c in
     let next = c.byte_at.ensures ∙ sym (get_or-drop args.i args.text.now 1 0) in
     let no_run = c.if-c-eq-RUN.false in
-    let word = word-operator args.context args.awaited (rest c.before.before.before.before.before) class no_run c.if-c-eq-OTHER.false in
+    let word = word-operator args.context args.awaited (rest c.before.before.before.before.before) class no_run
+    c.if-c-eq-OTHER.false in
     let width = width-operator (rest c.before.before.before.before.before) class no_run in (
       c.operator_at.ensures.0 ∙ ap (longest class) next ∙ sym word,
       c.operator_at.ensures.1 ∙ ap (λ (n : ℕ). args.i + n) (ap (operator_width class) next ∙ sym width),

@@ -73,17 +73,28 @@ module _ (t : ℕ) where
   test-tree c = took c.prop.ensures (λ a m h. span (h (omega arith))) c.in-At.is
 
   sub-test : Here lts.Need-overflow_sub-k
-  sub-test c = test-pos _ (is-test c.before.before.before.before.before.before)
+  sub-test c =
+      let after-prop-arg-1 = c.before.before.before.before.before in
+      let then-is_test = after-prop-arg-1.before in
+      test-pos _ (is-test then-is_test)
 
   add-test-kind : Here lts.Need-overflow_add-k
-  add-test-kind c = omega (arith, test-high _ (is-test c.before.before.before.before.before.before))
+  add-test-kind c =
+      let after-prop-arg-1 = c.before.before.before.before.before in
+      let then-is_test = after-prop-arg-1.before in
+      omega (arith, test-high _ (is-test then-is_test))
 
   test_fits : Here lts.Need-push-end-requires
   test_fits c κs =
-      fits-tree 0 (test-space c.before.before.before.before.before.before) (test-tree c.before).part
+      let after-prop-arg-1 = c.before.before.before.before.before in
+      let then-is_test = after-prop-arg-1.before in
+      fits-tree 0 (test-space then-is_test) (test-tree c.before).part
 
   is-lead-test-requires : Here lts.Need-is_lead_test-requires
-  is-lead-test-requires c κs = is-test c.before.before.before.before.before.before.before.before.before
+  is-lead-test-requires c κs =
+      let after-slice_known-then-is_test-1 = c.before.before.before.before.before in
+      let then-is_test = after-slice_known-then-is_test-1.before.before.before.before in
+      is-test then-is_test
 
   test-p-length : Here lts.Need-shape_of-arena-then-is_test
   test-p-length c =
@@ -91,7 +102,10 @@ module _ (t : ℕ) where
 
   test-p : Here lts.Need-returns-then-is_test
   test-p c =
-      Steps.A-test (test_word_lem c.before.before.before.before.before.before.before.before.before.before.before) (test-tree c.before.before.before.before.before.before) c.number_at-k.ensures c.push-end.ensures
+      let after-push-arg-1 = c.before.before.before.before.before in
+      let in-At = after-push-arg-1.before in
+      let then-is_test = in-At.before.before.before.before.before in
+      Steps.A-test (test_word_lem then-is_test) (test-tree in-At) c.number_at-k.ensures c.push-end.ensures
       (c.atom_facts.ensures ∙ ap atom_facts c.is_lead_test.ensures)
 
   -- `len`, and op n.
@@ -148,17 +162,28 @@ module _ (t : ℕ) where
   count-tree c = took c.prop-then-is_count.ensures (λ a m h. span (h (omega arith))) c.in-At-prop.is
 
   sub-count : Here lts.Need-overflow_sub-k-then-is_count
-  sub-count c = count-pos _ (is-count c.before.before.before.before.before.before)
+  sub-count c =
+      let after-prop-arg-then-is_count-1 = c.before.before.before.before.before in
+      let then-is_count = after-prop-arg-then-is_count-1.before in
+      count-pos _ (is-count then-is_count)
 
   add-count-kind : Here lts.Need-overflow_add-k-then-is_count
-  add-count-kind c = omega (arith, count-high _ (is-count c.before.before.before.before.before.before))
+  add-count-kind c =
+      let after-prop-arg-then-is_count-1 = c.before.before.before.before.before in
+      let then-is_count = after-prop-arg-then-is_count-1.before in
+      omega (arith, count-high _ (is-count then-is_count))
 
   is-lead-count-requires : Here lts.Need-is_lead_count-requires
-  is-lead-count-requires c κs = is-count c.before.before.before.before.before.before
+  is-lead-count-requires c κs =
+      let after-prop-arg-then-is_count-1 = c.before.before.before.before.before in
+      let then-is_count = after-prop-arg-then-is_count-1.before in
+      is-count then-is_count
 
   count-compared : Here lts.Need-comparison-requires-then-is_count
   count-compared c κs =
-      let s = past-tree (count-space c.before.before.before.before.before.before.before) (count-tree c.before.before).part in
+      let after-prop-then-is_count = c.before.before.before.before.before in
+      let then-is_count = after-prop-then-is_count.before.before in
+      let s = past-tree (count-space then-is_count) (count-tree c.before.before).part in
       (omega arith, fits-push 0 s)
 
   count-p-length : Here lts.Need-shape_of-arena-then-is_count
@@ -167,11 +192,17 @@ module _ (t : ℕ) where
 
   count-p : Here lts.Need-returns-then-is_count
   count-p c =
-      Steps.A-count (count_word_lem c.before.before.before.before.before.before.before.before.before.before) (count-tree c.before.before.before.before.before) c.number_at-k.ensures
+      let in-At-prop = c.before.before.before.before.before in
+      let then-is_count = in-At-prop.before.before.before.before.before in
+      Steps.A-count (count_word_lem then-is_count) (count-tree c.before.before.before.before.before)
+      c.number_at-k.ensures
       c.is_lead_count.ensures c.comparison-then-is_count.ensures
 
   -- `lag`.
-  lag-word : (c : Here lts.Then-k-eq-LAG) → first c.before.before.before.before.before.before ≡ Word.LAG
+  lag-word : (c : Here lts.Then-k-eq-LAG) →
+      let after-is_test = c.before.before.before.before.before in
+      let after-number_at-k = after-is_test.before in
+      first after-number_at-k ≡ Word.LAG
   lag-word c = sym c.number_at-k.ensures ∙ c.if-k-eq-LAG.true
 
   lag-requires : Here lts.Need-lag-requires

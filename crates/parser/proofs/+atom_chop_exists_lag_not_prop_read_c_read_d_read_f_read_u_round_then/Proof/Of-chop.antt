@@ -61,7 +61,9 @@ module _ (t : ℕ) where
 
   fits : Here lts.Need-push-end-requires
   fits c κs =
-      fits-tree 0 (chop-space c.before.before.before.before.before.before) (tree c.before).part
+      let after-read_f-arg-1 = c.before.before.before.before.before in
+      let after-slice_known-1 = after-read_f-arg-1.before in
+      fits-tree 0 (chop-space after-slice_known-1) (tree c.before).part
 
   facts-requires : Here lts.Need-chop_facts-requires
   facts-requires c κs =

@@ -81,7 +81,9 @@ module _ (t : ℕ) where
 
   no-u : Here lts.Need-returns-in_default
   no-u c =
-      Steps.exists-no refl (exists-word c.before.before.before.before.before.before.before.before) (signal-word c.before.before.before.before.before)
+      let else-not-is_signal = c.before.before.before.before.before in
+      let after-slice_known-1 = else-not-is_signal.before.before.before in
+      Steps.exists-no refl (exists-word after-slice_known-1) (signal-word c.before.before.before.before.before)
       (lost c.read_u.ensures c.in_default.is)
 
   -- and a U.
@@ -93,11 +95,15 @@ module _ (t : ℕ) where
 
   sub-signal : Here lts.Need-overflow_sub-w
   sub-signal c =
-      signal-pos c.number_at-w.result (is-signal c.before.before.before.before.before.before)
+      let after-read_u-arg-1 = c.before.before.before.before.before in
+      let else-not-is_signal = after-read_u-arg-1.before in
+      signal-pos c.number_at-w.result (is-signal else-not-is_signal)
 
   fits : Here lts.Need-push-end-requires
   fits c κs =
-      fits-tree 0 (signal-space c.before.before.before.before.before.before) (tree c.before).part
+      let after-read_u-arg-1 = c.before.before.before.before.before in
+      let else-not-is_signal = after-read_u-arg-1.before in
+      fits-tree 0 (signal-space else-not-is_signal) (tree c.before).part
 
   u-length : Here lts.Need-shape_of-arena
   u-length c =
@@ -105,7 +111,11 @@ module _ (t : ℕ) where
 
   u : Here lts.Need-returns
   u c =
-      Steps.U-exists refl (exists-word c.before.before.before.before.before.before.before.before.before.before.before.before.before) (signal-word c.before.before.before.before.before.before.before.before.before.before) (tree c.before.before.before.before.before)
+      let in-At = c.before.before.before.before.before in
+      let else-not-is_signal = in-At.before.before.before.before.before in
+      let after-slice_known-1 = else-not-is_signal.before.before.before in
+      Steps.U-exists refl (exists-word after-slice_known-1) (signal-word else-not-is_signal)
+      (tree c.before.before.before.before.before)
       c.number_at-w.ensures c.push-end.ensures
       c.exists_facts.ensures
 

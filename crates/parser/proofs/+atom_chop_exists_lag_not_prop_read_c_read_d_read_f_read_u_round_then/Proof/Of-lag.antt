@@ -61,7 +61,10 @@ module _ (t : ℕ) where
   p-space : (c : Here lts.In-At) →
       Space 12 c.args.ws.now c.in-At.j c.prop.new.arena
       c.in-At.t
-  p-space c = past-between (word-space c.before.before.before.before.before.before.before) (p-tree c) (omega arith)
+  p-space c =
+      let after-slice_known-1 = c.before.before.before.before.before in
+      let start = after-slice_known-1.before.before in
+      past-between (word-space start) (p-tree c) (omega arith)
 
   -- The word after it is no n;
   no-n-length : Here lts.Need-shape_of-arena-then-not-is_num
@@ -101,8 +104,10 @@ module _ (t : ℕ) where
 
   q-requires : Here lts.Need-prop-requires-2
   q-requires c κs =
+      let else-not-is_num = c.before.before.before.before.before in
+      let in-At = else-not-is_num.before.before.before in
       let s = n-space c.before.before.before in
-      let moves = (p-tree c.before.before.before.before.before.before.before.before).part.spans.moves in
+      let moves = (p-tree in-At).part.spans.moves in
       (omega (arith, c.requires.0), opening s (omega arith))
 
   -- There is no Q;
@@ -113,30 +118,43 @@ module _ (t : ℕ) where
 
   no-q : Here lts.Need-returns-in_default-prop
   no-q c =
-      Steps.lag-no-q _ c.requires.1.first (p-tree c.before.before.before.before.before.before.before.before.before.before.before.before) (n-word c.before.before.before.before.before.before.before.before.before)
+      let after-slice_known-3-1 = c.before.before.before.before.before in
+      let else-not-is_num = after-slice_known-3-1.before.before.before.before in
+      let in-At = else-not-is_num.before.before.before in
+      Steps.lag-no-q _ c.requires.1.first (p-tree in-At) (n-word else-not-is_num)
       (lost c.prop-2.ensures c.in_default-prop.is)
 
   -- or there is one,
   q-tree : (c : Here lts.In-At-prop) →
       Gave (go_b Word.COMMA Word.SQUARE-END) c.args.ws.now (c.in-At.j + 1)
-      c.push-run.new.arena c.push-run.result (c.in-At-prop.m, (c.in-At-prop.e, (c.in-At-prop.field-2, tt))) c.prop-2.new.arena
+      c.push-run.new.arena c.push-run.result (c.in-At-prop.m, (c.in-At-prop.e, (c.in-At-prop.field-2, tt)))
+      c.prop-2.new.arena
   q-tree c = took c.prop-2.ensures (λ a m h. span (h (omega arith))) c.in-At-prop.is
 
   -- and room behind it.
   q-space : (c : Here lts.In-At-prop) →
       Space 20 c.args.ws.now c.in-At-prop.m
       c.prop-2.new.arena c.in-At-prop.e
-  q-space c = past-between (n-space c.before.before.before.before.before.before.before) (q-tree c) (omega arith)
+  q-space c =
+      let after-slice_known-3-1 = c.before.before.before.before.before in
+      let after-push-run = after-slice_known-3-1.before.before in
+      past-between (n-space after-push-run) (q-tree c) (omega arith)
 
   num-value-requires : Here lts.Need-num_value-requires
-  num-value-requires c κs = is-num c.before.before.before.before.before.before.before.before.before.before.before
+  num-value-requires c κs =
+      let after-prop-2 = c.before.before.before.before.before in
+      let after-push-arg-1 = after-prop-2.before.before.before.before.before in
+      let else-not-is_num = after-push-arg-1.before in
+      is-num else-not-is_num
 
   fine-fits : Here lts.Need-push-fine-requires
   fine-fits c κs = fits-push 16 (q-space c.before.before.before)
 
   always-fits : Here lts.Need-push-end-requires
   always-fits c κs =
-      fits-push 12 (past-push 16 (q-space c.before.before.before.before.before.before.before) c.push-fine.ensures)
+      let after-num_kind = c.before.before.before.before.before in
+      let in-At-prop = after-num_kind.before.before in
+      fits-push 12 (past-push 16 (q-space in-At-prop) c.push-fine.ensures)
 
   lag-length : Here lts.Need-shape_of-arena
   lag-length c =
@@ -145,7 +163,13 @@ module _ (t : ℕ) where
 
   a-lag : Here lts.Need-returns
   a-lag c =
-      Steps.A-lag _ c.requires.1.first (p-tree c.before.before.before.before.before.before.before.before.before.before.before.before.before.before.before.before.before.before.before.before.before.before.before) (n-word c.before.before.before.before.before.before.before.before.before.before.before.before.before.before.before.before.before.before.before.before) c.push-run.ensures (q-tree c.before.before.before.before.before.before.before.before.before.before.before)
+      let after-slice_known-5-1 = c.before.before.before.before.before in
+      let after-push-arg-2-1 = after-slice_known-5-1.before.before.before.before.before in
+      let in-At-prop = after-push-arg-2-1.before in
+      let after-slice_known-3-1 = in-At-prop.before.before.before.before.before in
+      let else-not-is_num = after-slice_known-3-1.before.before.before.before in
+      let in-At = else-not-is_num.before.before.before in
+      Steps.A-lag _ c.requires.1.first (p-tree in-At) (n-word else-not-is_num) c.push-run.ensures (q-tree in-At-prop)
       c.number_at-n.ensures c.num_kind.ensures
       c.num_value.ensures c.push-fine.ensures c.push-end.ensures c.atom_facts.ensures
 

@@ -59,7 +59,9 @@ module _ (t : ℕ) where
 
   fits : Here lts.Need-push-end-requires
   fits c κs =
-      fits-tree 0 (not-space c.before.before.before.before.before.before) (tree c.before).part
+      let after-read_u-arg-1 = c.before.before.before.before.before in
+      let after-slice_known-1 = after-read_u-arg-1.before in
+      fits-tree 0 (not-space after-slice_known-1) (tree c.before).part
 
   facts-requires : Here lts.Need-not_facts-requires
   facts-requires c κs =
@@ -71,7 +73,9 @@ module _ (t : ℕ) where
 
   u : Here lts.Need-returns
   u c =
-      Steps.U-not (not-word c.before.before.before.before.before.before.before.before.before.before) (tree c.before.before.before.before.before)
+      let in-At = c.before.before.before.before.before in
+      let after-slice_known-1 = in-At.before.before.before.before.before in
+      Steps.U-not (not-word after-slice_known-1) (tree c.before.before.before.before.before)
       c.push-end.ensures c.not_facts.ensures
 
   -- So the member meets its contract, if the calls with lower measures do.

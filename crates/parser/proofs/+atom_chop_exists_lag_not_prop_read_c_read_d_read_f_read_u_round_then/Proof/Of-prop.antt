@@ -71,7 +71,9 @@ module _ (t : ℕ) where
 
   unclosed : Here lts.Need-returns-then-number_at-after
   unclosed c =
-      Steps.bracket-open (between _ _) (open-word c.before.before.before.before.before.before.before) (contents c.before.before)
+      let after-read_f = c.before.before.before.before.before in
+      let else-number_at-before = after-read_f.before.before in
+      Steps.bracket-open (between _ _) (open-word else-number_at-before) (contents c.before.before)
       (λ e. c.if-number_at-after.true (c.number_at-2.ensures ∙ e))
 
   -- it closes.
@@ -85,7 +87,9 @@ module _ (t : ℕ) where
 
   closed : Here lts.Need-returns
   closed c =
-      Steps.bracket-closed (between _ _) (open-word c.before.before.before.before.before.before.before) (contents c.before.before)
+      let after-read_f = c.before.before.before.before.before in
+      let else-number_at-before = after-read_f.before.before in
+      Steps.bracket-closed (between _ _) (open-word else-number_at-before) (contents c.before.before)
       (sym c.number_at-2.ensures ∙ c.if-number_at-after.false)
 
   -- So the member meets its contract, if the calls with lower measures do.

@@ -34,7 +34,8 @@ abbrev μ-loop : lts.decreases-loop-arena
 
 module _ (t : ℕ) where
   -- A place or a need of the member, where its measure is t.
-  abbrev Here : (lts.Claims → In 2 ps → Out 2 ps r → lts.invariant-loop-arena → lts.decreases-loop-arena → Type 0) → Type 0
+  abbrev Here : (lts.Claims → In 2 ps → Out 2 ps r → lts.invariant-loop-arena → lts.decreases-loop-arena → Type 0)
+      → Type 0
   Here place = place (calls-read-c t) (at ps μ-read-c reads.Pre t) reads.Post Inv-loop μ-loop
 
   -- The first part, if there is one,
@@ -91,11 +92,15 @@ module _ (t : ℕ) where
 
   missing-length : Here lts.Need-shape_of-arena-in_default-read_u
   missing-length c =
-      c.read_u-in-loop-arena.auto.arena ∙ same_size (parts c.before.before.before.before.before.before.before).part
+      let in-loop-arena = c.before.before.before.before.before in
+      let at-loop-arena = in-loop-arena.before.before in
+      c.read_u-in-loop-arena.auto.arena ∙ same_size (parts at-loop-arena).part
 
   missing : Here lts.Need-returns-in_default-read_u
   missing c =
-      Chains.missing (chain-C c.args.inside) (parts c.before.before.before.before.before.before.before) (join-word c.before.before.before.before.before)
+      let in-loop-arena = c.before.before.before.before.before in
+      let at-loop-arena = in-loop-arena.before.before in
+      Chains.missing (chain-C c.args.inside) (parts at-loop-arena) (join-word c.before.before.before.before.before)
       (lost c.read_u-in-loop-arena.ensures c.in_default-read_u.is)
 
   -- One part more.
@@ -107,20 +112,28 @@ module _ (t : ℕ) where
 
   more-fits : Here lts.Need-push-t-requires
   more-fits c κs =
-      fits-tree 0 (join-space c.before.before.before.before.before.before) (more c.before).part
+      let after-read_u-arg-in-loop-arena-1 = c.before.before.before.before.before in
+      let in-loop-arena = after-read_u-arg-in-loop-arena-1.before in
+      fits-tree 0 (join-space in-loop-arena) (more c.before).part
 
   join-facts-requires : Here lts.Need-join_facts-facts-requires
   join-facts-requires c κs =
+      let after-slice_known-in-loop-arena-1 = c.before.before.before.before.before in
+      let after-number_at = after-slice_known-in-loop-arena-1.before.before.before.before.before in
+      let at-loop-arena = after-number_at.before in
       let few = c.requires.1.few in
-      (few-nodes few (parts c.before.before.before.before.before.before.before.before.before.before.before).part, few-nodes few (more c.before.before.before.before).part)
+      (few-nodes few (parts at-loop-arena).part, few-nodes few (more c.before.before.before.before).part)
 
   loop-less : Here lts.Need-loop-arena-smaller
   loop-less c = let s = (more c.before.before.before.before.before).part.spans in omega arith
 
   loop-again : Here lts.Need-loop-arena-preserved
   loop-again c =
+      let in-At-read_u = c.before.before.before.before.before in
+      let in-loop-arena = in-At-read_u.before.before.before.before.before in
       λ o h.
-      Chains.more (chain-C c.args.inside) (c.loop-arena.invariant o h) (join-word c.before.before.before.before.before.before.before.before.before.before) (more c.before.before.before.before.before)
+      Chains.more (chain-C c.args.inside) (c.loop-arena.invariant o h) (join-word in-loop-arena)
+      (more c.before.before.before.before.before)
       c.push-t.ensures c.join_facts-facts.ensures
 
   -- No part more.

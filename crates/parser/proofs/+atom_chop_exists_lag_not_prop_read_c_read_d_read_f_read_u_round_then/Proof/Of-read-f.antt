@@ -57,7 +57,8 @@ module _ (t : ℕ) where
   -- A D, and the room after it.
   d-tree : (c : Here lts.In-At) →
       let args = c.args in
-      Gave (go_d args.inside) (text c) args.at args.arena.now args.top (c.in-At.j, (c.in-At.t, (c.in-At.a, tt))) (arena c)
+      Gave (go_d args.inside) (text c) args.at args.arena.now args.top (c.in-At.j, (c.in-At.t, (c.in-At.a, tt)))
+      (arena c)
   d-tree c = took c.read_d.ensures (λ a m h. span h) c.in-At.is
 
   d-space : (c : Here lts.In-At) → Space 0 (text c) (next c) (arena c) (end c)
@@ -68,23 +69,32 @@ module _ (t : ℕ) where
 
   d-inside : Here lts.Need-returns-then-inside
   d-inside c =
-      Steps.F-one (d-tree c.before) (ap (λ (x : Bool). join_of x (word (text c.before) (next c.before))) c.if-inside.true)
+      Steps.F-one (d-tree c.before) (ap (λ (x : Bool). join_of x (word (text c.before) (next c.before)))
+      c.if-inside.true)
 
   d-few : (c : Here lts.In-At) → c.in-At.a.nodes ≤ word_limit
   d-few c = few-nodes c.requires.1.few (d-tree c).part
 
   -- `then` and an F, with the room that a D outside square brackets leaves,
-  then-word : (c : Here lts.Then-k-eq-THEN) → word (text c.before.before.before) (next c.before.before.before) ≡ Word.THEN
+  then-word : (c : Here lts.Then-k-eq-THEN) → word (text c.before.before.before) (next c.before.before.before)
+      ≡ Word.THEN
   then-word c = sym c.number_at-k.ensures ∙ c.if-k-eq-THEN.true
 
   then-requires : Here lts.Need-then-requires
   then-requires c κs =
       let p = (d-tree c.before.before.before.before).part.spans in
       let s = past-outside c.requires.1 (d-tree c.before.before.before.before) c.if-inside.false in
-      let more : Room (text c.before.before.before.before) (next c.before.before.before.before) (arena c.before.before.before.before) (end c.before.before.before.before + 8) =
+      let more : Room (text c.before.before.before.before) (next c.before.before.before.before)
+      (arena c.before.before.before.before) (end c.before.before.before.before + 8) =
       record { few = s.few; within = s.within; fits = s.fits }
-      in
-      (omega (arith, c.requires.0), (record { room = more; first = then-word c.before }, d-few c.before.before.before.before))
+      in (
+        omega (arith, c.requires.0),
+        (
+          record { room = more; first = then-word c.before },
+          d-few
+              c.before.before.before.before,
+        ),
+      )
 
   then-length : Here lts.Need-shape_of-arena-then-k-eq-THEN
   then-length c =
@@ -92,17 +102,24 @@ module _ (t : ℕ) where
 
   a-then : Here lts.Need-returns-then-k-eq-THEN
   a-then c =
-      Steps.F-then (d-tree c.before.before.before.before.before.before.before) c.if-inside.false (then-word c.before.before.before.before) c.then.ensures
+      let after-number_at-k = c.before.before.before.before.before in
+      let in-At = after-number_at-k.before.before in
+      Steps.F-then (d-tree in-At) c.if-inside.false (then-word c.before.before.before.before) c.then.ensures
 
   -- or `chop` and an F.
-  chop-word : (c : Here lts.Then-k-eq-CHOP) → word (text c.before.before.before.before) (next c.before.before.before.before) ≡ Word.CHOP
+  chop-word : (c : Here lts.Then-k-eq-CHOP) → word (text c.before.before.before.before)
+      (next c.before.before.before.before) ≡ Word.CHOP
   chop-word c = sym c.number_at-k.ensures ∙ c.if-k-eq-CHOP.true
 
   chop-requires : Here lts.Need-chop-requires
   chop-requires c κs =
       let p = (d-tree c.before.before.before.before.before).part.spans in (
         omega (arith, c.requires.0),
-        (record { room = room (d-space c.before.before.before.before.before); first = chop-word c.before }, d-few c.before.before.before.before.before),
+        (
+          record { room = room (d-space c.before.before.before.before.before); first = chop-word c.before },
+          d-few
+              c.before.before.before.before.before,
+        ),
       )
 
   chop-length : Here lts.Need-shape_of-arena-then-k-eq-CHOP
@@ -111,7 +128,9 @@ module _ (t : ℕ) where
 
   a-chop : Here lts.Need-returns-then-k-eq-CHOP
   a-chop c =
-      Steps.F-chop (d-tree c.before.before.before.before.before.before.before.before) c.if-inside.false (chop-word c.before.before.before.before)
+      let else-k-eq-THEN = c.before.before.before.before.before in
+      let in-At = else-k-eq-THEN.before.before.before in
+      Steps.F-chop (d-tree in-At) c.if-inside.false (chop-word c.before.before.before.before)
       c.chop.ensures
 
   -- Neither: the D alone.

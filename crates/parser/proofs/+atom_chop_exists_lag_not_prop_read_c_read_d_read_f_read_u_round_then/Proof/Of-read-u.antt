@@ -72,7 +72,8 @@ module _ (t : ℕ) where
 
   a-leaf : Here lts.Need-returns-then-inside
   a-leaf c =
-      Steps.U-leaf (no-not c.before.before.before.before.before) (no-round c.before.before.before.before.before) c.if-inside.true c.leaf.ensures
+      Steps.U-leaf (no-not c.before.before.before.before.before) (no-round c.before.before.before.before.before)
+      c.if-inside.true c.leaf.ensures
 
   -- Outside them: `exists`,
   exists-requires : Here lts.Need-exists-requires
@@ -104,7 +105,9 @@ module _ (t : ℕ) where
 
   an-atom : Here lts.Need-returns
   an-atom c =
-      Steps.U-atom (no-not c.before.before.before.before.before.before) (no-round c.before.before.before.before.before.before) c.if-inside.false
+      let else-inside = c.before.before.before.before.before in
+      let else-k-eq-ROUND = else-inside.before in
+      Steps.U-atom (no-not else-k-eq-ROUND) (no-round else-k-eq-ROUND) c.if-inside.false
       (λ e. c.if-k-eq-EXISTS.false (c.number_at-k.ensures ∙ e)) c.atom.ensures
 
   -- So the member meets its contract, if the calls with lower measures do.

@@ -65,7 +65,9 @@ module _ (t : ℕ) where
 
   unclosed : Here lts.Need-returns-then-number_at-ne-ROUND_END
   unclosed c =
-      Steps.bracket-open (round c.args.inside) (round-word c.before.before.before.before.before.before.before) (tree c.before.before)
+      let after-read_f = c.before.before.before.before.before in
+      let after-slice_known-1 = after-read_f.before.before in
+      Steps.bracket-open (round c.args.inside) (round-word after-slice_known-1) (tree c.before.before)
       (λ e. c.if-number_at-ne-ROUND_END.true (c.number_at.ensures ∙ e))
 
   add-end : Here lts.Need-overflow_add-result
@@ -78,7 +80,9 @@ module _ (t : ℕ) where
 
   closed : Here lts.Need-returns
   closed c =
-      Steps.bracket-closed (round c.args.inside) (round-word c.before.before.before.before.before.before.before) (tree c.before.before)
+      let after-read_f = c.before.before.before.before.before in
+      let after-slice_known-1 = after-read_f.before.before in
+      Steps.bracket-closed (round c.args.inside) (round-word after-slice_known-1) (tree c.before.before)
       (sym c.number_at.ensures ∙ c.if-number_at-ne-ROUND_END.false)
 
   -- So the member meets its contract, if the calls with lower measures do.

@@ -71,7 +71,9 @@ module _ (t : ℕ) where
 
   fits : Here lts.Need-push-end-requires
   fits c κs =
-      fits-tree 4 (mark-space c.before.before.before.before.before.before.before.before) (tree c.before).part
+      let after-read_f-arg-1 = c.before.before.before.before.before in
+      let after-push-mark = after-read_f-arg-1.before.before.before in
+      fits-tree 4 (mark-space after-push-mark) (tree c.before).part
 
   facts-requires : Here lts.Need-then_facts-requires
   facts-requires c κs =
