@@ -31,6 +31,7 @@ pub struct Key {
 }
 
 // The number x of an equation, as its row has it: an operand that has to be earlier by `names`, a memory's by `before`.
+#[tactic(auto, unfolding(crate::specs::Round::mixed_number))]
 fn named(names: &[u32], before: &[u32], o: Operand, x: u32) -> u32
     ensures { result ≡ mixed_number (number_at names.now) (number_at before.now) o x }
 {
@@ -245,6 +246,7 @@ fn push(marks: &mut [u32], found: &mut [u32], size: usize, x: u32) -> usize
 }
 
 // Marks the class of the number x of an equation, if its row has an operand there.
+#[tactic(auto, unfolding(crate::specs::Mark::visited, crate::specs::Mark::Visit))]
 fn visit(
     classes: &[u32],
     marks: &mut [u32],

@@ -78,7 +78,7 @@ of-compare-parameter : tie.Need-returns-in-11
 unfolding value_of kind_of
 of-compare-parameter c =
     let tick = c.requires.1 in
-    rw (c.in-11.is, ← c.number_at-in-11.ensures, ← tick, ← c.number_at-in-11-2.ensures)
+    rw (c.in-11.is, ← tick, ← c.number_at-in-11.ensures, ← c.number_at-in-11-2.ensures)
     (c.number-in-11.ensures ∙ ap truth c.compare-in-11.ensures)
 
 of-velocity : tie.Need-returns-in-12

@@ -4,7 +4,7 @@ use mathlib.Core.Logic.{⊎_elim}
 use Prim.Native.Nat.{◌-◌}
 use native.Mathlib.Omega.{arith}
 use borrow.Author.Rules.{rules}
-use Rattle.packer.proofs.Emits.{Emitting, not-zero, is_zero, emit-none, emit-length, emit-room, emit-more}
+use Rattle.packer.proofs.Emits.{Emitting, not-zero, is_zero, emit-none, emit-length, emit-more}
 use Rattle.packer.proofs.Emits.{emit-few, emit-other, emit-all}
 use Rattle.packer.proofs.emit.Statement.{statement}
 use Rattle.packer.proofs.emit.Tie as tie
@@ -21,7 +21,8 @@ loop-holds c = emit-none _ _ c.requires.fitted _
 room : tie.Need-put-requires invariant-loop decreases-loop
 room c κs =
     let pre = c.requires in
-    emit-room _ _ pre.fitted _ c.loop-i.invariant pre.room c.loop-i-test.true
+    let inv = c.loop-i.invariant in
+    omega (arith, emit-length _ _ pre.fitted _ inv, emit-few _ _ pre.fitted _ inv, pre.room, c.loop-i-test.true)
 
 more-fits : tie.Need-overflow_add-size invariant-loop decreases-loop
 more-fits c =
