@@ -3,8 +3,8 @@
 
 usage: tools/respell.py [DIR]      in the repository, or in DIR; once, after the kit's port.py
 
-A word is turned where it is written in lower camel case: in the .antt files, in the clauses, imports and comments of the
-.rt files, and in the pages. Types, modules and facts keep their capitals, and so does a fact's name within a longer
+A word is turned where it is written in lower camel case: in the .antt files, and in the clauses, imports and comments of
+the .rt files. Types, modules and facts keep their capitals, and so does a fact's name within a longer
 name (`step-Fits`). Functions, constants, strings, inputs and outputs have no such words, and keep theirs. Where a lemma
 had the name that a definition gets now, the lemma takes `_lem`.
 """

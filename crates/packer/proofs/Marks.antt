@@ -1,19 +1,15 @@
 -- The marks of the equations that the last two reach, as the program finds them. Assumes nothing.
 use mathlib.Core.Path.{◌≡◌, refl, ◌∙◌}
 use mathlib.Core.List.{List}
-use mathlib.Core.Logic.{◌⊎◌, inl, inr}
-use Prim.Native.Nat.{ℕ, zero, suc, ◌+◌, ◌<◌}
-use lib.ListN.{length, set}
+use Prim.Native.Nat.{ℕ, zero, suc, ◌+◌}
+use lib.ListN.{set}
 use borrow.Author.Tests.{eq-eqb, ne_eqb}
 use Rattle.lists.specs.Number.{number_at}
 use Rattle.traces.specs.Trace.{nonzero, truth}
 use Rattle.tables.specs.Table.{Equation}
 use Rattle.tables.specs.declared.Shape.{Shape}
-use Rattle.tables.specs.declared.Sort.{Sort}
-use Rattle.tables.specs.declared.Operand.{Operand}
-use Rattle.tables.specs.declared.Operand.TheVariants.{Earlier, Anywhere}
 use Rattle.packing.specs.Operands.{shape_in}
-use Rattle.packer.specs.Mark.{Marking, marking, pushed, visited, visited_a, visited_b, expanded, Push, Visit}
+use Rattle.packer.specs.Mark.{Marking, marking, pushed, visited, visited_a, visited_b, expanded, Visit}
 
 -- 0 alone is no mark.
 pub counts-one : (x : ℕ) → (x ≡ 0 → ⊥) → truth (nonzero x) ≡ 1
@@ -33,23 +29,6 @@ module _ (w : Marking) (x : ℕ) where
       → marking (set w.marks x 1) (set w.found w.size x) (w.size + 1) ≡ pushed w x
   unfolding pushed
   push-new e = rw (eq-eqb (number_at w.marks x) 0 e)
-
--- The row asks for an operand: an earlier one, or any.
-abbrev pub Asks : Operand → Sort → Type 0
-Asks o s = (o ≡ Earlier s) ⊎ (o ≡ Anywhere s)
-
--- Marking the class of an operand: what it needs, and what it does.
-module _ (l : List ℕ) (w : Marking) {o : Operand} {s : Sort} (x : ℕ) where
-  pub visit-room : Asks o s → Visit l w o x
-      → (x < length l) × Push w (number_at l x)
-  unfolding Visit
-  visit-room (inl e) h = rw e at h
-  visit-room (inr e) h = rw e at h
-
-  pub visit-pushes : Asks o s → pushed w (number_at l x) ≡ visited (number_at l) w o x
-  unfolding visited
-  visit-pushes (inl e) = rw e
-  visit-pushes (inr e) = rw e
 
 -- The three numbers of an equation e, whose row is s, are visited in turn: first A, which leaves u, then B, which
 -- leaves v, then C.

@@ -211,6 +211,7 @@ pub fn row_of(k: u32) -> Shape
 }
 
 // What A has to be in an equation of kind k.
+#[inline(always)]
 fn a(k: u32) -> Operand
     requires { k < kind_count }
     ensures { result ≡ (shape_of (kind_of k)).a }
@@ -220,6 +221,7 @@ fn a(k: u32) -> Operand
 }
 
 // What B has to be in an equation of kind k.
+#[inline(always)]
 fn b(k: u32) -> Operand
     requires { k < kind_count }
     ensures { result ≡ (shape_of (kind_of k)).b }
@@ -229,6 +231,7 @@ fn b(k: u32) -> Operand
 }
 
 // What C has to be in an equation of kind k.
+#[inline(always)]
 fn c(k: u32) -> Operand
     requires { k < kind_count }
     ensures { result ≡ (shape_of (kind_of k)).c }
@@ -323,6 +326,7 @@ fn all_three(p: bool, q: bool, r: bool) -> bool
 }
 
 // Whether A, B and C of equation i of n can be such operands, where there are vs velocities.
+#[inline(always)]
 fn operands_fit(
     vs: u32,
     table: &[u32],

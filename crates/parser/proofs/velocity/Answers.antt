@@ -1,10 +1,9 @@
 -- `parser::velocity` meets its contract: three words, each of its class, and then one record. Assumes nothing.
-use mathlib.Core.Bool.{true, false}
+use mathlib.Core.Bool.{true}
 use mathlib.Core.List.{List}
 use mathlib.Core.Path.{◌≡◌, sym, ap, ap₂, ◌∙◌}
 use Prim.Native.Nat.{ℕ, ◌+◌}
-use borrow.Author.Tests.{eq-eqb, ne_eqb}
-use native.Mathlib.Omega.{arith}
+use borrow.Author.Tests.{eq-eqb}
 use Rattle.traces.specs.Compare.{op_number}
 use Rattle.formulas.specs.Arena.{row}
 use Rattle.formulas.specs.Arena
@@ -17,8 +16,8 @@ use Rattle.grammar.proofs.Words.{op-number}
 use Rattle.facts.specs.Facts.{leaf_facts}
 use Rattle.facts.specs.declared.Facts.{Facts}
 use Rattle.parser.specs.Contract.{ParsesVelocity, Pushed}
-use Rattle.parser.specs.declared.Parsed.TheVariants.{At, No}
-use Rattle.parser.proofs.Stored.{to-tree, to_none, reads-to, pushed, stored-as, past_first, fits-push}
+use Rattle.parser.specs.declared.Parsed.TheVariants.{At}
+use Rattle.parser.proofs.Stored.{to-tree, reads-to, pushed, stored-as}
 use Rattle.parser.proofs.velocity.Goals as goal
 
 -- All words are there, and the record has what they stand for.
