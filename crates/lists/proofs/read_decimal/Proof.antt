@@ -30,12 +30,12 @@ later c = sym c.is_digit-in-loop-next.ensures ∙ c.if-not-is_digit-2.false
 
 no_digit : tie.Need-returns-then-not-is_digit invariant-loop decreases-loop
 no_digit c =
-    numeral-none (omega arith) c.if-first-eq48.false
+    numeral-none (omega arith) (search rules)
     (sym c.is_digit.ensures ∙ c.if-not-is_digit.true)
 
 loop-holds : tie.Need-loop-next-init invariant-loop decreases-loop
 loop-holds c =
-    digits-begun (omega arith) c.if-first-eq48.false (first c.before) c.wide-value.ensures
+    digits-begun (omega arith) (search rules) (first c.before) c.wide-value.ensures
 
 at-other-byte : tie.Need-returns-then-not-is_digit-2 invariant-loop decreases-loop
 at-other-byte c =
@@ -64,7 +64,7 @@ read_decimal_spec =
     (λ c. numeral-past (omega arith))
     (λ c. search rules)
     (λ c. search rules)
-    (λ c. numeral-zero (omega arith) c.if-first-eq48.true)
+    (λ c. numeral-zero (omega arith) (search rules))
     (λ c κs. search rules)
     no_digit
     (λ c. omega (arith, digit-range _ (first c)))
