@@ -184,7 +184,8 @@ fn once(
         (world_of result.watch parameters.new table.new state.new values.new) (take result.to buf.new) out.new }
 {
     let got = streams::read(stdin, buf, to, before);
-    if got == 0 {
+    let over = got == 0;
+    if over {
         return end(stdout, watch, buf, to, got, out, at);
     }
     piece(

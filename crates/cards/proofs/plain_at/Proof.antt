@@ -20,11 +20,6 @@ few-left c velocities =
     let args = c.args in
     few_bytes velocities plain_edition args.s.now args.at (omega arith)
 
-unended : tie.Need-returns-then-s-stop-ne-LINE_END
-unended c velocities =
-    let args = c.args in
-    plain-unended velocities args.s.now args.at (omega arith) c.if-s-stop-ne-LINE_END.true
-
 -- What the line says.
 line-says : (c : tie.After-plain_line) →
     let args = c.args in
@@ -41,7 +36,7 @@ broken c velocities =
 found : tie.Need-returns
 found c velocities =
     let args = c.args in
-    plain-found velocities args.s.now args.at (omega arith) c.if-s-stop-ne-LINE_END.false
+    plain-found velocities args.s.now args.at (omega arith) (search rules)
     (sym (line-says c.before) ∙ c.in-Is.is)
 
 pub plain_at_spec : {M : Type 1} → statement M
@@ -53,7 +48,8 @@ plain_at_spec =
     few-left
     (λ c. search rules)
     (λ c. search rules)
-    unended
+    (λ c velocities. let args = c.args in
+    plain-unended velocities args.s.now args.at (omega arith) (search rules))
     (λ c. search rules)
     (λ c. search rules)
     (λ c. search rules)

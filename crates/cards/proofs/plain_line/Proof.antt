@@ -1,9 +1,11 @@
 -- `cards::plain_line` meets its contract: what is left of the digits reads as the line does (`Hexing`). Assumes
 -- nothing.
 use Prim.Native.Nat.{◌-◌}
+use mathlib.Core.Path.{◌≡◌}
 use native.Mathlib.Omega.{arith}
 use borrow.Author.Rules.{rules}
 use borrow.Author.Tests.{eq-eqb, ne_eqb, lt-ltb, le-ltb}
+use lib.ListN.{length}
 use Rattle.cards.specs.Ticks.{tick_length, plain_tick}
 use Rattle.cards.proofs.Hex.{tick-digits, Hexing, hexing-bad, hexing-fits, hexing-more, hexing-end}
 use Rattle.cards.proofs.plain_line.Statement.{statement}
@@ -16,24 +18,20 @@ abbrev decreases-loop : tie.decreases-loop-i
 decreases-loop hex s b x₀ i₀ x i = tick_length - i
 
 -- Another length, another byte than `t`, `=` or the comma, a start below 0 or above 1.
-other_length : tie.Need-returns-then-s-ne-TICK_LINE invariant-loop decreases-loop
-unfolding plain_tick
-other_length c = simp (ne_eqb _ tick_length c.if-s-ne-TICK_LINE.true)
-
 no-t : tie.Need-returns-then-s-ne116 invariant-loop decreases-loop
 unfolding plain_tick
-no-t c = simp (eq-eqb _ _ c.if-s-ne-TICK_LINE.false, ne_eqb _ _ c.if-s-ne116.true)
+no-t c = simp (eq-eqb (length c.args.s.now) tick_length (search rules), ne_eqb _ _ c.if-s-ne116.true)
 
 no-equals : tie.Need-returns-then-s-ne61 invariant-loop decreases-loop
 unfolding plain_tick
 no-equals c =
-    simp (eq-eqb _ _ c.if-s-ne-TICK_LINE.false, eq-eqb _ _ c.if-s-ne116.false, ne_eqb _ _ c.if-s-ne61.true)
+    simp (eq-eqb (length c.args.s.now) tick_length (search rules), eq-eqb _ _ c.if-s-ne116.false, ne_eqb _ _ c.if-s-ne61.true)
 
 no-comma : tie.Need-returns-then-s-ne44 invariant-loop decreases-loop
 unfolding plain_tick
 no-comma c =
     simp (
-      eq-eqb _ _ c.if-s-ne-TICK_LINE.false,
+      eq-eqb (length c.args.s.now) tick_length (search rules),
       eq-eqb _ _ c.if-s-ne116.false,
       eq-eqb _ _ c.if-s-ne61.false,
       ne_eqb _ _ c.if-s-ne44.true,
@@ -43,7 +41,7 @@ start-below : tie.Need-returns-then-b-lt48 invariant-loop decreases-loop
 unfolding plain_tick
 start-below c =
     simp (
-      eq-eqb _ _ c.if-s-ne-TICK_LINE.false,
+      eq-eqb (length c.args.s.now) tick_length (search rules),
       eq-eqb _ _ c.if-s-ne116.false,
       eq-eqb _ _ c.if-s-ne61.false,
       eq-eqb _ _ c.if-s-ne44.false,
@@ -54,7 +52,7 @@ start-above : tie.Need-returns-then-b-gt49 invariant-loop decreases-loop
 unfolding plain_tick
 start-above c =
     simp (
-      eq-eqb _ _ c.if-s-ne-TICK_LINE.false,
+      eq-eqb (length c.args.s.now) tick_length (search rules),
       eq-eqb _ _ c.if-s-ne116.false,
       eq-eqb _ _ c.if-s-ne61.false,
       eq-eqb _ _ c.if-s-ne44.false,
@@ -65,14 +63,14 @@ start-above c =
 -- The digits.
 loop-holds : tie.Need-loop-i-init invariant-loop decreases-loop
 loop-holds c =
-    let length = c.if-s-ne-TICK_LINE.false in
+    let whole : length c.args.s.now ≡ tick_length = search rules in
     record {
       rest =
-          tick-digits _ length c.if-s-ne116.false c.if-s-ne61.false c.if-s-ne44.false c.if-b-lt48.false
+          tick-digits _ whole c.if-s-ne116.false c.if-s-ne61.false c.if-s-ne44.false c.if-b-lt48.false
           c.if-b-gt49.false;
       low = omega arith;
       high = omega arith;
-      whole = length;
+      whole = whole;
       below = omega arith;
     }
 
@@ -100,12 +98,13 @@ all_digits : tie.Need-returns invariant-loop decreases-loop
 all_digits c = hexing-end c.loop-i.invariant (omega arith)
 
 pub plain_line_spec : {M : Type 1} → statement M
+unfolding plain_tick
 plain_line_spec =
     tie.close
     (tie.spec
     invariant-loop
     decreases-loop
-    other_length
+    (λ c. simp (ne_eqb (length c.args.s.now) tick_length (search rules)))
     (λ c. search rules)
     no-t
     (λ c. search rules)

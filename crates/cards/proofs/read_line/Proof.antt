@@ -2,23 +2,17 @@
 -- the place where the phase is known. Assumes nothing.
 use borrow.Author.Rules.{rules}
 use borrow.Author.Tests.{le-leb, lt-leb}
+use lib.ListN.{length}
+use Rattle.limits.specs.Limits.{line_limit}
 use Rattle.cards.specs.Says.{line_says}
 use Rattle.cards.proofs.read_line.Statement.{statement}
 use Rattle.cards.proofs.read_line.Tie as tie
-
--- An over-long line.
-over-long : tie.Need-returns-then-s-ge-LINE
-unfolding line_says
-over-long c = (
-  rw (c.plain.ensures.0, le-leb _ _ c.if-s-ge-LINE.true) (c.broken.ensures _ _),
-  λ h. c.plain.ensures.1,
-)
 
 -- The edition.
 edition : tie.Need-returns-in-Edition
 unfolding line_says
 edition c = (
-  rw (c.plain-in-Edition.ensures.0, lt-leb _ _ c.if-s-ge-LINE.false, c.in-Edition.is)
+  rw (c.plain-in-Edition.ensures.0, lt-leb line_limit (length c.args.s.now) (search rules), c.in-Edition.is)
       (c.edition_content.ensures _ _),
   λ h. c.plain-in-Edition.ensures.1,
 )
@@ -27,7 +21,7 @@ edition c = (
 parameters : tie.Need-returns-in-Parameters
 unfolding line_says
 parameters c = (
-  rw (lt-leb _ _ c.if-s-ge-LINE.false, c.in-Parameters.is) c.parameters_line.ensures.0,
+  rw (lt-leb line_limit (length c.args.s.now) (search rules), c.in-Parameters.is) c.parameters_line.ensures.0,
   c.parameters_line.ensures.1,
 )
 
@@ -37,7 +31,7 @@ unfolding line_says
 rule-fine c = (
   rw (
     c.plain-then-has_prefix.ensures.0,
-    lt-leb _ _ c.if-s-ge-LINE.false,
+    lt-leb line_limit (length c.args.s.now) (search rules),
     c.in-Rule.is,
     ← c.has_prefix.ensures,
     c.if-has_prefix.true,
@@ -50,7 +44,7 @@ unfolding line_says
 rule-broken c = (
   rw (
     c.plain-in-Rule.ensures.0,
-    lt-leb _ _ c.if-s-ge-LINE.false,
+    lt-leb line_limit (length c.args.s.now) (search rules),
     c.in-Rule.is,
     ← c.has_prefix.ensures,
     c.if-has_prefix.false,
@@ -62,7 +56,7 @@ rule-broken c = (
 count : tie.Need-returns-in-Count
 unfolding line_says
 count c = (
-  rw (c.plain-in-Count.ensures.0, lt-leb _ _ c.if-s-ge-LINE.false, c.in-Count.is)
+  rw (c.plain-in-Count.ensures.0, lt-leb line_limit (length c.args.s.now) (search rules), c.in-Count.is)
       (c.count_content.ensures _ _),
   λ h. c.plain-in-Count.ensures.1,
 )
@@ -70,7 +64,7 @@ count c = (
 tick : tie.Need-returns-in-Ticks
 unfolding line_says
 tick c = (
-  rw (c.plain-in-Ticks.ensures.0, lt-leb _ _ c.if-s-ge-LINE.false, c.in-Ticks.is)
+  rw (c.plain-in-Ticks.ensures.0, lt-leb line_limit (length c.args.s.now) (search rules), c.in-Ticks.is)
       (c.tick_content.ensures _ _),
   λ h. c.plain-in-Ticks.ensures.1,
 )
@@ -79,17 +73,21 @@ tick c = (
 over : tie.Need-returns-in-Over
 unfolding line_says
 over c = (
-  rw (c.plain-in-Over.ensures.0, lt-leb _ _ c.if-s-ge-LINE.false, c.in-Over.is),
+  rw (c.plain-in-Over.ensures.0, lt-leb line_limit (length c.args.s.now) (search rules), c.in-Over.is),
   λ h. c.plain-in-Over.ensures.1,
 )
 
 pub read_line_spec : {M : Type 1} → statement M
+unfolding line_says
 read_line_spec =
     tie.close
     (tie.spec
     (λ c κs. search rules)
     (λ c κs. search rules)
-    over-long
+    (λ c. (
+      rw (c.plain.ensures.0, le-leb line_limit (length c.args.s.now) (search rules)) (c.broken.ensures _ _),
+      λ h. c.plain.ensures.1,
+    ))
     (λ c. search rules)
     (λ c κs. search rules)
     (λ c κs. search rules)

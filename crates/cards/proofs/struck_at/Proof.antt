@@ -45,19 +45,13 @@ no_byte c e other =
     struck-past args.velocities e other args.s.now args.at c.velocity_at.ensures
     c.in-Is-velocity_at.is c.if-s-next.true
 
-unended : tie.Need-returns-then-s-next-ne-LINE_END
-unended c e other =
-    let args = c.args in
-    struck-unended args.velocities e other args.s.now args.at c.velocity_at.ensures
-    c.in-Is-velocity_at.is c.if-s-next.false c.if-s-next-ne-LINE_END.true
-
 found : tie.Need-returns
 found c e other =
     let in-Is = c.before.before.before.before.before in
     let after-plain_line = in-Is.before in
     let args = c.args in
     struck-found args.velocities e other args.s.now args.at c.velocity_at.ensures
-    c.in-Is-velocity_at.is c.if-s-next.false c.if-s-next-ne-LINE_END.false
+    c.in-Is-velocity_at.is c.if-s-next.false (search rules)
     (sym (front-says after-plain_line) ∙ c.in-Is.is)
 
 pub struck_at_spec : {M : Type 1} → statement M
@@ -81,6 +75,8 @@ struck_at_spec =
     no-velocity
     no_byte
     (λ c. search rules)
-    unended
+    (λ c e other. let args = c.args in
+    struck-unended args.velocities e other args.s.now args.at c.velocity_at.ensures
+    c.in-Is-velocity_at.is c.if-s-next.false (search rules))
     (λ c. search rules)
     found)

@@ -15,11 +15,8 @@ invariant-loop s at i₀ i = Lining s at i
 abbrev decreases-loop : tie.decreases-loop-i
 decreases-loop s at i₀ i = length s - i
 
-at-newline : tie.Need-returns-then-s-i-eq-LINE_END invariant-loop decreases-loop
-at-newline c = omega (arith, lining-stop c.loop-i.invariant (omega arith) c.if-s-i-eq-LINE_END.true)
-
 loop-again : tie.Need-loop-i-preserved invariant-loop decreases-loop
-loop-again c = lining-more c.loop-i.invariant (omega arith) c.if-s-i-eq-LINE_END.false
+loop-again c = lining-more c.loop-i.invariant (omega arith) (search rules)
 
 at-end : tie.Need-returns invariant-loop decreases-loop
 at-end c = omega (arith, lining-past c.loop-i.invariant (omega arith))
@@ -33,7 +30,7 @@ line_length_spec =
     (λ c. record { passed = refl; from = omega arith })
     (λ c. search rules)
     (λ c. search rules)
-    at-newline
+    (λ c. omega (arith, lining-stop c.loop-i.invariant (omega arith) (search rules)))
     (λ c. search rules)
     (λ c. omega arith)
     loop-again

@@ -53,13 +53,6 @@ last-absent c =
     c.scan_form-tail.ensures)
 
 -- Bytes follow them.
-bytes_after : tie.Need-returns-then-end-text
-bytes_after c =
-    let after-scan_form-arg-3-1 = c.before.before.before.before.before in
-    let in-Found = after-scan_form-arg-3-1.before.before.before.before.before in
-    let number = c.only-2 in
-    bytes_left (opened in-Found) c.read_lines-lines.ensures (equation_of number.result)
-    (equation_of c.in-Found-tail.last) c.in-Found-tail.end number.ensures (closed c.before) c.if-end-text.true
 
 -- The last lines name the last two flows.
 abbrev last_named : tie.In-Found-tail → Type 0
@@ -94,7 +87,7 @@ all_found c =
     let in-Found = after-slice_known-2-1.before.before.before.before in
     proposes (opened in-Found) c.read_lines-lines.ensures (equation_of c.only-2.result)
     (equation_of c.in-Found-tail.last) c.in-Found-tail.end (closed c.before.before.before.before.before)
-    c.if-end-text.false c.if-last-n.false
+    (search rules) c.if-last-n.false
     c.if-last-n-2.false
 
 pub read_proposal_spec : {M : Type 1} → statement M
@@ -114,7 +107,11 @@ read_proposal_spec =
     (λ c. search rules)
     last-absent
     (λ c. search rules)
-    bytes_after
+    (λ c. let after-scan_form-arg-3-1 = c.before.before.before.before.before in
+    let in-Found = after-scan_form-arg-3-1.before.before.before.before.before in
+    let number = c.only-2 in
+    bytes_left (opened in-Found) c.read_lines-lines.ensures (equation_of number.result)
+    (equation_of c.in-Found-tail.last) c.in-Found-tail.end number.ensures (closed c.before) (search rules))
     (λ c. search rules)
     (λ c. search rules)
     (λ c. search rules)

@@ -5,9 +5,6 @@ use Rattle.tables.proofs.Numbers.{memories}
 use Rattle.tables.proofs.is_memory.Statement.{statement}
 use Rattle.tables.proofs.is_memory.Tie as tie
 
-a_memory : tie.Need-returns-in-6-to-7
-a_memory c = let k = c.args.k in rw (memories k, le-leb 6 k (omega arith), le-leb k 7 (omega arith))
-
 below : tie.Need-returns-in_default
 below c = let k = c.args.k in rw (memories k, lt-leb 6 k (omega arith))
 
@@ -15,4 +12,4 @@ above : tie.Need-returns-in_default-2
 above c = let k = c.args.k in rw (memories k, le-leb 6 k (omega arith), lt-leb k 7 (omega arith))
 
 pub is_memory_spec : {M : Type 1} → statement M
-is_memory_spec = tie.close (tie.spec a_memory below above)
+is_memory_spec = tie.close (tie.spec (λ c. let k = c.args.k in rw (memories k, le-leb 6 k (omega arith), le-leb k 7 (omega arith))) below above)

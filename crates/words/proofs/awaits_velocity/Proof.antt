@@ -6,11 +6,8 @@ use Rattle.words.specs.Word.{VEL}
 use Rattle.words.proofs.awaits_velocity.Statement.{statement}
 use Rattle.words.proofs.awaits_velocity.Tie as tie
 
-other_word : tie.Need-returns-then-before-ne-VEL
-other_word c = simp (ne_eqb _ VEL c.if-before-ne-VEL.true)
-
 after-v : tie.Need-returns
-after-v c = c.is_op.ensures ∙ simp (eq-eqb _ VEL c.if-before-ne-VEL.false)
+after-v c = c.is_op.ensures ∙ simp (eq-eqb c.args.before VEL (search rules))
 
 pub awaits_velocity_spec : {M : Type 1} → statement M
-awaits_velocity_spec = tie.close (tie.spec other_word (λ c κs. search rules) after-v)
+awaits_velocity_spec = tie.close (tie.spec (λ c. simp (ne_eqb c.args.before VEL (search rules))) (λ c κs. search rules) after-v)

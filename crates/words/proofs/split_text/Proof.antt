@@ -50,24 +50,10 @@ after-space : tie.Need-loop-i-preserved-then-c-eq-SPACE invariant-loop decreases
 after-space c =
     skips c.loop-i.invariant (inside c.before) c.class-c.result c.class-c.ensures c.if-c-eq-SPACE.true
 
--- A word too many.
-word-too-many : tie.Need-returns-then-count-eq-WORDS invariant-loop decreases-loop
-word-too-many c =
-    let at-loop-i = c.before.before.before.before.before in
-    let else-wrong_size = at-loop-i.before in
-    let refusal = too_many c.loop-i.invariant (inside c.before.before) c.class-c.result c.class-c.ensures in
-    refuses _ _ _ _ 4 (by-words else-wrong_size ∙ refusal c.if-c-eq-SPACE.false c.if-count-eq-WORDS.true)
-
 -- What reading a word asks.
 begun : tie.Need-word_at-token-requires invariant-loop decreases-loop
 begun c κs =
     record { ranged = c.requires.ranged; inside = inside c.before.before.before; class = c.class-c.ensures }
-
--- A word that is made is stored.
-room : (c : tie.Else-count-eq-WORDS invariant-loop decreases-loop) → c.loop-i.count < length c.loop-i.out
-room c =
-    let lent = c.requires.room in
-    omega (arith, c.loop-i.invariant.few, c.if-count-eq-WORDS.false, splitting-length c.loop-i.invariant, lent)
 
 less-after-word : tie.Need-loop-i-smaller invariant-loop decreases-loop
 less-after-word c =
@@ -81,7 +67,7 @@ after-word : tie.Need-loop-i-preserved invariant-loop decreases-loop
 after-word c =
     let token = c.word_at-token.ensures in
     adds c.loop-i.invariant (inside c.before.before.before.before.before) c.class-c.result c.class-c.ensures _
-    c.awaits_velocity.ensures c.if-c-eq-SPACE.false c.if-count-eq-WORDS.false _ _
+    c.awaits_velocity.ensures c.if-c-eq-SPACE.false (search rules) _ _
     (sym token.0 ∙ c.in-Made.is) token.1
 
 -- A word that cannot be made.
@@ -92,7 +78,7 @@ bad-word c =
     let why = sym c.word_at-token.ensures.0 ∙ c.in-Bad.is in
     let refusal = breaks c.loop-i.invariant (inside c.before.before.before.before.before) c.class-c.result
     c.class-c.ensures _
-    c.awaits_velocity.ensures c.if-c-eq-SPACE.false c.if-count-eq-WORDS.false _ why in
+    c.awaits_velocity.ensures c.if-c-eq-SPACE.false (search rules) _ why in
     refuses _ _ _ _ _ (by-words else-wrong_size ∙ refusal)
 
 pub split_text_spec : {M : Type 1} → statement M
@@ -110,12 +96,16 @@ split_text_spec =
     (λ c. omega arith)
     after-space
     (λ c. splitting-length c.loop-i.invariant)
-    word-too-many
+    (λ c. let at-loop-i = c.before.before.before.before.before in
+    let else-wrong_size = at-loop-i.before in
+    let refusal = too_many c.loop-i.invariant (inside c.before.before) c.class-c.result c.class-c.ensures in
+    refuses _ _ _ _ 4 (by-words else-wrong_size ∙ refusal c.if-c-eq-SPACE.false (search rules)))
     (λ c κs. search rules)
     begun
     (λ c. search rules)
     (λ c. omega (arith, c.loop-i.invariant.few))
-    (λ c. room c.before.before.before)
+    (λ c. let lent = c.requires.room in
+    omega (arith, c.loop-i.invariant.few, splitting-length c.loop-i.invariant, lent))
     (λ c. omega (arith, c.loop-i.invariant.few))
     less-after-word
     after-word
