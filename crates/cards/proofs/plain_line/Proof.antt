@@ -25,7 +25,11 @@ no-t c = simp (eq-eqb (length c.args.s.now) tick_length (search rules), ne_eqb _
 no-equals : tie.Need-returns-then-s-ne61 invariant-loop decreases-loop
 unfolding plain_tick
 no-equals c =
-    simp (eq-eqb (length c.args.s.now) tick_length (search rules), eq-eqb _ _ c.if-s-ne116.false, ne_eqb _ _ c.if-s-ne61.true)
+    simp (
+      eq-eqb (length c.args.s.now) tick_length (search rules),
+      eq-eqb _ _ c.if-s-ne116.false,
+      ne_eqb _ _ c.if-s-ne61.true,
+    )
 
 no-comma : tie.Need-returns-then-s-ne44 invariant-loop decreases-loop
 unfolding plain_tick

@@ -52,8 +52,6 @@ last-absent c =
     (unlike-told c.args.text.now c.scan_form-tail.result c.in_default-tail.is
     c.scan_form-tail.ensures)
 
--- Bytes follow them.
-
 -- The last lines name the last two flows.
 abbrev last_named : tie.In-Found-tail → Type 0
 last_named c =

@@ -12,4 +12,9 @@ above : tie.Need-returns-in_default-2
 above c = let k = c.args.k in rw (memories k, le-leb 6 k (omega arith), lt-leb k 7 (omega arith))
 
 pub is_memory_spec : {M : Type 1} → statement M
-is_memory_spec = tie.close (tie.spec (λ c. let k = c.args.k in rw (memories k, le-leb 6 k (omega arith), le-leb k 7 (omega arith))) below above)
+is_memory_spec =
+    tie.close
+    (tie.spec
+    (λ c. let k = c.args.k in rw (memories k, le-leb 6 k (omega arith), le-leb k 7 (omega arith)))
+    below
+    above)

@@ -10,4 +10,9 @@ after-v : tie.Need-returns
 after-v c = c.is_op.ensures ∙ simp (eq-eqb c.args.before VEL (search rules))
 
 pub awaits_velocity_spec : {M : Type 1} → statement M
-awaits_velocity_spec = tie.close (tie.spec (λ c. simp (ne_eqb c.args.before VEL (search rules))) (λ c κs. search rules) after-v)
+awaits_velocity_spec =
+    tie.close
+    (tie.spec
+    (λ c. simp (ne_eqb c.args.before VEL (search rules)))
+    (λ c κs. search rules)
+    after-v)
