@@ -17,9 +17,10 @@ enum {
     OPERATOR,
     LITERAL,
     PARAMETER,
-    VELOCITY
+    VELOCITY,
+    PLACE
 };
-enum { BOOL = 1, COUNT = 2, KINDS = 13 };
+enum { BOOL = 1, COUNT = 2, KINDS = 14 };
 
 static const uint8_t shape[KINDS][3] = {
     {SIGNAL, UNUSED, UNUSED},
@@ -35,9 +36,10 @@ static const uint8_t shape[KINDS][3] = {
     {EARLIER_COUNT, OPERATOR, LITERAL},
     {EARLIER_COUNT, OPERATOR, PARAMETER},
     {OPERATOR, VELOCITY, UNUSED},
+    {PLACE, UNUSED, UNUSED},
 };
 static const uint8_t gives[KINDS] = {BOOL,  BOOL,  BOOL,  BOOL, BOOL, BOOL, BOOL,
-                                     COUNT, COUNT, COUNT, BOOL, BOOL, BOOL};
+                                     COUNT, COUNT, COUNT, BOOL, BOOL, BOOL, BOOL};
 
 static inline int is_flow(const uint32_t *table, size_t below, int sort, uint32_t x) {
     return x < below && table[4 * x] < KINDS && gives[table[4 * x]] == sort;
@@ -57,7 +59,8 @@ static inline __attribute__((always_inline)) int fits(const uint32_t *table, siz
     case OPERATOR: return x < 5;
     case LITERAL: return x < 1000000;
     case PARAMETER: return x < 8;
-    default: return x < 128;
+    case VELOCITY: return x < 128;
+    default: return x - 1 < 8;
     }
 }
 

@@ -1,11 +1,11 @@
 /* A hand-written reader and compiler of rule texts, one pass over the words: what the bench compares with. It chooses
-   its own equations, with the velocity tests in front; the cards of examples/ and the rules of docs/RULES.md have the
-   same verdicts with it. */
+   its own equations, with the velocity tests and the verdicts of earlier rules in front; the cards of examples/ and the
+   rules of docs/RULES.md have the same verdicts with it. */
 #include <string.h>
 
 #include "interpreter.h"
 
-enum { LITERAL = 1, SIGNAL, PARAMETER, BEGIN, END, POINT, HELD, KEPT, LEN, SUM, AGE, LAG, THEN, CHOP, EXISTS };
+enum { LITERAL = 1, SIGNAL, PARAMETER, EARLIER, BEGIN, END, POINT, HELD, KEPT, LEN, SUM, AGE, LAG, THEN, CHOP, EXISTS };
 enum { VELOCITY = EXISTS + 1, LE, LT, EQ, GT, GE };
 
 struct word {
@@ -15,8 +15,9 @@ struct word {
 static struct word words[241];
 static uint32_t at, count, n, broken, no_lead;
 
-/* The places of the literals of velocity tests, how many there are, and the flow of the next one to be parsed. */
-static uint32_t tests[80], test_count, next_test;
+/* Which words are the literals of velocity tests or verdicts of earlier rules, how many there are, and the flow of the
+   next one to be parsed; and the highest place of such a rule. */
+static uint32_t tests[240], test_count, next_test, last_place;
 static uint32_t *t;
 
 /* words: the refusal, or 0 */
@@ -42,6 +43,10 @@ static uint32_t run(const uint8_t *s, size_t length, uint32_t largest, struct wo
         if (names[i].length == length && !memcmp(names[i].name, s, length)) return w->kind = names[i].kind, 0;
     if (s[0] == 's') return w->kind = SIGNAL, number(s + 1, length - 1, 63, &w->number);
     if (s[0] == 'k') return w->kind = PARAMETER, number(s + 1, length - 1, 7, &w->number);
+    if (s[0] == 'r') {
+        uint32_t refused = number(s + 1, length - 1, 8, &w->number);
+        return w->kind = EARLIER, refused || w->number ? refused : 3;
+    }
     return 2;
 }
 
@@ -52,7 +57,7 @@ static int is_op(uint32_t kind) { return kind >= LE && kind <= GE; }
 static int after_velocity(uint32_t i) { return i >= 2 && words[i - 2].kind == VELOCITY && is_op(words[i - 1].kind); }
 
 static uint32_t split(const uint8_t *s, size_t length) {
-    count = test_count = 0;
+    count = test_count = last_place = 0;
     for (size_t i = 0; i < length;) {
         uint8_t b = s[i];
         if (b == ' ') {
@@ -68,7 +73,8 @@ static uint32_t split(const uint8_t *s, size_t length) {
             int velocity = after_velocity(count - 1);
             uint32_t refused = run(s + i, stop - i, velocity ? 127 : 999999, w);
             if (refused) return refused;
-            if (velocity && w->kind == LITERAL) tests[test_count++] = count - 1;
+            if (w->kind == EARLIER || (velocity && w->kind == LITERAL)) tests[test_count++] = count - 1;
+            if (w->kind == EARLIER && w->number > last_place) last_place = w->number;
             i = stop;
             continue;
         }
@@ -125,6 +131,7 @@ static uint32_t state_unit(void) {
         return expect(')'), p;
     }
     if (word(SIGNAL)) return put(0, w.number, 0, 0);
+    if (word(EARLIER)) return next_test++;
     if (w.kind == LITERAL && w.number < 2) return at++, put(2, w.number, 0, 0);
     if (w.kind == VELOCITY && is_op(words[at + 1].kind) && words[at + 2].kind == LITERAL) return at += 3, next_test++;
     return broken = 1, 0;
@@ -258,7 +265,14 @@ static struct part formula(uint32_t s, uint32_t not_s) {
     return (struct part){put(4, runs, formula(inner, not_inner).flow, 0), 0};
 }
 
-struct towerwatch_answer compiler_compile(const uint8_t *text, size_t length, uint32_t *table, size_t table_len) {
+/* The equation of a velocity test, by its literal, or of the verdict of an earlier rule. */
+static void put_test(uint32_t i) {
+    if (words[i].kind == EARLIER) put(13, words[i].number, 0, 0);
+    else put(12, words[i - 1].kind - LE, words[i].number, 0);
+}
+
+struct towerwatch_answer compiler_compile(const uint8_t *text, size_t length, uint32_t place, uint32_t *table,
+                                          size_t table_len) {
     if (length == 0 || length > 2048) return (struct towerwatch_answer){1, 0};
     uint32_t refused = split(text, length);
     if (!refused) refused = limits();
@@ -267,7 +281,7 @@ struct towerwatch_answer compiler_compile(const uint8_t *text, size_t length, ui
     t = own, at = n = broken = no_lead = 0;
     uint32_t s = put(1, 0, 0, 0), not_s = put(3, s, 0, 0);
     next_test = n;
-    for (uint32_t i = 0; i < test_count; i++) put(12, words[tests[i] - 1].kind - LE, words[tests[i]].number, 0);
+    for (uint32_t i = 0; i < test_count; i++) put_test(tests[i]);
     uint32_t f = formula(s, not_s).flow;
     uint32_t m = memory(6), started = put(5, s, m, 0);
     moves_to(m, started), put(4, started, f, 0);
@@ -275,6 +289,7 @@ struct towerwatch_answer compiler_compile(const uint8_t *text, size_t length, ui
     for (uint32_t i = 0; i < count; i++)
         if (words[i].kind == CHOP || words[i].kind == EXISTS) return (struct towerwatch_answer){7, 0};
     if (no_lead) return (struct towerwatch_answer){8, 0};
+    if (place < 1 || place > 8 || last_place >= place) return (struct towerwatch_answer){20, 0};
     if (table_len < 16384) return (struct towerwatch_answer){9, 0};
     memcpy(table, own, 16 * n);
     return (struct towerwatch_answer){0, n};

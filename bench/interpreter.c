@@ -35,7 +35,8 @@ static inline uint32_t refusal(const uint32_t *table, size_t table_len, size_t n
 }
 
 uint32_t interpreter_tick(const uint32_t *table, size_t n, uint32_t *state, uint32_t *values, uint32_t start,
-                          uint64_t signals, uint32_t velocity, const uint32_t parameters[8]) {
+                          uint64_t signals, uint32_t velocity, const uint32_t verdicts[8],
+                          const uint32_t parameters[8]) {
     for (size_t i = 0; i < n; i++) {
         const uint32_t a = table[4 * i + 1], b = table[4 * i + 2], c = table[4 * i + 3];
         uint32_t v;
@@ -52,7 +53,8 @@ uint32_t interpreter_tick(const uint32_t *table, size_t n, uint32_t *state, uint
         case 9: v = values[a] ? values[b] : 0; break;
         case 10: v = compare(b, values[a], c); break;
         case 11: v = compare(b, values[a], parameters[c]); break;
-        default: v = compare(a, velocity, b); break;
+        case 12: v = compare(a, velocity, b); break;
+        default: v = verdicts[a - 1] == 1; break;
         }
         values[i] = v;
     }
@@ -63,9 +65,10 @@ uint32_t interpreter_tick(const uint32_t *table, size_t n, uint32_t *state, uint
 
 struct towerwatch_answer interpreter_step(const uint32_t *table, size_t table_len, size_t n, uint32_t *state,
                                           size_t state_len, uint32_t *values, size_t values_len, uint32_t start,
-                                          uint64_t signals, uint32_t velocity, const uint32_t parameters[8]) {
+                                          uint64_t signals, uint32_t velocity, const uint32_t verdicts[8],
+                                          const uint32_t parameters[8]) {
     uint32_t refused = refusal(table, table_len, n, state, state_len, values_len, velocity, parameters);
     if (refused) return (struct towerwatch_answer){refused, 0};
-    uint32_t verdict = interpreter_tick(table, n, state, values, start, signals, velocity, parameters);
+    uint32_t verdict = interpreter_tick(table, n, state, values, start, signals, velocity, verdicts, parameters);
     return (struct towerwatch_answer){0, verdict};
 }

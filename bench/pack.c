@@ -42,7 +42,7 @@ static void report(const char *what, size_t n, int rounds, int turns) {
 }
 
 static size_t compile(const char *rule) {
-    struct towerwatch_answer a = towerwatch_compile((const uint8_t *)rule, strlen(rule), table, 16384);
+    struct towerwatch_answer a = towerwatch_compile((const uint8_t *)rule, strlen(rule), 1, table, 16384);
     if (a.refusal) printf("the rule is refused by %u\n", a.refusal), exit(1);
     return a.result;
 }

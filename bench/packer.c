@@ -34,6 +34,7 @@ static const uint8_t operands[KINDS][3] = {
     {EARLIER, NO_FLOW, NO_FLOW},
     {EARLIER, NO_FLOW, NO_FLOW},
     {NO_FLOW, NO_FLOW, NO_FLOW},
+    {NO_FLOW, NO_FLOW, NO_FLOW},
 };
 
 /* An equation with the classes of its operands: those of this round, or, in a memory, of the round before. */

@@ -7,7 +7,7 @@
  * which tells the lowest stack pointer: what the function reserved. An interrupt on the same stack begins below that.
  *
  * The same call of an empty function is taken off, and its return address put back: a number is what the caller has to
- * have free below its own frame, without the arguments that the caller itself lays there (a step has five, 40 bytes).
+ * have free below its own frame, without the arguments that the caller itself lays there (a step has six, 48 bytes).
  */
 #define _GNU_SOURCE
 #include <signal.h>
@@ -28,10 +28,11 @@ struct text {
     size_t length;
 };
 static struct text first, second;
+static uint32_t place = TOWERWATCH_PLACES;
 static uint32_t first_parameters[TOWERWATCH_PARAMETERS], second_parameters[TOWERWATCH_PARAMETERS];
 static uint32_t table[TOWERWATCH_TABLE_NUMBERS], loaded[TOWERWATCH_TABLE_NUMBERS];
 static uint32_t state[TOWERWATCH_EQUATIONS], values[TOWERWATCH_EQUATIONS], parameters[TOWERWATCH_PARAMETERS];
-static uint32_t velocity;
+static uint32_t velocity, verdicts[TOWERWATCH_PLACES];
 static uint8_t lustre[TOWERWATCH_LUSTRE_BYTES];
 static size_t table_length, n, state_room, values_room, lustre_length, lustre_room;
 static size_t table_room = TOWERWATCH_TABLE_NUMBERS;
@@ -39,8 +40,11 @@ static struct towerwatch_answer answer;
 
 /* The empty functions, one for each shape. */
 #define EMPTY __attribute__((noinline)) static struct towerwatch_answer
-EMPTY no_read(const uint8_t *t, size_t l) { return (void)t, (void)l, answer; }
-EMPTY no_compile(const uint8_t *t, size_t l, uint32_t *e, size_t m) {
+EMPTY no_read(const uint8_t *t, size_t l, uint32_t j) { return (void)t, (void)l, (void)j, answer; }
+EMPTY no_compile(const uint8_t *t, size_t l, uint32_t j, uint32_t *e, size_t m) {
+    return (void)t, (void)l, (void)j, (void)e, (void)m, answer;
+}
+EMPTY no_load(const uint8_t *t, size_t l, uint32_t *e, size_t m) {
     return (void)t, (void)l, (void)e, (void)m, answer;
 }
 EMPTY no_same(const uint8_t *t, size_t l, const uint32_t *p, const uint8_t *u, size_t m, const uint32_t *q) {
@@ -50,8 +54,9 @@ EMPTY no_fresh(const uint32_t *e, size_t l, size_t k, uint32_t *s, size_t m) {
     return (void)e, (void)l, (void)k, (void)s, (void)m, answer;
 }
 EMPTY no_step(const uint32_t *e, size_t l, size_t k, uint32_t *s, size_t m, uint32_t *v, size_t o, uint32_t b,
-              uint64_t x, uint32_t y, const uint32_t *p) {
-    return (void)e, (void)l, (void)k, (void)s, (void)m, (void)v, (void)o, (void)b, (void)x, (void)y, (void)p, answer;
+              uint64_t x, uint32_t y, const uint32_t *r, const uint32_t *p) {
+    (void)e, (void)l, (void)k, (void)s, (void)m, (void)v, (void)o, (void)b, (void)x, (void)y, (void)r, (void)p;
+    return answer;
 }
 EMPTY no_write(const uint32_t *e, size_t l, size_t k, uint8_t *t, size_t m) {
     return (void)e, (void)l, (void)k, (void)t, (void)m, answer;
@@ -67,12 +72,13 @@ static __typeof__(&towerwatch_step) step;
 static __typeof__(&towerwatch_write_lustre) write_lustre;
 static __typeof__(&towerwatch_read_lustre) read_lustre;
 static __typeof__(&towerwatch_pack) pack;
-static void call_read(void) { answer = read_rule(BYTES(first)); }
-static void call_compile(void) { answer = compile(BYTES(first), loaded, table_room); }
+static void call_read(void) { answer = read_rule(BYTES(first), place); }
+static void call_compile(void) { answer = compile(BYTES(first), place, loaded, table_room); }
 static void call_same(void) { answer = same_rule(BYTES(first), first_parameters, BYTES(second), second_parameters); }
 static void call_fresh(void) { answer = fresh_state(table, table_length, n, state, state_room); }
 static void call_step(void) {
-    answer = step(table, table_length, n, state, state_room, values, values_room, 1, 0x5555, velocity, parameters);
+    answer = step(table, table_length, n, state, state_room, values, values_room, 1, 0x5555, velocity, verdicts,
+                  parameters);
 }
 static void call_write(void) { answer = write_lustre(table, table_length, n, lustre, lustre_room); }
 static void call_pack(void) { answer = pack(table, table_length, n, loaded, table_room); }
@@ -87,7 +93,7 @@ static void real(void) {
 
 static void empty(void) {
     read_rule = no_read, compile = no_compile, same_rule = no_same, fresh_state = no_fresh, step = no_step;
-    write_lustre = no_write, read_lustre = no_compile, pack = no_fresh;
+    write_lustre = no_write, read_lustre = no_load, pack = no_fresh;
 }
 
 /* Calls f with the stack pointer at the end of the painted stack, with a trap after each instruction if `traps` is the
@@ -182,10 +188,10 @@ static void expect(const char *what, uint32_t refusal) {
  *   [    `end[`                     {   `sum[`
  *   p    `lag[`                     q   `lag[1,1,`
  * After [, {, p and q stand round brackets, !, | and & only. A nest's text ends in a leaf, which in square brackets can
- * be a velocity test, and what closes the brackets. */
+ * be a velocity test or a verdict, and what closes the brackets. */
 enum { NEST = 120, BRACKETS = TOWERWATCH_OPEN_BRACKETS, OPERATORS = TOWERWATCH_OPERATORS };
 
-enum ending { WHOLE, TEST, HALF_TEST, NO_LEAF, NO_CLOSING, ENDINGS };
+enum ending { WHOLE, TEST, HALF_TEST, VERDICT, NO_LEAF, NO_CLOSING, ENDINGS };
 
 static void add(struct text *t, const char *words) {
     size_t length = strlen(words);
@@ -226,7 +232,8 @@ static void write_nest(struct text *t, const char *nest, enum ending ending) {
     set(t, "");
     for (const char *o = nest; *o; o++) opener(t, *o, inside), inside |= is_square(*o);
     if (ending == NO_LEAF) return;
-    add(t, !inside ? "len<1" : ending == TEST ? "v<1" : ending == HALF_TEST ? "v<" : "s0");
+    static const char *const leaves[ENDINGS] = {[TEST] = "v<1", [HALF_TEST] = "v<", [VERDICT] = "r1"};
+    add(t, !inside ? "len<1" : leaves[ending] ? leaves[ending] : "s0");
     if (ending == NO_CLOSING) return;
     for (const char *o = nest + strlen(nest); o-- > nest;) add(t, closer(*o));
 }
@@ -246,7 +253,8 @@ static int within(const char *nest) {
 
 /* A nest as runs, as in `32t 16( [`. */
 static void name_nest(char *to, const char *nest, enum ending ending) {
-    static const char *const endings[ENDINGS] = {"", ", a velocity test", ", half a test", ", no leaf", ", not closed"};
+    static const char *const endings[ENDINGS] = {"", ", a velocity test", ", half a test", ", a verdict", ", no leaf",
+                                                 ", not closed"};
     size_t used = 0;
     for (const char *o = nest; *o && used + 20 < NAME;) {
         size_t run = strspn(o, (char[]){*o, 0});
@@ -378,10 +386,20 @@ static void measure_texts(void) {
     text[0] = 0;
     for (int i = 0; i < 34; i++) strcat(text, i ? "|end[v<1]" : "end[v<1]");
     measure_text("34 velocity tests", text, 0);
+    measure_text("a verdict", "end[r7]", 0);
+    text[0] = 0;
+    for (int i = 0; i < 48; i++) sprintf(text + strlen(text), "%send[r%d]", i ? "|" : "", 1 + i % 7);
+    measure_text("48 verdicts", text, 0);
+    measure_same("48 verdicts", text);
+    measure_text("a verdict of no earlier rule", "end[r8]", TOWERWATCH_REFUSED_PLACE);
+    measure_text("no verdict", "end[r9]", TOWERWATCH_REFUSED_NUMBER);
     measure_text("17 brackets", "(((((((((((((((((len<1", TOWERWATCH_REFUSED_NESTING);
     measure_text("a bracket left open", "(len<1", TOWERWATCH_REFUSED_GRAMMAR);
     measure_text("a chop", "len<1 chop len<1", TOWERWATCH_REFUSED_CHOP_OR_EXISTS);
     measure_text("no lead", "end[1] then len<1", TOWERWATCH_REFUSED_LEAD);
+    place = 0;
+    measure_text("no place", "end[1]", TOWERWATCH_REFUSED_PLACE);
+    place = TOWERWATCH_PLACES;
     memset(text, ' ', TOWERWATCH_TEXT_BYTES);
     strcpy(text + TOWERWATCH_TEXT_BYTES - 7, "end[s0]");
     measure_text("2,048 bytes", text, 0);
@@ -402,7 +420,7 @@ static void measure_table(const char *what) {
 }
 
 /* How many kinds of equations there are: the least number that is none. */
-enum { KINDS = 13 };
+enum { KINDS = 14 };
 
 /* What they refuse of it: for each number what is changed, and changed back. */
 #define REFUSED(function, place, wrong, number)   \
@@ -436,12 +454,13 @@ static void measure_refused_tables(void) {
     for (int f = PACK; f <= LOAD; f++) REFUSED(f, table_room, TOWERWATCH_TABLE_NUMBERS - 1, 9);
 }
 
-/* A table in which the kinds take turns, each with operands among the equations of its own turn. */
+/* A table in which the kinds take turns, each with operands among the equations of its own turn; those after the last
+ * whole turn are signals. */
 static void all_kinds(void) {
     for (uint32_t i = 0; i < n; i++) {
         static const uint8_t operands[KINDS][2] = {{0},    {0},    {0},    {1, 0}, {2, 3}, {4, 3}, {5, 0},
-                                                   {8, 0}, {7, 6}, {6, 8}, {9, 0}, {9, 0}, {0}};
-        uint32_t kind = i % KINDS, from = i - kind, op = i / KINDS % 5, *e = table + 4 * i;
+                                                   {8, 0}, {7, 6}, {6, 8}, {9, 0}, {9, 0}, {0},    {0}};
+        uint32_t kind = i / KINDS < n / KINDS ? i % KINDS : 0, from = i - kind, op = i / KINDS % 5, *e = table + 4 * i;
         e[0] = kind, e[1] = e[2] = e[3] = 0;
         if (kind == 0) e[1] = i % TOWERWATCH_SIGNALS;
         if (3 <= kind && kind < 12) e[1] = from + operands[kind][0];
@@ -449,6 +468,7 @@ static void all_kinds(void) {
         if (kind == 10) e[2] = op, e[3] = TOWERWATCH_LAST_NUMBER;
         if (kind == 11) e[2] = op, e[3] = from % TOWERWATCH_PARAMETERS;
         if (kind == 12) e[1] = op, e[2] = TOWERWATCH_LAST_VELOCITY;
+        if (kind == 13) e[1] = 1 + from % TOWERWATCH_PLACES;
     }
 }
 

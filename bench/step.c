@@ -1,5 +1,5 @@
 /* The time of a step beside a hand-written C interpreter, on random well-formed tables, one of them with velocity
- * tests, and on tables compiled from rules.
+ * tests and one with verdicts of earlier rules, and on tables compiled from rules.
  * Usage: step time            two lines for each size: nanoseconds a step, ours and C's
  *        step run N WHICH     1,000 steps of N equations, WHICH 0 ours, 1 the interpreter's: for counting instructions
  * Both are run on the same ticks and must answer and leave the same. */
@@ -26,8 +26,9 @@ struct pool {
 static void add(struct pool *p, uint32_t x) { p->at[p->count++ % 40] = x; }
 static uint32_t take(const struct pool *p) { return p->at[random_below(p->count < 40 ? p->count : 40)]; }
 
-/* How many of the weighted kinds are drawn from: those without velocity tests, as earlier states have them, or all. */
-enum mix { NO_VELOCITY = 16, VELOCITY = 18 };
+/* How many of the weighted kinds are drawn from: those without velocity tests and verdicts, as earlier states have
+ * them, those without verdicts, or all. */
+enum mix { NO_VELOCITY = 16, VELOCITY = 18, VERDICTS = 20 };
 
 /* A table of n equations in which each kind stands where its operands are there; the last two are boolean. */
 static void make_table(uint32_t *table, uint32_t n, enum mix mix) {
@@ -36,7 +37,7 @@ static void make_table(uint32_t *table, uint32_t n, enum mix mix) {
     memset(table, 0, 16 * (size_t)n);
     for (uint32_t i = 0; i < n; i++) {
         uint32_t *e = table + 4 * i;
-        static const uint8_t weighted[VELOCITY] = {0, 1, 3, 3, 4, 4, 4, 5, 5, 6, 6, 7, 8, 9, 10, 11, 12, 12};
+        static const uint8_t weighted[VERDICTS] = {0, 1, 3, 3, 4, 4, 4, 5, 5, 6, 6, 7, 8, 9, 10, 11, 12, 12, 13, 13};
         uint32_t kind = i == 0 ? 0 : i == 1 ? 7 : i + 2 >= n ? 3 : weighted[random_below(mix)];
         e[0] = kind;
         if (kind == 0) e[1] = random_below(64);
@@ -48,6 +49,7 @@ static void make_table(uint32_t *table, uint32_t n, enum mix mix) {
         if (kind == 10) e[1] = take(&counts), e[2] = random_below(5), e[3] = random_below(50);
         if (kind == 11) e[1] = take(&counts), e[2] = random_below(5), e[3] = random_below(8);
         if (kind == 12) e[1] = random_below(5), e[2] = random_below(128);
+        if (kind == 13) e[1] = 1 + random_below(8);
         is_count[i] = kind >= 7 && kind <= 9;
         add(is_count[i] ? &counts : &bools, i);
     }
@@ -65,10 +67,15 @@ static uint32_t state[2][4096];
 static uint32_t values[2][4096];
 static const uint32_t parameters[8] = {0, 3, 7, 11, 20, 31, 44, 59};
 
-/* A step; the velocity is the low bits of the signals. */
+/* The verdicts of a tick, of which those with 1 as their number are read as 1. */
+static const uint32_t verdicts[4][8] = {{0, 1, 2, 1, 0, 1, 3, 1}, {1, 1, 0, 0, 1, 2, 1, 0},
+                                        {2, 2, 2, 2, 2, 2, 2, 2}, {1, 0, 1, 1, 0, 4294967295, 1, 1}};
+
+/* A step; the velocity is the low bits of the signals, and the lowest two say which verdicts it gets. */
 static struct towerwatch_answer one(int which, uint32_t n, uint32_t start, uint64_t signals) {
     return (which ? interpreter_step : towerwatch_step)(table, 4 * n, n, state[which], n, values[which], n, start,
-                                                        signals, signals & TOWERWATCH_LAST_VELOCITY, parameters);
+                                                        signals, signals & TOWERWATCH_LAST_VELOCITY,
+                                                        verdicts[signals & 3], parameters);
 }
 
 static void prepare(uint32_t n, enum mix mix) {
@@ -100,7 +107,8 @@ static void check(uint32_t n) {
 
 /* The observer of a rule: how many equations. */
 static uint32_t compile(const char *rule) {
-    struct towerwatch_answer a = towerwatch_compile((const uint8_t *)rule, strlen(rule), table, 16384);
+    struct towerwatch_answer a =
+        towerwatch_compile((const uint8_t *)rule, strlen(rule), TOWERWATCH_PLACES, table, 16384);
     if (a.refusal) {
         printf("the rule is refused by %u\n", a.refusal);
         exit(1);
@@ -152,13 +160,14 @@ int main(int argc, char **argv) {
     static char large[2048];
     for (int i = 0; i < 24; i++) /* 23 `then`s, each with a lead of three atoms: 240 words at most */
         strcat(large, i < 23 ? "kept[s0]|len<=9 then " : "age[s1]<=k2");
-    const char *rules[4] = {
+    const char *rules[5] = {
         "kept[s0] then end[s1]",
         "(age[s0] <= 4) & (len <= 12 | sum[s1] >= 2) & !(kept[s2] then (sum[s3] < k1 then end[!s3]))", large,
-        "(age[v < 90] <= 4) & (len <= 12 | sum[s1 & v >= 40] >= 2) & !(kept[v <= 100] then end[v = 0 | v >= 10])"};
-    static const char *const names[4] = {"a short rule", "a rule of middle length", "a long rule",
-                                         "a rule on velocity"};
-    for (int i = 0; i < 4; i++) {
+        "(age[v < 90] <= 4) & (len <= 12 | sum[s1 & v >= 40] >= 2) & !(kept[v <= 100] then end[v = 0 | v >= 10])",
+        "(age[r1] <= 4) & (len <= 12 | sum[s1 & r2] >= 2) & !(kept[!r3] then end[r4 | r5])"};
+    static const char *const names[5] = {"a short rule", "a rule of middle length", "a long rule", "a rule on velocity",
+                                         "a rule on verdicts"};
+    for (int i = 0; i < 5; i++) {
         uint32_t n = compile(rules[i]);
         check(n);
         report(names[i], n);
@@ -166,5 +175,8 @@ int main(int argc, char **argv) {
     prepare(400, VELOCITY);
     check(400);
     report("400 equations with velocity tests", 400);
+    prepare(400, VERDICTS);
+    check(400);
+    report("400 equations with verdicts", 400);
     return 0;
 }

@@ -35,9 +35,9 @@ static void rule_texts(void) {
     for (int i = 0; i < 60; i++) strcat(rule, i ? "|len<=1" : "len<=1");
     size_t length = strlen(rule);
     const uint8_t *bytes = (const uint8_t *)rule;
-    TIME("read a rule of 239 words", 200, towerwatch_read_rule(bytes, length));
-    TIME("read and compile a rule of 239 words", 200, towerwatch_compile(bytes, length, table, 16384));
-    TIME("read and compile a rule of 239 words, C", 200, compiler_compile(bytes, length, table, 16384));
+    TIME("read a rule of 239 words", 200, towerwatch_read_rule(bytes, length, 1));
+    TIME("read and compile a rule of 239 words", 200, towerwatch_compile(bytes, length, 1, table, 16384));
+    TIME("read and compile a rule of 239 words, C", 200, compiler_compile(bytes, length, 1, table, 16384));
     TIME("compare it with itself", 200, towerwatch_same_rule(bytes, length, parameters, bytes, length, parameters));
 
     /* the same with `k0` to `k7` in place of its literals */
@@ -48,15 +48,22 @@ static void rule_texts(void) {
          towerwatch_same_rule(bytes, length, parameters, bytes, length, parameters));
 
     const uint8_t *brief = (const uint8_t *)"kept[s0] then end[s1]";
-    TIME("read and compile a rule of 9 words", 5000, towerwatch_compile(brief, 21, table, 16384));
-    TIME("read and compile a rule of 9 words, C", 5000, compiler_compile(brief, 21, table, 16384));
+    TIME("read and compile a rule of 9 words", 5000, towerwatch_compile(brief, 21, 1, table, 16384));
+    TIME("read and compile a rule of 9 words, C", 5000, compiler_compile(brief, 21, 1, table, 16384));
 
     /* a rule of 237 words, most of them of velocity tests */
     rule[0] = 0;
     for (int i = 0; i < 34; i++) sprintf(rule + strlen(rule), "%send[v>=%d]", i ? "|" : "", 3 * i);
     length = strlen(rule);
-    TIME("read and compile a rule of 237 words on velocity", 200, towerwatch_compile(bytes, length, table, 16384));
-    TIME("read and compile a rule of 237 words on velocity, C", 200, compiler_compile(bytes, length, table, 16384));
+    TIME("read and compile a rule of 237 words on velocity", 200, towerwatch_compile(bytes, length, 1, table, 16384));
+    TIME("read and compile a rule of 237 words on velocity, C", 200, compiler_compile(bytes, length, 1, table, 16384));
+
+    /* a rule of 239 words, 48 of them verdicts of earlier rules */
+    rule[0] = 0;
+    for (int i = 0; i < 48; i++) sprintf(rule + strlen(rule), "%send[r%d]", i ? "|" : "", 1 + i % 7);
+    length = strlen(rule);
+    TIME("read and compile a rule of 239 words on verdicts", 200, towerwatch_compile(bytes, length, 8, table, 16384));
+    TIME("read and compile a rule of 239 words on verdicts, C", 200, compiler_compile(bytes, length, 8, table, 16384));
 }
 
 /* Of a table of 4,096 equations with long lines: a signal, a count, then gates and comparisons, and two comparisons to

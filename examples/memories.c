@@ -1,6 +1,7 @@
-/* How many memories the tables of rules have, which is what cabinets are ordered by. One rule a line on stdin; for each
- * a line with that number, a blank and the rule. A refused rule has `refused=` and the refusal in place of the number,
- * and then the exit status is 1 at the end. */
+/* How many memories the tables of rules have, which is what cabinets are ordered by. One rule a line on stdin, read at
+ * the last place of a set, so that it may name the verdicts `r1` to `r7`; for each a line with that number, a blank and
+ * the rule. A refused rule has `refused=` and the refusal in place of the number, and then the exit status is 1 at the
+ * end. */
 #define _POSIX_C_SOURCE 200809L /* for getline */
 
 #include <stdio.h>
@@ -26,7 +27,8 @@ int main(void) {
     int status = 0;
     while ((len = getline(&line, &room, stdin)) > 0) {
         if (line[len - 1] == '\n') len--;
-        struct towerwatch_answer a = towerwatch_compile((const uint8_t *)line, len, table, TOWERWATCH_TABLE_NUMBERS);
+        struct towerwatch_answer a =
+            towerwatch_compile((const uint8_t *)line, len, TOWERWATCH_PLACES, table, TOWERWATCH_TABLE_NUMBERS);
         if (a.refusal == 0) printf("%zu ", memories(a.result));
         else printf("refused=%u ", (unsigned)a.refusal);
         fwrite(line, 1, len, stdout);

@@ -1,7 +1,7 @@
 /* The header's numbers beside the archive's answers: each refusal provoked, tables that do not close with a started
- * flow and a verdict, empty buffers that are null, each limit reached and passed, idle steps, velocity tests, packed
- * tables, same rules. A line has the header's number and what the archive answered, and ends in WRONG where they do not
- * agree or a refused call changed a buffer; the exit status is then 1. */
+ * flow and a verdict, empty buffers that are null, each limit reached and passed, idle steps, velocity tests, places
+ * and verdicts, packed tables, same rules. A line has the header's number and what the archive answered, and ends in
+ * WRONG where they do not agree or a refused call changed a buffer; the exit status is then 1. */
 #include <stdio.h>
 #include <string.h>
 
@@ -10,6 +10,7 @@
 static uint32_t table[TOWERWATCH_TABLE_NUMBERS + 4], second[TOWERWATCH_TABLE_NUMBERS];
 static uint32_t state[TOWERWATCH_EQUATIONS + 1], values[5];
 static uint32_t parameters[TOWERWATCH_PARAMETERS];
+static const uint32_t no_verdicts[TOWERWATCH_PLACES];
 static uint8_t lustre[TOWERWATCH_LUSTRE_BYTES];
 static int wrong;
 
@@ -49,15 +50,21 @@ static void show(const char *what, uint32_t number, struct towerwatch_answer a) 
 #define REFUSED(name, call) fill(), show(#name, TOWERWATCH_REFUSED_##name, call)
 #define TEXT(text) (const uint8_t *)(text), sizeof(text) - 1
 
-static struct towerwatch_answer read_text(const char *text) {
-    return towerwatch_read_rule((const uint8_t *)text, strlen(text));
+/* Reading a text at a place of a set; and at the place of one that stands alone. */
+static struct towerwatch_answer read_at(uint32_t place, const char *text) {
+    return towerwatch_read_rule((const uint8_t *)text, strlen(text), place);
 }
+
+enum { ALONE = 1 };
+
+static struct towerwatch_answer read_text(const char *text) { return read_at(ALONE, text); }
 
 /* A step of n equations of a table of eight numbers, with this velocity and this first parameter. */
 static struct towerwatch_answer struck(const uint32_t *equations, size_t n, size_t state_len, uint32_t velocity,
                                        uint32_t parameter) {
     parameters[0] = parameter;
-    return towerwatch_step(equations, 8, n, state, state_len, values, SHORTEST, 1, 0, velocity, parameters);
+    return towerwatch_step(equations, 8, n, state, state_len, values, SHORTEST, 1, 0, velocity, no_verdicts,
+                           parameters);
 }
 
 /* The same with no stroke. */
@@ -78,7 +85,7 @@ static struct towerwatch_answer same(const char *text, uint32_t value, const cha
 }
 
 /* Of a kind that there is not; and a memory, whose cell is out of range where the state is filled. */
-static const uint32_t ill[8] = {13, 0, 0, 0, 1, 0, 0, 0}, memory[8] = {6, 0, 0, 0, 1, 0, 0, 0};
+static const uint32_t ill[8] = {14, 0, 0, 0, 1, 0, 0, 0}, memory[8] = {6, 0, 0, 0, 1, 0, 0, 0};
 
 enum { TOO_HARD = TOWERWATCH_LAST_VELOCITY + 1, TOO_HIGH = TOWERWATCH_LAST_NUMBER + 1 };
 
@@ -94,7 +101,7 @@ static void refusals(void) {
     REFUSED(GRAMMAR, read_text("end[s0"));
     REFUSED(CHOP_OR_EXISTS, read_text("kept[s0] chop end[s1]"));
     REFUSED(LEAD, read_text("age[s0] <= 2 then end[1]"));
-    REFUSED(TABLE_ROOM, towerwatch_compile(TEXT("end[s0]"), table, TOWERWATCH_TABLE_NUMBERS - 1));
+    REFUSED(TABLE_ROOM, towerwatch_compile(TEXT("end[s0]"), ALONE, table, TOWERWATCH_TABLE_NUMBERS - 1));
     REFUSED(TABLE_LENGTH, step(start_flows, 3, 3, 0));
     REFUSED(TABLE, step(ill, 2, 2, 0));
     REFUSED(STATE_LENGTH, step(start_flows, 2, 1, 0));
@@ -103,6 +110,7 @@ static void refusals(void) {
     REFUSED(LUSTRE_ROOM, towerwatch_write_lustre(start_flows, 8, 2, lustre, sizeof start_text - 2));
     REFUSED(LUSTRE, towerwatch_read_lustre(TEXT("let\ntel\n"), table, TOWERWATCH_TABLE_NUMBERS));
     REFUSED(VELOCITY, struck(start_flows, 2, 2, TOO_HARD, 0));
+    REFUSED(PLACE, read_text("end[r1]"));
 }
 
 /* Each function that checks a table refuses these n equations. */
@@ -139,16 +147,16 @@ static void closing(void) {
 
 /* An empty buffer may be null: the answers are those of any other empty buffer. */
 static void nulls(void) {
-    REFUSED(TEXT_LENGTH, towerwatch_read_rule(NULL, 0));
-    REFUSED(TEXT_LENGTH, towerwatch_compile(NULL, 0, NULL, 0));
-    REFUSED(TABLE_ROOM, towerwatch_compile(TEXT("end[s0]"), NULL, 0));
+    REFUSED(TEXT_LENGTH, towerwatch_read_rule(NULL, 0, ALONE));
+    REFUSED(TEXT_LENGTH, towerwatch_compile(NULL, 0, ALONE, NULL, 0));
+    REFUSED(TABLE_ROOM, towerwatch_compile(TEXT("end[s0]"), ALONE, NULL, 0));
     REFUSED(TEXT_LENGTH, towerwatch_same_rule(NULL, 0, parameters, NULL, 0, parameters));
     REFUSED(TEXT_LENGTH, towerwatch_same_rule(TEXT("end[s0]"), parameters, NULL, 0, parameters));
     REFUSED(TABLE_LENGTH, towerwatch_fresh_state(NULL, 0, 1, NULL, 0));
     REFUSED(STATE_LENGTH, towerwatch_fresh_state(start_flows, 8, 2, NULL, 0));
-    REFUSED(TABLE_LENGTH, towerwatch_step(NULL, 0, 1, NULL, 0, NULL, 0, 1, 0, 0, parameters));
-    REFUSED(STATE_LENGTH, towerwatch_step(start_flows, 8, 2, NULL, 0, values, 2, 1, 0, 0, parameters));
-    REFUSED(STATE_LENGTH, towerwatch_step(start_flows, 8, 2, state, 2, NULL, 0, 1, 0, 0, parameters));
+    REFUSED(TABLE_LENGTH, towerwatch_step(NULL, 0, 1, NULL, 0, NULL, 0, 1, 0, 0, no_verdicts, parameters));
+    REFUSED(STATE_LENGTH, towerwatch_step(start_flows, 8, 2, NULL, 0, values, 2, 1, 0, 0, no_verdicts, parameters));
+    REFUSED(STATE_LENGTH, towerwatch_step(start_flows, 8, 2, state, 2, NULL, 0, 1, 0, 0, no_verdicts, parameters));
     REFUSED(TABLE_LENGTH, towerwatch_write_lustre(NULL, 0, 1, NULL, 0));
     REFUSED(LUSTRE_ROOM, towerwatch_write_lustre(start_flows, 8, 2, NULL, 0));
     REFUSED(LUSTRE, towerwatch_read_lustre(NULL, 0, NULL, 0));
@@ -228,12 +236,21 @@ static struct towerwatch_answer velocity_equation(uint32_t number) {
     return step(equations, 2, 2, 0);
 }
 
+/* A place as that of a text and as A of an equation. As that of a verdict it is refused at the limit too, since no text
+ * has a later place: `place_refusals` has that. */
+static struct towerwatch_answer place(uint32_t number) { return read_at(number, "end[s0]"); }
+
+static struct towerwatch_answer place_equation(uint32_t number) {
+    const uint32_t equations[8] = {13, number, 0, 0, 1, 0, 0, 0};
+    return step(equations, 2, 2, 0);
+}
+
 /* A count's memory that holds a number, and two comparisons of it, which close the table. */
 static struct towerwatch_answer count_cell(uint32_t number) {
     static const uint32_t equations[12] = {7, 0, 0, 0, 10, 0, 0, 1, 10, 0, 0, 1};
     uint32_t cells[3] = {number, 0, 0};
     parameters[0] = 0;
-    return towerwatch_step(equations, 12, 3, cells, 3, values, 3, 1, 0, 0, parameters);
+    return towerwatch_step(equations, 12, 3, cells, 3, values, 3, 1, 0, 0, no_verdicts, parameters);
 }
 
 static struct towerwatch_answer equations(size_t n) {
@@ -261,6 +278,8 @@ static void limits(void) {
     LIMIT(LAST_VELOCITY, velocity_literal, NUMBER);
     LIMIT(LAST_VELOCITY, velocity, VELOCITY);
     LIMIT(LAST_VELOCITY, velocity_equation, TABLE);
+    LIMIT(PLACES, place, PLACE);
+    LIMIT(PLACES, place_equation, TABLE);
     LIMIT(EQUATIONS, equations, TABLE_LENGTH);
     LIMIT(EQUATIONS, packed_equations, TABLE_LENGTH);
 }
@@ -271,7 +290,7 @@ static void widest(void) {
     for (int i = 0; i < TOWERWATCH_OPERATORS; i++) strcat(text, i < 21 ? "lag[1,1,1] then " : "len<1 then ");
     strcat(text, "len<1&len<1");
     struct towerwatch_answer a =
-        towerwatch_compile((const uint8_t *)text, strlen(text), table, TOWERWATCH_TABLE_NUMBERS);
+        towerwatch_compile((const uint8_t *)text, strlen(text), ALONE, table, TOWERWATCH_TABLE_NUMBERS);
     int fine = a.refusal == 0 && a.result == TOWERWATCH_RULE_EQUATIONS;
     printf("%-24s %7u result=%u%s\n", "RULE_EQUATIONS", TOWERWATCH_RULE_EQUATIONS, (unsigned)a.result,
            fine ? "" : " WRONG");
@@ -288,8 +307,8 @@ static void idle(void) {
     static const uint32_t wanted[6] = {TOWERWATCH_IDLE, TOWERWATCH_IDLE, 0, 1, TOWERWATCH_IDLE, 0};
     parameters[0] = 0;
     for (int i = 0; i < 6; i++) {
-        struct towerwatch_answer a =
-            towerwatch_step(by_hand, 8, 2, state, 2, values, 2, (uint32_t)i % 2, signals[i], 0, parameters);
+        struct towerwatch_answer a = towerwatch_step(by_hand, 8, 2, state, 2, values, 2, (uint32_t)i % 2, signals[i], 0,
+                                                     no_verdicts, parameters);
         int fine = a.refusal == 0 && a.result == wanted[i];
         printf("%-24s %7u result=%u%s\n", wanted[i] == TOWERWATCH_IDLE ? "IDLE" : "a verdict", (unsigned)wanted[i],
                (unsigned)a.result, fine ? "" : " WRONG");
@@ -328,7 +347,7 @@ static void velocity_tests(void) {
     parameters[0] = 0;
     for (int i = 0; i < 5; i++) {
         struct towerwatch_answer a =
-            towerwatch_step(tests, 20, 5, state, 5, values, 5, 0, 0, velocities[i], parameters);
+            towerwatch_step(tests, 20, 5, state, 5, values, 5, 0, 0, velocities[i], no_verdicts, parameters);
         int fine = a.refusal == 0 && a.result == wanted[i] && memcmp(values, flows[i], sizeof flows[i]) == 0;
         printf("%-24s %7u result=%u%s\n", "five velocity tests", (unsigned)velocities[i], (unsigned)a.result,
                fine ? "" : " WRONG");
@@ -338,6 +357,79 @@ static void velocity_tests(void) {
     uint32_t n = towerwatch_read_lustre(TEXT(tests_text), table, TOWERWATCH_TABLE_NUMBERS).result;
     int fine = length == sizeof tests_text - 1 && memcmp(lustre, tests_text, length) == 0 && n == 5 &&
                memcmp(table, tests, sizeof tests) == 0;
+    printf("%-24s %7u result=%u%s\n", "their text", (unsigned)length, (unsigned)n, fine ? "" : " WRONG");
+    wrong |= !fine;
+}
+
+/* Compiling a text at a place, into a table that is one number too short if `short_of` is 1. */
+static struct towerwatch_answer compile_at(uint32_t place, const char *text, size_t short_of) {
+    return towerwatch_compile((const uint8_t *)text, strlen(text), place, table, TOWERWATCH_TABLE_NUMBERS - short_of);
+}
+
+/* SPEC 7.20: a place that is none, or a verdict whose place is not before the text's. It comes after 1 to 8 and, where
+ * a rule is compiled, before 9. `r0` and `r9` are out of range (SPEC 7.3) at whatever place, and `r01` is no word. */
+static void place_refusals(void) {
+    REFUSED(PLACE, read_at(0, "end[s0]"));
+    REFUSED(PLACE, read_at(UINT32_MAX, "end[s0]"));
+    REFUSED(PLACE, read_at(2, "end[r2]"));
+    REFUSED(PLACE, read_at(TOWERWATCH_PLACES, "end[r8]"));
+    REFUSED(PLACE, read_at(3, "kept[r1] then end[r2] | sum[s0 & !r7] <= 2"));
+    REFUSED(TEXT_LENGTH, read_at(0, ""));
+    REFUSED(WORD, read_at(0, "end[S0]"));
+    REFUSED(WORD, read_at(2, "end[r01]"));
+    REFUSED(WORD, read_at(2, "end[r]"));
+    REFUSED(NUMBER, read_at(0, "end[r0]"));
+    REFUSED(NUMBER, read_at(TOWERWATCH_PLACES, "end[r9]"));
+    REFUSED(GRAMMAR, read_at(0, "end[r1"));
+    REFUSED(GRAMMAR, read_at(2, "r1"));
+    REFUSED(CHOP_OR_EXISTS, read_at(0, "end[r1] chop end[r1]"));
+    REFUSED(LEAD, read_at(0, "end[r1] then end[s0]"));
+    REFUSED(LEAD, compile_at(1, "end[r1] then end[s0]", 1));
+    REFUSED(PLACE, compile_at(1, "end[r1]", 0));
+    REFUSED(PLACE, compile_at(1, "end[r1]", 1));
+    REFUSED(PLACE, compile_at(9, "end[s0]", 1));
+    REFUSED(TABLE_ROOM, compile_at(2, "end[r1]", 1));
+}
+
+/* SPEC 5.3: an equation of kind 13 with no place, with a place too high, with a B and with a C; and texts of the first
+ * two. */
+static void wrong_places(void) {
+    static const uint32_t wrong_ones[4][8] = {{13, 0, 0, 0, 1, 0, 0, 0},
+                                              {13, TOWERWATCH_PLACES + 1, 0, 0, 1, 0, 0, 0},
+                                              {13, 1, 1, 0, 1, 0, 0, 0},
+                                              {13, 1, 0, 1, 1, 0, 0, 0}};
+    for (int i = 0; i < 4; i++) no_table(wrong_ones[i], 2);
+    REFUSED(LUSTRE, towerwatch_read_lustre(TEXT("let\nf0=r0;\nf1=b;\nw=f0;\na=f1;\ntel\n"), table,
+                                           TOWERWATCH_TABLE_NUMBERS));
+    REFUSED(LUSTRE, towerwatch_read_lustre(TEXT("let\nf0=r9;\nf1=b;\nw=f0;\na=f1;\ntel\n"), table,
+                                           TOWERWATCH_TABLE_NUMBERS));
+}
+
+/* A table of the verdicts of all places, which is also written as text and read again. 1 is read as 1, every other
+ * number as 0, and none is refused. A line has the number that stands at places 1, 3, 5 and 8; `r7`, the started flow,
+ * is 1, so that the answer is `r8`. */
+static void verdicts_read(void) {
+    static const uint32_t places[32] = {13, 1, 0, 0, 13, 2, 0, 0, 13, 3, 0, 0, 13, 4, 0, 0,
+                                        13, 5, 0, 0, 13, 6, 0, 0, 13, 7, 0, 0, 13, 8, 0, 0};
+    static const char places_text[] =
+        "let\nf0=r1;\nf1=r2;\nf2=r3;\nf3=r4;\nf4=r5;\nf5=r6;\nf6=r7;\nf7=r8;\nw=f6;\na=f7;\ntel\n";
+    static const uint32_t numbers[6] = {0, 1, TOWERWATCH_IDLE, 3, 257, UINT32_MAX};
+    uint32_t flows[8];
+    parameters[0] = 0;
+    for (int i = 0; i < 6; i++) {
+        const uint32_t number = numbers[i], is_yes = number == 1;
+        const uint32_t verdicts[TOWERWATCH_PLACES] = {number, 0, number, 1, number, 2, 1, number};
+        const uint32_t wanted[8] = {is_yes, 0, is_yes, 1, is_yes, 0, 1, is_yes};
+        struct towerwatch_answer a =
+            towerwatch_step(places, 32, 8, state, 8, flows, 8, 0, 0, 0, verdicts, parameters);
+        int fine = a.refusal == 0 && a.result == is_yes && memcmp(flows, wanted, sizeof wanted) == 0;
+        printf("%-24s %7u result=%u%s\n", "eight verdicts", (unsigned)number, (unsigned)a.result, fine ? "" : " WRONG");
+        wrong |= !fine;
+    }
+    uint32_t length = towerwatch_write_lustre(places, 32, 8, lustre, sizeof lustre).result;
+    uint32_t n = towerwatch_read_lustre(TEXT(places_text), table, TOWERWATCH_TABLE_NUMBERS).result;
+    int fine = length == sizeof places_text - 1 && memcmp(lustre, places_text, length) == 0 && n == 8 &&
+               memcmp(table, places, sizeof places) == 0;
     printf("%-24s %7u result=%u%s\n", "their text", (unsigned)length, (unsigned)n, fine ? "" : " WRONG");
     wrong |= !fine;
 }
@@ -376,13 +468,17 @@ static void packed_tables(void) {
     static const uint32_t by_hand_packed[16] = {0, 5, 0, 0, 3, 0, 0, 0, 3, 0, 0, 0, 6, 1, 0, 1};
     static const uint32_t tests[20] = {12, 4, 90, 0, 12, 4, 90, 0, 12, 4, 91, 0, 5, 1, 2, 0, 4, 0, 3, 0};
     static const uint32_t tests_packed[16] = {12, 4, 90, 0, 12, 4, 91, 0, 5, 0, 1, 0, 4, 0, 2, 0};
+    static const uint32_t places[20] = {13, 2, 0, 0, 13, 2, 0, 0, 13, 3, 0, 0, 5, 1, 2, 0, 4, 0, 3, 0};
+    static const uint32_t places_packed[16] = {13, 2, 0, 0, 13, 3, 0, 0, 5, 0, 1, 0, 4, 0, 2, 0};
     memcpy(table, start_flows, sizeof start_flows);
     packs("two start flows", 2, 2, start_flows);
     memcpy(table, by_hand, sizeof by_hand);
     packs("a table made by hand", 5, 4, by_hand_packed);
     memcpy(table, tests, sizeof tests);
     packs("a velocity test twice", 5, 4, tests_packed);
-    size_t n = towerwatch_compile(TEXT("sum[s0]<=3 & sum[s0]<=5"), table, TOWERWATCH_TABLE_NUMBERS).result;
+    memcpy(table, places, sizeof places);
+    packs("a verdict twice", 5, 4, places_packed);
+    size_t n = towerwatch_compile(TEXT("sum[s0]<=3 & sum[s0]<=5"), ALONE, table, TOWERWATCH_TABLE_NUMBERS).result;
     size_t k = towerwatch_pack(table, 4 * n, n, second, TOWERWATCH_TABLE_NUMBERS).result;
     int fine = k < n && memories(table, n) == 3 && memories(second, k) == 2;
     printf("%-24s %7zu result=%zu, memories %zu and %zu%s\n", "a rule with a sum twice", n, k, memories(table, n),
@@ -391,7 +487,8 @@ static void packed_tables(void) {
 }
 
 /* SPEC 8.3: the first text's refusal, 13 of the first parameters, then the same of the second; 13 also where the tree
- * does not name the parameter that is too high, and where the answer would be no without it. */
+ * does not name the parameter that is too high, and where the answer would be no without it. Both texts are read at
+ * place 8. */
 static void same_refusals(void) {
     REFUSED(PARAMETER, same("len<=k3", TOO_HIGH, "len<=k3", 0));
     REFUSED(PARAMETER, same("len<=k3", 0, "len<=k3", TOO_HIGH));
@@ -404,6 +501,12 @@ static void same_refusals(void) {
     REFUSED(PARAMETER, same("end[s0]", TOO_HIGH, "end[S0]", TOO_HIGH));
     REFUSED(WORD, same("end[s0]", 0, "end[S0]", TOO_HIGH));
     REFUSED(GRAMMAR, same("end[s0", TOO_HIGH, "end[S0]", TOO_HIGH));
+    REFUSED(PLACE, same("end[r8]", 0, "end[r8]", 0));
+    REFUSED(PLACE, same("end[r8]", TOO_HIGH, "end[S0]", 0));
+    REFUSED(LEAD, same("end[r8] then end[1]", TOO_HIGH, "end[r8]", 0));
+    REFUSED(PARAMETER, same("end[r7]", TOO_HIGH, "end[r8]", 0));
+    REFUSED(PLACE, same("end[r7]", 0, "end[r8]", TOO_HIGH));
+    REFUSED(PARAMETER, same("end[r7]", 0, "end[r7]", TOO_HIGH));
 }
 
 static void is_same(const char *what, uint32_t wanted, struct towerwatch_answer a) {
@@ -422,6 +525,9 @@ static void same_answers(void) {
     is_same("the highest value", 1, same("len<=k3", TOWERWATCH_LAST_NUMBER, "len<=k3", TOWERWATCH_LAST_NUMBER));
     is_same("a literal of its value", 0, same("len<=k3", 5, "len<=5", 5));
     is_same("two parameters", 0, same("len<=k3", 0, "len<=k2", 0));
+    is_same("a verdict", 1, same("end[r3]", 5, " ( end[ (r3) ] ) ", 6));
+    is_same("two verdicts", 0, same("end[r3]", 5, "end[r2]", 5));
+    is_same("a verdict and a signal", 0, same("end[r3]", 5, "end[s3]", 5));
     is_same("one array", 1, towerwatch_same_rule(TEXT("len<=k3"), parameters, TEXT("len<=k3"), parameters));
 }
 
@@ -440,6 +546,10 @@ int main(void) {
     velocity_refusals();
     wrong_tests();
     velocity_tests();
+    printf("places and verdicts\n");
+    place_refusals();
+    wrong_places();
+    verdicts_read();
     printf("packing\n");
     packing_refusals();
     packed_tables();

@@ -1,5 +1,11 @@
-# Says what is wrong with one line of a card that the program refused. kind: 1 to 4, or 5 for a tick; edition: that of
-# the card; drawn: the line as docs/RULES.md draws it; ended: the line's last byte. Goes with waveform.awk.
+# Says what is wrong with one line of a card that the program refused. kind: 0 for the first line of a set's card, 1 to
+# 3 for those of a rule, 4 for the number of ticks, 5 for a tick; edition: that of the card; ended: the line's last
+# byte. Goes with waveform.awk.
+
+BEGIN {
+    split("edition= k= watch= ticks= t=", begins, " ")
+    begins[0] = "cards="
+}
 
 # the eight settings: the text after `k=`
 function settings(text,   part, count, i) {
@@ -30,14 +36,15 @@ function velocity(rest) {
 }
 
 function wrong(line,   name) {
-    name = drawn
-    sub(/=.*/, "=", name)
+    name = begins[kind]
     if (length(line) + 1 > 4096) return "it has " (length(line) + 1) " bytes with its end"
     if (line ~ /\r$/) return "it ends in byte 13, a Windows line end: save the card with line ends of byte 10 alone"
     if (index(line, "\357\273\277") == 1) return "it begins with a byte order mark: save the card without one"
     if (index(line, name) != 1) return "it does not begin with `" name "`"
     if (line ~ / / && kind != 3) return "it has a blank"
     if (ended != 10) return "it does not end in byte 10"
+    if (kind == 0) return "`" substr(line, length(name) + 1) "` is no number from 1 to 8 without a needless 0"
+    if (kind == 1 && line ~ /^edition=[12]$/) return "the rules before it have edition " edition
     if (kind == 1) return "the edition is neither 1 nor 2"
     if (kind == 2) return settings(substr(line, length(name) + 1))
     if (kind == 4) return wave_no_number(substr(line, length(name) + 1))

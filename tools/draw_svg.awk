@@ -1,6 +1,6 @@
-# Draws a waveform with its verdicts as an SVG picture; goes with waveform.awk and read.awk. `printed` is the file with
-# what the program printed. Exit status 1 where a row `verdict` was given and differs. A verdict 0 is hatched, so that
-# it can be told from 1 in print without colour; 2, idle, has no box but a dashed line.
+# Draws a waveform with its verdicts as an SVG picture; goes with waveform.awk, read.awk and verdicts.awk, which says
+# what `printed` and `heads` are. Exit status 1 where a row `verdict` was given and differs. A verdict 0 is hatched, so
+# that it can be told from 1 in print without colour; 2, idle, has no box but a dashed line.
 
 # the picture's lines wait until its height is known
 function emit(text) { out[++lines] = text }
@@ -76,7 +76,7 @@ function starts(y,   i) {
         if (wave_start(i)) line("M" left_of(i) " " (y + 6) "V" (y + 24) "L" (left_of(i) + 13) " " (y + 15) "Z", "start")
 }
 
-# a row of verdicts: boxes, and a line through the ticks that are idle; those that differ have a thick frame
+# a row of verdicts: boxes, and a line through the ticks that are idle
 function boxes(title, digits, y,   i, digit) {
     label(margin, y + 20, "name", title)
     for (i = low; i <= high; i++) {
@@ -86,6 +86,11 @@ function boxes(title, digits, y,   i, digit) {
         if (digit != "1") rect(left_of(i) + 7, y + 7, column - 14, 16, "plate")
         label(left_of(i) + column / 2, y + 20, "bit", digit)
     }
+}
+
+# the same, where those that differ have a thick frame
+function framed_boxes(title, digits, y,   i) {
+    boxes(title, digits, y)
     for (i = low; i <= high; i++) if (differs(i)) rect(left_of(i) + 1, y + 3, column - 2, 24, "frame")
 }
 
@@ -107,19 +112,45 @@ function block(y,   i, top) {
     for (i = 1; i <= wave_names; i++) {
         if (wave_name[i] ~ /^s[0-9]/) signal(wave_name[i], y += height)
         if (wave_name[i] == "v") velocities(y += height)
+        if (wave_name[i] ~ /^r/) boxes(wave_name[i], wave[wave_name[i]], y += height)
     }
-    boxes("verdict", verdicts, y += height)
-    if (differing) boxes("drawn", wave["verdict"], y += height)
+    for (i = 1; i <= verdict_rows; i++) framed_boxes(verdict_name[i], verdict_row[i], y += height)
+    if (differing) framed_boxes("drawn", wave["verdict"], y += height)
     return y + height + 14
 }
 
-function settings(y,   i, text) {
-    text = ""
-    for (i = 1; i <= wave_names; i++)
-        if (wave_name[i] ~ /^k/) text = text (text == "" ? "" : ", ") wave_name[i] " = " wave[wave_name[i]]
+# a line of settings, if there are any; returns the y below it
+function setting_line(y, text) {
     if (text == "") return y
     label(margin, y, "setting", text)
     return y + 20
+}
+
+# the rule with its settings; of a set each rule, by its name, with its own; returns the y below them
+function headings(y,   i, j, text) {
+    for (i = 1; i <= rules; i++) {
+        text = ""
+        for (j = 1; j <= head_settings[i]; j++) text = text (j > 1 ? ", " : "") equation(head_setting[i, j])
+        y = setting_line(heading(y, "r" i ": " head_rule[i]), text)
+    }
+    if (rules) return y
+    text = ""
+    for (i = 1; i <= wave_names; i++)
+        if (wave_name[i] ~ /^k/) text = text (text == "" ? "" : ", ") wave_name[i] " = " wave[wave_name[i]]
+    return setting_line(heading(y, wave_rule), text)
+}
+
+# a setting and its number, with an equals sign between
+function equation(text) {
+    sub(/ /, " = ", text)
+    return text
+}
+
+# what the picture is of
+function titled(   i, text) {
+    text = rules ? "" : wave_rule
+    for (i = 1; i <= rules; i++) text = text (i > 1 ? ", " : "") "r" i ": " head_rule[i]
+    return text
 }
 
 function style() {
@@ -140,28 +171,29 @@ function style() {
     print "</style>"
 }
 
-# the sizes: rows are the start, the signals, the velocity, the verdicts and, where they differ, the drawn ones
+# the sizes: rows are the start, the signals, the velocity, the earlier rules, the verdicts and, where they differ, the
+# drawn ones
 function measure(   i) {
     margin = 20; labels = 80; column = 28; height = 32; per = 40
-    rows = 2 + differing
-    for (i = 1; i <= wave_names; i++) rows += wave_name[i] ~ /^(s[0-9]|v$)/
+    rows = 1 + verdict_rows + differing
+    for (i = 1; i <= wave_names; i++) rows += wave_name[i] ~ /^([sr][0-9]|v$)/
     page_width = 2 * margin + labels + column * (wave_ticks < per ? wave_ticks : per)
     if (page_width < 480) page_width = 480
 }
 
 END {
     if (failed) exit 2
-    while ((getline answer < printed) > 0) verdicts = verdicts substr(answer, 9)
+    read_verdicts()
     differing = 0
     for (i = 1; i <= wave_ticks; i++) if (differs(i)) differing = 1
     measure()
-    y = settings(heading(margin + 12, wave_rule))
+    y = headings(margin + 12)
     for (low = 1; low <= wave_ticks; low += per) {
         high = low + per - 1 < wave_ticks ? low + per - 1 : wave_ticks
         y = block(y)
     }
     print "<svg xmlns=\"http://www.w3.org/2000/svg\" width=\"" page_width "\" height=\"" y "\">"
-    print "<title>" escaped(wave_rule) "</title>"
+    print "<title>" escaped(titled()) "</title>"
     style()
     print "<rect width=\"100%\" height=\"100%\" class=\"plate\"/>"
     for (i = 1; i <= lines; i++) print out[i]

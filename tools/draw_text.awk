@@ -1,5 +1,5 @@
-# Prints a waveform with the verdicts under its columns; goes with waveform.awk and read.awk. `printed` is the file with
-# what the program printed. Exit status 1 where a row `verdict` was given and differs.
+# Prints a waveform with the verdicts under its columns; goes with waveform.awk, read.awk and verdicts.awk, which says
+# what `printed` and `heads` are. Exit status 1 where a row `verdict` was given and differs.
 
 # a row's columns from tick `low` to tick `high`, counted from 1: its digits, or numbers in the rows `tick` and `v`
 function columns(title, digits, low, high,   line, i, column) {
@@ -21,7 +21,7 @@ function block(low, high,   i, row) {
         row = wave_name[i]
         if (row !~ /^k/ && row != "tick" && row != "verdict") columns(row, wave[row], low, high)
     }
-    columns("verdict", verdicts, low, high)
+    for (i = 1; i <= verdict_rows; i++) columns(verdict_name[i], verdict_row[i], low, high)
     if (!differing) return
     columns("drawn", wave["verdict"], low, high)
     columns("", marks, low, high)
@@ -35,16 +35,31 @@ function column_width(   i, longest) {
     return longest + 1
 }
 
-# the signals and settings that the rule names and that have no row, and `v`
+# the signals, settings and earlier rules that the rule names and that have no row, and `v`; a set's card has a row for
+# each
 function unnamed(   rest, row, seen) {
-    rest = wave_rule
+    rest = rules ? "" : wave_rule
     while (match(rest, /[a-z0-9]+/)) {
         row = substr(rest, RSTART, RLENGTH)
         rest = substr(rest, RSTART + RLENGTH)
-        if (row !~ /^([sk][0-9]+|v)$/ || (row in wave) || (row in seen)) continue
+        if (row !~ /^([skr][0-9]+|v)$/ || (row in wave) || (row in seen)) continue
         seen[row] = 1
         print "note: the rule names " row ", which has no row here; it is 0" (row ~ /^k/ ? "" : " at each tick")
     }
+}
+
+# the rule and its settings; of a set each rule, by its name, with its settings behind two blanks
+function heading(   i, j, text) {
+    for (i = 1; i <= rules; i++) {
+        print "r" i "       " head_rule[i]
+        for (j = 1; j <= head_settings[i]; j++) {
+            text = head_setting[i, j]
+            print "  " substr(text, 1, 2) "     " substr(text, 4)
+        }
+    }
+    if (rules) return
+    print "rule     " wave_rule
+    for (i = 1; i <= wave_names; i++) if (wave_name[i] ~ /^k/) print wave_name[i] "       " wave[wave_name[i]]
 }
 
 # what a verdict 2 is, where there is one
@@ -66,14 +81,13 @@ function compare(   i) {
 
 END {
     if (failed) exit 2
-    while ((getline line < printed) > 0) verdicts = verdicts substr(line, 9)
+    read_verdicts()
     compare()
     wide = 8
     width = column_width()
     # ticks in a block: tens, so that the lines stay under 120 characters
     per = int(110 / width / 10) * 10
-    print "rule     " wave_rule
-    for (i = 1; i <= wave_names; i++) if (wave_name[i] ~ /^k/) print wave_name[i] "       " wave[wave_name[i]]
+    heading()
     for (low = 1; low <= wave_ticks; low += per) block(low, low + per - 1 < wave_ticks ? low + per - 1 : wave_ticks)
     print ""
     unnamed()

@@ -2,10 +2,10 @@
 # Goes with waveform.awk. `work` is the folder for them, `name` the page's name in a fault.
 #
 # A line that ends in a colon and a rule in backquotes, or is a rule in backquotes, has its waveform under it, after one
-# empty line, in a block of rows that begin with four blanks. A block that begins with `edition=` is a card, one that
-# begins with `$` a command with what it prints, up to the next text. A block of another kind, a waveform without its
-# rule, a rule without its waveform, a waveform without the row `verdict` and a malformed row are faults: told with
-# their line, exit status 1.
+# empty line, in a block of rows that begin with four blanks. A block that begins with `edition=` or `cards=` is a card,
+# one that begins with `$` a command with what it prints, up to the next text. A block of another kind, a waveform
+# without its rule, a rule without its waveform, a waveform without the row `verdict` and a malformed row are faults:
+# told with their line, exit status 1.
 
 function fault(line, what) {
     print name ":" line ": " what
@@ -15,8 +15,8 @@ function fault(line, what) {
 
 # the first line of a block: what kind of block it is
 function begin_block(line) {
-    if (line ~ /^    edition=/ || line ~ /^    \$ /) return "other"
-    if (line !~ /^    (s[0-9]+|k[0-9]+|v|start|tick|verdict) /)
+    if (line ~ /^    (edition|cards)=/ || line ~ /^    \$ /) return "other"
+    if (line !~ /^    (s[0-9]+|k[0-9]+|r[0-9]+|v|start|tick|verdict) /)
         fault(FNR, "a block that is neither a waveform nor a card nor a command")
     if (!ruled || ruled != FNR - 2) fault(FNR, "a waveform without a rule two lines above it")
     ruled = 0
@@ -30,7 +30,7 @@ function end_waveform(line,   i, file) {
     if (said != "") fault(line, said)
     file = work "/" (++cards)
     wave_card(file ".card")
-    for (i = 1; i <= wave_ticks; i++) print "verdict=" substr(wave["verdict"], i, 1) > (file ".out")
+    for (i = 1; i <= wave_ticks; i++) print "verdict=" wave_earlier(i) substr(wave["verdict"], i, 1) > (file ".out")
     print wave_rule > (file ".rule")
     close(file ".out")
     close(file ".rule")

@@ -17,8 +17,8 @@ impl Answer {
 }
 
 extern "C" {
-    fn towerwatch_read_rule(text: *const u8, text_len: usize) -> Answer;
-    fn towerwatch_compile(text: *const u8, text_len: usize, table: *mut u32, table_len: usize) -> Answer;
+    fn towerwatch_read_rule(text: *const u8, text_len: usize, place: u32) -> Answer;
+    fn towerwatch_compile(text: *const u8, text_len: usize, place: u32, table: *mut u32, table_len: usize) -> Answer;
     fn towerwatch_fresh_state(
         table: *const u32,
         table_len: usize,
@@ -37,6 +37,7 @@ extern "C" {
         start: u32,
         signals: u64,
         velocity: u32,
+        verdicts: *const u32,
         parameters: *const u32,
     ) -> Answer;
     fn towerwatch_write_lustre(table: *const u32, table_len: usize, n: usize, text: *mut u8, text_len: usize) -> Answer;
@@ -52,12 +53,12 @@ extern "C" {
     fn towerwatch_pack(table: *const u32, table_len: usize, n: usize, packed: *mut u32, packed_len: usize) -> Answer;
 }
 
-pub fn read_rule(text: &[u8]) -> Answer {
-    unsafe { towerwatch_read_rule(text.as_ptr(), text.len()) }
+pub fn read_rule(text: &[u8], place: u32) -> Answer {
+    unsafe { towerwatch_read_rule(text.as_ptr(), text.len(), place) }
 }
 
-pub fn compile(text: &[u8], table: &mut [u32]) -> Answer {
-    unsafe { towerwatch_compile(text.as_ptr(), text.len(), table.as_mut_ptr(), table.len()) }
+pub fn compile(text: &[u8], place: u32, table: &mut [u32]) -> Answer {
+    unsafe { towerwatch_compile(text.as_ptr(), text.len(), place, table.as_mut_ptr(), table.len()) }
 }
 
 pub fn fresh_state(table: &[u32], n: usize, state: &mut [u32]) -> Answer {
@@ -69,6 +70,7 @@ pub struct Tick {
     pub start: u32,
     pub signals: u64,
     pub velocity: u32,
+    pub verdicts: [u32; 8],
     pub parameters: [u32; 8],
 }
 
@@ -85,6 +87,7 @@ pub fn step(table: &[u32], n: usize, state: &mut [u32], values: &mut [u32], tick
             tick.start,
             tick.signals,
             tick.velocity,
+            tick.verdicts.as_ptr(),
             tick.parameters.as_ptr(),
         )
     }

@@ -1,13 +1,15 @@
-//! What a card prints: a reader of cards of its own, and verdicts by the interval meaning.
+//! What a card prints, of one rule or of a set: a reader of cards of its own, and verdicts by the interval meaning.
 
 pub mod make;
 
-use crate::rule::meaning::{verdict, Moment};
-use crate::rule::{read, velocity_tests, Rule};
+use crate::rule::meaning::{Member, Moment, Set};
+use crate::rule::{earlier, read, velocity_tests};
 
-/// The lines of a card in their order, and what comes after the last.
+/// The lines of a card in their order, and what comes after the last. The first is there on the card of a set; the next
+/// three are there for each of its rules.
 #[derive(Clone, Copy, PartialEq, Eq, PartialOrd, Ord, Debug)]
-pub enum Place {
+pub enum Line {
+    Cards,
     Edition,
     Parameters,
     Rule,
@@ -27,6 +29,11 @@ pub enum Why {
     OverLong,
     /// The line is not what stands at its place.
     Broken,
+    /// The number of rules is 0, or above 8 (SPEC 17.3).
+    NoRules,
+    ManyRules,
+    /// The edition is not that of the set's first rule (SPEC 17.3).
+    OtherEdition,
     /// The same of a tick, where nothing but the velocity is wrong.
     Velocity(Wrong),
     /// The rule's own refusal.
@@ -86,33 +93,38 @@ impl Edition {
 }
 
 #[derive(Clone, Copy, PartialEq, Eq, PartialOrd, Ord, Debug)]
-pub struct End(pub Place, pub Why);
+pub struct End(pub Line, pub Why);
 
 impl End {
     /// The refusal's number: the rule's own, 18 (SPEC 7.18) or 17 (SPEC 7.17).
     fn number(self) -> u32 {
         match self {
             End(_, Why::Refused(number)) => number,
-            End(Place::Tick | Place::After, _) => 18,
+            End(Line::Tick | Line::After, _) => 18,
             _ => 17,
         }
     }
 }
 
-/// The verdicts that a card prints, and the refusal that it ends with. Also the card's edition, if it has one, and
-/// whether its rule, if it has one, names `v`.
+/// The verdicts of the rules that a card prints at each tick, and the refusal that it ends with. Also whether it is
+/// that of a set, its edition, if it has one, the place of the last rule whose lines were read, whether some rule names
+/// `v`, and which places each rule names.
 #[derive(Default)]
 pub struct Printed {
+    pub is_set: bool,
     pub edition: Option<Edition>,
+    pub place: u32,
     pub names_velocity: bool,
-    pub verdicts: Vec<u32>,
+    pub names: Vec<Vec<u32>>,
+    pub verdicts: Vec<Vec<u32>>,
     pub end: Option<End>,
 }
 
 impl Printed {
-    /// SPEC 10.10: the lines that are printed.
+    /// SPEC 10.10, SPEC 17.4: the lines that are printed.
     pub fn bytes(&self) -> Vec<u8> {
-        let mut text: String = self.verdicts.iter().map(|v| format!("verdict={v}\n")).collect();
+        let digits = |verdicts: &Vec<u32>| verdicts.iter().map(u32::to_string).collect::<String>();
+        let mut text: String = self.verdicts.iter().map(|v| format!("verdict={}\n", digits(v))).collect();
         if let Some(end) = self.end {
             text.push_str(&format!("refused={}\n", end.number()));
         }
@@ -164,7 +176,7 @@ fn tick(line: &[u8], edition: Edition) -> Result<Moment, Why> {
         Edition::One => no_velocity(rest)?,
         Edition::Two => velocity(rest)?,
     };
-    Ok(Moment { start: *start == b'1', signals, velocity })
+    Ok(Moment { start: *start == b'1', signals, velocity, verdicts: [0; 8] })
 }
 
 /// SPEC 10.6: the velocity in edition 1, where nothing stands behind the digits.
@@ -202,38 +214,68 @@ fn wrong(text: &[u8]) -> Wrong {
     }
 }
 
-/// The first line (SPEC 10.2).
-fn edition(card: &mut &[u8]) -> Result<Edition, End> {
-    let line = line(card).map_err(|w| End(Place::Edition, w))?;
-    EDITIONS.into_iter().find(|e| e.line() == line).ok_or(End(Place::Edition, Why::Broken))
-}
+/// SPEC 17.3: a card that begins so is that of a set.
+const SET: &[u8] = b"cards=";
 
-/// The three lines after it: parameters, rule (SPEC 10.4) and number of ticks (SPEC 10.5).
-fn head(card: &mut &[u8]) -> Result<([u32; 8], Rule, u32), End> {
-    let broken = |place| End(place, Why::Broken);
-    let k = line(card).map_err(|w| End(Place::Parameters, w))?;
-    let k = parameters(k).ok_or(broken(Place::Parameters))?;
-    let text = line(card).map_err(|w| End(Place::Rule, w))?;
-    let text = text.strip_prefix(b"watch=").ok_or(broken(Place::Rule))?;
-    let rule = read(text).map_err(|number| End(Place::Rule, Why::Refused(number)))?;
-    let count = line(card).map_err(|w| End(Place::Count, w))?;
-    let count = count.strip_prefix(b"ticks=").and_then(decimal).ok_or(broken(Place::Count))?;
-    Ok((k, rule, count))
-}
-
-/// The ticks of a card, each with its verdict.
-fn play(mut card: &[u8], printed: &mut Printed) -> Result<(), End> {
-    let edition = edition(&mut card)?;
-    printed.edition = Some(edition);
-    let (k, rule, count) = head(&mut card)?;
-    printed.names_velocity = !velocity_tests(&rule).is_empty();
-    let mut trace = Vec::new();
-    for e in 0..count as usize {
-        let line = line(&mut card).map_err(|w| End(Place::Tick, w))?;
-        trace.push(tick(line, edition).map_err(|w| End(Place::Tick, w))?);
-        printed.verdicts.push(verdict(&rule, &trace, &k, e));
+/// How many rules a set has, by its first line.
+fn rules(card: &mut &[u8]) -> Result<u32, End> {
+    let line = line(card).map_err(|w| End(Line::Cards, w))?;
+    match decimal(&line[SET.len()..]) {
+        Some(0) => Err(End(Line::Cards, Why::NoRules)),
+        Some(count @ 1..=8) => Ok(count),
+        Some(_) => Err(End(Line::Cards, Why::ManyRules)),
+        None => Err(End(Line::Cards, Why::Broken)),
     }
-    if card.is_empty() { Ok(()) } else { Err(End(Place::After, Why::More)) }
+}
+
+/// The line of the edition (SPEC 10.2), which all rules of a set have in common.
+fn edition(card: &mut &[u8], known: Option<Edition>) -> Result<Edition, End> {
+    let line = line(card).map_err(|w| End(Line::Edition, w))?;
+    let edition = EDITIONS.into_iter().find(|e| e.line() == line).ok_or(End(Line::Edition, Why::Broken))?;
+    match known {
+        Some(known) if known != edition => Err(End(Line::Edition, Why::OtherEdition)),
+        _ => Ok(edition),
+    }
+}
+
+/// The two lines after it: parameters and rule (SPEC 10.4), which is read at its place.
+fn member(card: &mut &[u8], place: u32) -> Result<Member, End> {
+    let broken = |line| End(line, Why::Broken);
+    let k = line(card).map_err(|w| End(Line::Parameters, w))?;
+    let parameters = parameters(k).ok_or(broken(Line::Parameters))?;
+    let text = line(card).map_err(|w| End(Line::Rule, w))?;
+    let text = text.strip_prefix(b"watch=").ok_or(broken(Line::Rule))?;
+    let rule = read(text, place).map_err(|number| End(Line::Rule, Why::Refused(number)))?;
+    Ok(Member { rule, parameters })
+}
+
+/// The number of ticks (SPEC 10.5).
+fn count(card: &mut &[u8]) -> Result<u32, End> {
+    let count = line(card).map_err(|w| End(Line::Count, w))?;
+    count.strip_prefix(b"ticks=").and_then(decimal).ok_or(End(Line::Count, Why::Broken))
+}
+
+/// The ticks of a card, each with the verdicts of its rules.
+fn play(mut card: &[u8], printed: &mut Printed) -> Result<(), End> {
+    printed.is_set = card.starts_with(SET);
+    let rules = if printed.is_set { rules(&mut card)? } else { 1 };
+    let mut members = Vec::new();
+    for place in 1..=rules {
+        printed.place = place;
+        printed.edition = Some(edition(&mut card, printed.edition)?);
+        let member = member(&mut card, place)?;
+        printed.names_velocity |= !velocity_tests(&member.rule).is_empty();
+        printed.names.push(earlier(&member.rule));
+        members.push(member);
+    }
+    let edition = printed.edition.expect("a set has a rule");
+    let mut set = Set::new(members);
+    for _ in 0..count(&mut card)? {
+        let line = line(&mut card).map_err(|w| End(Line::Tick, w))?;
+        let moment = tick(line, edition).map_err(|w| End(Line::Tick, w))?;
+        printed.verdicts.push(set.tick(moment));
+    }
+    if card.is_empty() { Ok(()) } else { Err(End(Line::After, Why::More)) }
 }
 
 pub fn printed(card: &[u8]) -> Printed {

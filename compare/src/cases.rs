@@ -6,6 +6,7 @@ mod lustre;
 pub mod packing;
 mod pairs;
 mod rules;
+mod sets;
 mod tables;
 mod texts;
 
@@ -37,15 +38,16 @@ pub struct Sort {
     pub run: fn(&mut Run, u64),
 }
 
-pub const SORTS: [Sort; 8] = [
+pub const SORTS: [Sort; 9] = [
     Sort { name: "rules with their ticks", gate: 200_000, run: rules::run },
     Sort { name: "texts", gate: 200_000, run: |run, n| (0..n).for_each(|i| texts::text_case(run, i)) },
     Sort { name: "pairs of texts", gate: 200_000, run: |run, n| (0..n).for_each(|i| pairs::same_case(run, i)) },
     Sort { name: "tables", gate: 200_000, run: |run, n| (0..n).for_each(|i| tables::table_case(run, i)) },
     Sort { name: "Lustre texts", gate: 50_000, run: |run, n| (0..n).for_each(|i| lustre::lustre_case(run, i)) },
-    Sort { name: "whole cards", gate: 10_000, run: |run, n| (0..n).for_each(|i| cards::card_case(run, i)) },
+    Sort { name: "whole cards", gate: 30_000, run: |run, n| (0..n).for_each(|i| cards::card_case(run, i)) },
+    Sort { name: "sets of rules", gate: 20_000, run: |run, n| (0..n).for_each(|i| sets::set_case(run, i)) },
     Sort { name: "packed tables", gate: 100_000, run: |run, n| (0..n).for_each(|i| packing::packing_case(run, i)) },
-    Sort { name: "runs past the cap of counts", gate: 24, run: long_runs::run },
+    Sort { name: "runs past the cap of counts", gate: 27, run: long_runs::run },
 ];
 
 /// Stops at a difference and prints the case.

@@ -7,7 +7,7 @@ pub mod scramble;
 mod text;
 mod words;
 
-pub use parse::{limits, read, read_or_all, refusal_without_velocities, Limit};
+pub use parse::{limits, misplaced, read, read_or_all, refusal_without_velocities, Limit, Misplaced};
 pub use text::text_of;
 
 #[derive(Clone, PartialEq, Debug)]
@@ -15,6 +15,8 @@ pub enum Prop {
     Constant(bool),
     Signal(u32),
     Velocity(Op, u32),
+    /// The verdict of the rule at this place of the set.
+    Earlier(u32),
     Not(Box<Prop>),
     And(Box<Prop>, Box<Prop>),
     Or(Box<Prop>, Box<Prop>),
@@ -166,6 +168,8 @@ pub enum Lookalike {
     /// The literal 1 of a velocity test, for k0: a compiler's record may have it where 1 in another says "parameter",
     /// with 0 behind it.
     VelocityOne,
+    /// A verdict whose place is the parameter's number.
+    Earlier,
 }
 
 /// What of a rule could be taken for a parameter, each with the parameter, which the rule may name elsewhere.
@@ -177,7 +181,8 @@ pub fn lookalikes(r: &Rule) -> Vec<(Lookalike, u32)> {
     let of_test = |(_, n)| [Some((Lookalike::Velocity, n)), (n == 1).then_some((Lookalike::VelocityOne, 0))];
     let numbers = numbers(r).into_iter().filter_map(of_number);
     let tests = velocity_tests(r).into_iter().flat_map(of_test).flatten();
-    numbers.chain(tests).filter(|(_, j)| *j < 8).collect()
+    let places = earlier(r).into_iter().map(|place| (Lookalike::Earlier, place));
+    numbers.chain(tests).chain(places).filter(|(_, j)| *j < 8).collect()
 }
 
 /// The n of a `lag`: 0 and 1, which mean the same; a few ticks, or more than the random runs have; a parameter.
@@ -225,27 +230,36 @@ pub fn lags(r: &Rule, around: Around) -> Vec<(Around, Delay)> {
     }
 }
 
-/// The velocity tests of a proposition, in the order of its text.
-fn tests_of(p: &Prop) -> Vec<(Op, u32)> {
+/// The leaves of a proposition, in the order of its text.
+fn leaves_of(p: &Prop) -> Vec<&Prop> {
     match p {
-        Prop::Constant(_) | Prop::Signal(_) => Vec::new(),
-        Prop::Velocity(op, n) => vec![(*op, *n)],
-        Prop::Not(p) => tests_of(p),
-        Prop::And(p, q) | Prop::Or(p, q) => [tests_of(p), tests_of(q)].concat(),
+        Prop::Constant(_) | Prop::Signal(_) | Prop::Velocity(..) | Prop::Earlier(_) => vec![p],
+        Prop::Not(p) => leaves_of(p),
+        Prop::And(p, q) | Prop::Or(p, q) => [leaves_of(p), leaves_of(q)].concat(),
+    }
+}
+
+/// The leaves of a rule's propositions, in the order of its text.
+fn leaves(r: &Rule) -> Vec<&Prop> {
+    match r {
+        Rule::Len(..) => Vec::new(),
+        Rule::Test(_, p) | Rule::Sum(p, ..) | Rule::Age(p, ..) => leaves_of(p),
+        Rule::Lag(p, _, q) => [leaves_of(p), leaves_of(q)].concat(),
+        Rule::Not(f) | Rule::Exists(_, f) => leaves(f),
+        Rule::And(f, g) | Rule::Or(f, g) | Rule::Then(f, g) | Rule::Chop(f, g) => [leaves(f), leaves(g)].concat(),
     }
 }
 
 /// The velocity tests of a rule, in the order of its text.
 pub fn velocity_tests(r: &Rule) -> Vec<(Op, u32)> {
-    match r {
-        Rule::Len(..) => Vec::new(),
-        Rule::Test(_, p) | Rule::Sum(p, ..) | Rule::Age(p, ..) => tests_of(p),
-        Rule::Lag(p, _, q) => [tests_of(p), tests_of(q)].concat(),
-        Rule::Not(f) | Rule::Exists(_, f) => velocity_tests(f),
-        Rule::And(f, g) | Rule::Or(f, g) | Rule::Then(f, g) | Rule::Chop(f, g) => {
-            [velocity_tests(f), velocity_tests(g)].concat()
-        }
-    }
+    let by = |leaf: &Prop| if let Prop::Velocity(op, n) = leaf { Some((*op, *n)) } else { None };
+    leaves(r).into_iter().filter_map(by).collect()
+}
+
+/// SPEC 3.12: the places of the rules whose verdicts a rule names, in the order of its text.
+pub fn earlier(r: &Rule) -> Vec<u32> {
+    let by = |leaf: &Prop| if let Prop::Earlier(place) = leaf { Some(*place) } else { None };
+    leaves(r).into_iter().filter_map(by).collect()
 }
 
 /// What a rule is at its root: an atom with its comparison (and whether with a parameter), a `lag`, or a connective.

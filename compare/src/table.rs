@@ -8,7 +8,7 @@ use crate::archive::{Answer, Tick};
 use crate::rule::{compare, OPS};
 
 /// SPEC 5.3: how many kinds there are.
-pub const KINDS: u32 = 13;
+pub const KINDS: u32 = 14;
 
 /// SPEC 5.2: whether the flow of an equation of this kind is a count.
 pub fn is_count(kind: u32) -> bool {
@@ -39,6 +39,7 @@ fn is_fine(table: &[u32], n: usize, i: usize) -> bool {
         10 => count(a, i) && b < 5 && c <= 999_999,
         11 => count(a, i) && b < 5 && c < 8,
         12 => a < 5 && b <= 127 && c == 0,
+        13 => (1..=8).contains(&a) && b == 0 && c == 0,
         _ => false,
     }
 }
@@ -122,7 +123,7 @@ pub fn fresh_state(table: &[u32], n: usize, state: &mut [u32]) -> Answer {
 }
 
 /// All refusals of a step that apply, in the order of SPEC 8.5: of the table, then SPEC 7.12, SPEC 7.13, SPEC 7.14 and
-/// SPEC 7.19.
+/// SPEC 7.19. No verdict is refused.
 pub fn step_refusals(table: &[u32], n: usize, state: &[u32], values: &[u32], tick: &Tick) -> Vec<u32> {
     let flaw = flaw(table, n);
     let outside = |i: usize| table[4 * i] == 6 && state[i] > 1 || table[4 * i] == 7 && state[i] > 1_000_000;
@@ -156,7 +157,8 @@ fn flow(table: &[u32], i: usize, flows: &[u32], cell: u32, tick: &Tick) -> u32 {
         9 => 0,
         10 => compared(of(a), b, c),
         11 => compared(of(a), b, tick.parameters[c as usize]),
-        _ => compared(tick.velocity, a, b),
+        12 => compared(tick.velocity, a, b),
+        _ => u32::from(tick.verdicts[a as usize - 1] == 1),
     }
 }
 

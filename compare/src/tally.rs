@@ -1,9 +1,9 @@
 //! How often each outcome came up, and how often it has to.
 
-use crate::card::{Edition, End, Place, Why, Wrong, EDITIONS, WRONG_VELOCITIES};
+use crate::card::{Edition, End, Line, Why, Wrong, EDITIONS, WRONG_VELOCITIES};
 use crate::cases::packing::Origin;
 use crate::rule::meaning::IDLE;
-use crate::rule::{Around, Atom, Delay, Limit, Lookalike, Op, Root, AROUND, ATOMS, DELAYS, OPS, TESTS};
+use crate::rule::{Around, Atom, Delay, Limit, Lookalike, Misplaced, Op, Root, AROUND, ATOMS, DELAYS, OPS, TESTS};
 use crate::table::lustre::WRONG_ENDS;
 use crate::table::packing::{Effect, EFFECTS};
 use crate::table::{Flaw, CLOSING, KINDS};
@@ -20,8 +20,11 @@ pub enum Outcome {
     Order(Operation, u32, u32),
     /// What a text with `lag` or `,` in it is answered by reading.
     ReadLag(u32),
-    /// What a text with `v` in it is answered by reading.
+    /// What a text with `v`, and one with `r`, in it is answered by reading.
     ReadVelocity(u32),
+    ReadEarlier(u32),
+    /// Why a text is refused by 20, with its place, 9 for any above 8.
+    Misplaced(Misplaced, u32),
     /// A text that is refused by 3 for the literal of a velocity test, with its answer if there were no such limit.
     VelocityTooHigh(u32),
     /// A text that is read and stands exactly at a limit.
@@ -57,8 +60,11 @@ pub enum Outcome {
     /// A velocity test of a rule that is run, at a tick: its operator, and whether the tick's velocity is less than,
     /// equal to or greater than its literal.
     Tested(Op, Ordering),
-    /// A rule that is run and has some velocity test twice.
+    /// A rule that is run and has some velocity test twice, or some verdict.
     RepeatedTest,
+    RepeatedVerdict,
+    /// A rule that is run and names the verdict of this place, at a tick that has this number for it, 3 for any higher.
+    Given(u32, u32),
     /// The answer of a random table.
     TableAnswer(u32),
     /// Two answers of a random table, one after the other. It may go back to 2, which a rule's table does not.
@@ -68,6 +74,8 @@ pub enum Outcome {
     /// An equation of kind 10, 11 or 12 in a step, with its operator, and whether its count, or the velocity, is less
     /// than, equal to or greater than the other number.
     Compared(u32, u32, Ordering),
+    /// An equation of kind 13 in a step, with its place, and the number that the tick has for it, 3 for any above 2.
+    TableGiven(u32, u32),
     /// A fresh state of 4,096 equations, and a Lustre text of 4,096 that is read.
     LargestTable,
     LargestText,
@@ -82,8 +90,8 @@ pub enum Outcome {
     TextOfOne,
     WriteLustre(u32),
     ReadLustre(u32),
-    /// An equation of this kind in a Lustre text that is read, with its operator where it compares.
-    Line(u32, u32),
+    /// An equation of this kind in a Lustre text that is read, with its operator where it compares, or with its place.
+    TextLine(u32, u32),
     Pack(u32),
     /// Why a table is refused by 10 or 11 where it is to be packed.
     PackFlawed(Flaw),
@@ -99,12 +107,31 @@ pub enum Outcome {
     Apart(u32, usize),
     /// The answer of a table and of its packed table.
     PackedAnswer(u32),
-    /// A card's edition, if it has one, and how the card ends, with None for one that is fine.
-    Card(Option<Edition>, Option<End>),
-    /// A verdict of a card of this edition, and whether the rule names `v`.
+    /// A set of so many rules that are run; how long its longest chain of names is, 4 for any longer one.
+    Set(u32),
+    SetDepth(usize),
+    /// The verdict of the rule at this place of a set that is run.
+    SetAnswer(u32, u32),
+    /// The rule at the first place names that at the second, which has this verdict.
+    Meant(u32, u32, u32),
+    /// Whether a card is that of a set, its edition, if it has one, and how the card ends, with None for one that is
+    /// fine.
+    Card(bool, Option<Edition>, Option<End>),
+    /// A verdict of a card of this edition, and whether a rule of it names `v`.
     CardVerdict(Edition, bool, u32),
-    /// A card longer than the program's buffer that prints at least 500 verdicts, and whether it is refused then.
-    LongCard(Edition, bool),
+    /// A card longer than the program's buffer that prints at least 500 lines of verdicts, of a set or not, and whether
+    /// it is refused then.
+    LongCard(bool, Edition, bool),
+    /// A fine card of a set of so many rules that has a tick.
+    SetCard(u32),
+    /// A verdict that is printed of the rule at this place; and one that the rule at this place names.
+    SetVerdict(u32, u32),
+    SetNames(u32, u32),
+    /// A set's card that is refused by 20 at the rule of this place.
+    SetMisplaced(u32),
+    /// A set's card that is refused at one of the three lines of a rule, whether or not that is a later one than the
+    /// first.
+    SetLine(bool, Line),
 }
 
 /// What same rule is given, in the order in which it is refused.
@@ -233,33 +260,44 @@ fn want(least: u64, outcomes: impl IntoIterator<Item = Outcome>) -> Wanted {
 /// All that have to come up.
 fn wanted() -> Wanted {
     let orders = want(50, orders());
-    [of_texts(), of_same_rule(), of_rules(), of_tables(), of_lustre(), of_packing(), of_cards(), orders].concat()
+    let of_rules = [of_texts(), of_same_rule(), of_rules(), of_sets()].concat();
+    let of_tables = [of_tables(), of_lustre(), of_packing()].concat();
+    [of_rules, of_tables, of_cards(), of_set_cards(), orders].concat()
 }
+
+/// The refusals of a text, in their order.
+const OF_TEXT: [u32; 9] = [1, 2, 3, 4, 5, 6, 7, 8, 20];
 
 /// Reading and compiling.
 fn of_texts() -> Wanted {
     [
-        want(500, (0..=8).map(Outcome::Read)),
-        want(500, (0..=8).map(Outcome::ReadLag)),
-        want(500, (0..=8).map(Outcome::ReadVelocity)),
+        want(500, OF_TEXT.into_iter().chain([0]).flat_map(read_answers)),
         want(100, [0, 2, 6].map(Outcome::VelocityTooHigh)),
-        want(500, (0..=9).map(Outcome::Compile)),
+        want(500, OF_TEXT.into_iter().chain([0, 9]).map(Outcome::Compile)),
         want(100, [Limit::Bytes, Limit::Words, Limit::Brackets, Limit::Operators].map(Outcome::AtLimit)),
-        want(500, [Outcome::AtLimit(Limit::Velocity)]),
+        want(500, [Limit::Velocity, Limit::Place, Limit::Earlier].map(Outcome::AtLimit)),
+        want(500, [(Misplaced::NoPlace, 0), (Misplaced::HighPlace, 9)].map(|(why, j)| Outcome::Misplaced(why, j))),
+        want(100, (1..=8).map(|place| Outcome::Misplaced(Misplaced::Own, place))),
+        want(100, (1..=7).map(|place| Outcome::Misplaced(Misplaced::Later, place))),
     ]
     .concat()
+}
+
+/// An answer of reading, to a text of any sort.
+fn read_answers(refusal: u32) -> [Outcome; 4] {
+    [Outcome::Read, Outcome::ReadLag, Outcome::ReadVelocity, Outcome::ReadEarlier].map(|sort| sort(refusal))
 }
 
 fn of_same_rule() -> Wanted {
     let texts = [Given::FirstText, Given::SecondText];
     [
-        want(100, (1..=8).flat_map(|r| texts.map(|given| Outcome::SameRefused(given, r)))),
+        want(100, OF_TEXT.into_iter().flat_map(|r| texts.map(|given| Outcome::SameRefused(given, r)))),
         want(5000, HIGH.map(|given| Outcome::SameRefused(given, 13))),
         want(30, same_orders()),
         want(100, (0..8).flat_map(|j| HIGH.map(|g| [true, false].map(|n| Outcome::SameHigh(g, j, n)))).flatten()),
         want(5000, [Sameness::Equal, Sameness::Unnamed].map(Outcome::Same)),
         want(1000, ATOMS.map(|atom| Outcome::SameDespite(Lookalike::Literal(atom)))),
-        want(1000, [Lookalike::Velocity, Lookalike::VelocityOne].map(Outcome::SameDespite)),
+        want(1000, [Lookalike::Velocity, Lookalike::VelocityOne, Lookalike::Earlier].map(Outcome::SameDespite)),
         want(2000, [true, false].map(|equal| Outcome::Same(Sameness::Trees(equal)))),
         want(50, ATOMS.into_iter().flat_map(|a| (0..8).map(move |j| Outcome::Same(Sameness::Value(a, j))))),
         want(500, [Outcome::Same(Sameness::Values)]),
@@ -279,7 +317,20 @@ fn of_rules() -> Wanted {
         want(1000, (0..3).map(Outcome::OtherParameters)),
         want(200, AROUND.into_iter().flat_map(|a| DELAYS.map(|d| Outcome::Lag(a, d)))),
         want(20_000, OPS.iter().flat_map(|(op, _)| WAYS.map(|way| Outcome::Tested(*op, way)))),
-        want(5000, [Outcome::RepeatedTest]),
+        want(5000, [Outcome::RepeatedTest, Outcome::RepeatedVerdict]),
+        want(5000, (1..=7).flat_map(|place| (0..=3).map(move |number| Outcome::Given(place, number)))),
+    ]
+    .concat()
+}
+
+/// Sets of rules, each with the answers of the earlier ones.
+fn of_sets() -> Wanted {
+    let pairs = (1..=8).flat_map(|place| (1..place).map(move |named| (place, named)));
+    [
+        want(500, (1..=8).map(Outcome::Set)),
+        want(500, (0..=4).map(Outcome::SetDepth)),
+        want(1000, (1..=8).flat_map(|place| (0..3).map(move |verdict| Outcome::SetAnswer(place, verdict)))),
+        want(200, pairs.flat_map(|(place, named)| (0..3).map(move |verdict| Outcome::Meant(place, named, verdict)))),
     ]
     .concat()
 }
@@ -293,6 +344,7 @@ fn of_tables() -> Wanted {
         want(2000, (0..3).flat_map(|from| (0..3).map(move |to| Outcome::TableTurn(from, to)))),
         want(2000, flows()),
         want(2000, comparisons()),
+        want(500, (1..=8).flat_map(|place| (0..=3).map(move |number| Outcome::TableGiven(place, number)))),
         want(500, [Outcome::AtCap]),
         want(5, [Outcome::LargestTable]),
         want(500, (0..=KINDS).map(|k| Outcome::Flawed(Flaw::Equation(k)))),
@@ -310,8 +362,9 @@ fn of_lustre() -> Wanted {
         want(500, [Outcome::TextOfOne]),
         want(500, [0, 10, 11, 15].map(Outcome::WriteLustre)),
         want(500, [0, 9, 16].map(Outcome::ReadLustre)),
-        want(200, (0..10).map(|k| Outcome::Line(k, 0))),
-        want(200, (0..5).flat_map(|op| [10, 11, 12].map(|k| Outcome::Line(k, op)))),
+        want(200, (0..10).map(|k| Outcome::TextLine(k, 0))),
+        want(200, (0..5).flat_map(|op| [10, 11, 12].map(|k| Outcome::TextLine(k, op)))),
+        want(200, (1..=8).map(|place| Outcome::TextLine(13, place))),
     ]
     .concat()
 }
@@ -333,11 +386,26 @@ fn of_packing() -> Wanted {
 }
 
 fn of_cards() -> Wanted {
+    let long = |is_set| EDITIONS.into_iter().flat_map(move |e| [true, false].map(|r| Outcome::LongCard(is_set, e, r)));
     [
         want(5, card_ends()),
         want(2000, card_verdicts([0, 1].into_iter())),
         want(200, card_verdicts(std::iter::once(IDLE))),
-        want(5, EDITIONS.into_iter().flat_map(|e| [true, false].map(|refused| Outcome::LongCard(e, refused)))),
+        want(5, [true, false].into_iter().flat_map(long)),
+    ]
+    .concat()
+}
+
+/// What only a card of a set has.
+fn of_set_cards() -> Wanted {
+    let lines = [Line::Edition, Line::Parameters, Line::Rule];
+    [
+        want(100, (1..=8).map(Outcome::SetCard)),
+        want(500, (1..=8).flat_map(|place| (0..2).map(move |verdict| Outcome::SetVerdict(place, verdict)))),
+        want(100, (1..=8).map(|place| Outcome::SetVerdict(place, IDLE))),
+        want(500, (2..=8).flat_map(|place| (0..2).map(move |verdict| Outcome::SetNames(place, verdict)))),
+        want(5, (1..=8).map(Outcome::SetMisplaced)),
+        want(20, [true, false].into_iter().flat_map(|later| lines.map(|line| Outcome::SetLine(later, line)))),
     ]
     .concat()
 }
@@ -371,8 +439,8 @@ fn comparisons() -> impl Iterator<Item = Outcome> {
 
 /// Each number of an equation that is neither a flow nor always 0.
 fn constants() -> impl Iterator<Item = Outcome> {
-    const PLACES: [(u32, usize); 9] =
-        [(0, 1), (2, 1), (6, 3), (10, 2), (10, 3), (11, 2), (11, 3), (12, 1), (12, 2)];
+    const PLACES: [(u32, usize); 10] =
+        [(0, 1), (2, 1), (6, 3), (10, 2), (10, 3), (11, 2), (11, 3), (12, 1), (12, 2), (13, 1)];
     PLACES.into_iter().map(|(k, j)| Outcome::Apart(k, j))
 }
 
@@ -383,7 +451,7 @@ const HIGH: [Given; 2] = [Given::FirstParameters, Given::SecondParameters];
 /// of the other text.
 fn same_orders() -> impl Iterator<Item = Outcome> {
     use Given::{FirstParameters, FirstText, SecondParameters, SecondText};
-    let high = (1..=8).flat_map(|refusal| {
+    let high = OF_TEXT.into_iter().flat_map(|refusal| {
         [
             ((FirstText, refusal), (FirstParameters, 13)),
             ((FirstText, refusal), (SecondParameters, 13)),
@@ -391,7 +459,8 @@ fn same_orders() -> impl Iterator<Item = Outcome> {
             ((SecondText, refusal), (SecondParameters, 13)),
         ]
     });
-    let texts = [(2, 6), (6, 2), (2, 3), (3, 2), (7, 2)].map(|(a, b)| ((FirstText, a), (SecondText, b)));
+    let texts = [(2, 6), (6, 2), (2, 3), (3, 2), (7, 2), (20, 2), (20, 6)];
+    let texts = texts.map(|(a, b)| ((FirstText, a), (SecondText, b)));
     let both = std::iter::once(((FirstParameters, 13), (SecondParameters, 13)));
     high.chain(texts).chain(both).map(|(first, other)| Outcome::SameOrder(first, other))
 }
@@ -401,8 +470,8 @@ fn orders() -> impl Iterator<Item = Outcome> {
         pairs.iter().map(|(first, other)| Outcome::Order(operation, *first, *other)).collect()
     };
     let all = [
-        of(Operation::Read, &[(5, 6), (5, 7), (5, 8), (6, 7), (7, 8)]),
-        (1..=8).map(|refusal| Outcome::Order(Operation::Compile, refusal, 9)).collect(),
+        of(Operation::Read, &[(5, 6), (5, 7), (5, 8), (6, 7), (7, 8), (5, 20), (6, 20), (7, 20), (8, 20)]),
+        OF_TEXT.into_iter().map(|refusal| Outcome::Order(Operation::Compile, refusal, 9)).collect(),
         of(Operation::FreshState, &[(10, 12), (11, 12)]),
         of(Operation::Step, &[(10, 12), (10, 13), (11, 12), (11, 13), (11, 14), (12, 13), (12, 14), (13, 14)]),
         (10..=14).map(|refusal| Outcome::Order(Operation::Step, refusal, 19)).collect(),
@@ -412,21 +481,36 @@ fn orders() -> impl Iterator<Item = Outcome> {
     all.into_iter().flatten()
 }
 
-/// Each way in which a line can fail at each place, in both editions; of a tick also each wrong velocity.
+/// Each way in which a line can fail, on cards of one rule and of sets, in both editions; of a tick also each wrong
+/// velocity.
 fn card_ends() -> impl Iterator<Item = Outcome> {
-    let lines = [Place::Parameters, Place::Rule, Place::Count, Place::Tick];
-    let ways = [Why::Missing, Why::Unfinished, Why::OverLong, Why::Broken];
-    let first = ways.map(|why| Outcome::Card(None, Some(End(Place::Edition, why))));
-    let later = EDITIONS.into_iter().flat_map(move |edition| {
-        let ends = lines.into_iter().flat_map(move |place| ways.map(|why| End(place, why)));
-        let refused = (1..=8).map(|number| End(Place::Rule, Why::Refused(number)));
-        let velocities: &[Wrong] = if edition == Edition::One { &[Wrong::Extra] } else { &WRONG_VELOCITIES };
-        let velocities = velocities.iter().map(|wrong| End(Place::Tick, Why::Velocity(*wrong)));
-        let more = std::iter::once(End(Place::After, Why::More));
-        let ends = ends.chain(refused).chain(velocities).chain(more).map(Some);
-        ends.chain(std::iter::once(None)).map(move |end| Outcome::Card(Some(edition), end))
-    });
-    first.into_iter().chain(later)
+    let first = WAYS_TO_FAIL.map(|why| (false, End(Line::Edition, why))).into_iter();
+    let first_of_set = WAYS_TO_FAIL.map(|why| (true, End(Line::Edition, why))).into_iter();
+    // a card that begins with `cards=` has a first line
+    let numbers = [Why::Unfinished, Why::OverLong, Why::Broken, Why::NoRules, Why::ManyRules];
+    let numbers = numbers.map(|why| (true, End(Line::Cards, why)));
+    let without = first.chain(first_of_set).chain(numbers).map(|(is_set, end)| Outcome::Card(is_set, None, Some(end)));
+    let with = |is_set| EDITIONS.into_iter().flat_map(move |edition| ends_of(is_set, edition));
+    without.chain([true, false].into_iter().flat_map(with))
+}
+
+const WAYS_TO_FAIL: [Why; 4] = [Why::Missing, Why::Unfinished, Why::OverLong, Why::Broken];
+
+/// The same of a card whose edition is known.
+fn ends_of(is_set: bool, edition: Edition) -> impl Iterator<Item = Outcome> {
+    let lines: &[Line] = if is_set {
+        &[Line::Edition, Line::Parameters, Line::Rule, Line::Count, Line::Tick]
+    } else {
+        &[Line::Parameters, Line::Rule, Line::Count, Line::Tick]
+    };
+    let ends = lines.iter().flat_map(|line| WAYS_TO_FAIL.map(|why| End(*line, why)));
+    let other = is_set.then_some(End(Line::Edition, Why::OtherEdition));
+    let refused = OF_TEXT.into_iter().map(|number| End(Line::Rule, Why::Refused(number)));
+    let velocities: &[Wrong] = if edition == Edition::One { &[Wrong::Extra] } else { &WRONG_VELOCITIES };
+    let velocities = velocities.iter().map(|wrong| End(Line::Tick, Why::Velocity(*wrong)));
+    let more = std::iter::once(End(Line::After, Why::More));
+    let ends = ends.chain(other).chain(refused).chain(velocities).chain(more).map(Some);
+    ends.chain(std::iter::once(None)).map(move |end| Outcome::Card(is_set, Some(edition), end))
 }
 
 /// These verdicts, on cards of each edition, whose rules name `v` or do not.

@@ -1,10 +1,11 @@
-//! Whole cards: the program `towerwatch` is started for each, and has to print what SPEC 10.10 has for it (SPEC 11.1),
-//! in whatever pieces it gets the card (SPEC 11.2), and to end with exit status 0 (SPEC 11.3).
+//! Whole cards, of one rule or of a set: the program `towerwatch` is started for each, and has to print what SPEC 10.10
+//! and SPEC 17.4 have for it (SPEC 11.1), in whatever pieces it gets the card (SPEC 11.2), and to end with exit status
+//! 0 (SPEC 11.3).
 
 use super::{same, show, Run};
 use crate::card::make::random_card;
-use crate::card::printed;
-use crate::tally::Outcome;
+use crate::card::{printed, End, Line, Printed, Why};
+use crate::tally::{Outcome, Tally};
 use std::io::{Read, Write};
 use std::process::{Command, Stdio};
 
@@ -34,12 +35,35 @@ pub fn card_case(run: &mut Run, number: u64) {
     let case = || format!("card {number} in pieces of {piece}: {}", show(&card));
     same(show(&output), show(&wanted.bytes()), case);
     same(ended_well, true, || format!("the exit status of {}", case()));
-    run.tally.add(Outcome::Card(wanted.edition, wanted.end));
+    run.tally.add(Outcome::Card(wanted.is_set, wanted.edition, wanted.end));
+    if wanted.is_set {
+        count_set(&mut run.tally, &wanted);
+    }
     let Some(edition) = wanted.edition else { return };
-    for verdict in &wanted.verdicts {
+    for verdict in wanted.verdicts.iter().flatten() {
         run.tally.add(Outcome::CardVerdict(edition, wanted.names_velocity, *verdict));
     }
     if card.len() > 32_768 && wanted.verdicts.len() >= 500 {
-        run.tally.add(Outcome::LongCard(edition, wanted.end.is_some()));
+        run.tally.add(Outcome::LongCard(wanted.is_set, edition, wanted.end.is_some()));
+    }
+}
+
+/// Counts how many rules a set has whose verdicts are printed, their verdicts, and where a card of a set is refused.
+fn count_set(tally: &mut Tally, printed: &Printed) {
+    if printed.end.is_none() && !printed.verdicts.is_empty() {
+        tally.add(Outcome::SetCard(printed.place));
+    }
+    for verdicts in &printed.verdicts {
+        tally.extend((1..).zip(verdicts).map(|(place, verdict)| Outcome::SetVerdict(place, *verdict)));
+        for (place, names) in (1..).zip(&printed.names) {
+            tally.extend(names.iter().map(|named| Outcome::SetNames(place, verdicts[*named as usize - 1])));
+        }
+    }
+    match printed.end {
+        Some(End(Line::Rule, Why::Refused(20))) => tally.add(Outcome::SetMisplaced(printed.place)),
+        Some(End(line @ (Line::Edition | Line::Parameters | Line::Rule), _)) => {
+            tally.add(Outcome::SetLine(printed.place > 1, line));
+        }
+        _ => {}
     }
 }

@@ -68,7 +68,7 @@ fn write_case(run: &mut Run, table: &[u32], n: usize, number: u64) {
 fn damage(random: &mut Random, text: &mut Vec<u8>) {
     let at = random.below(text.len());
     match random.below(5) {
-        0 => text[at] = random.pick(b"0123456789fskvabw(),;=<> \ntruel"),
+        0 => text[at] = random.pick(b"0123456789fskvrabw(),;=<> \ntruel"),
         1 => {
             text.remove(at);
         }
@@ -108,8 +108,9 @@ fn count_lines(tally: &mut Tally, table: &[u32]) {
     for equation in table.chunks(4) {
         let op = match equation {
             [10 | 11, _, op, _] | [12, op, ..] => *op,
+            [13, place, ..] => *place,
             _ => 0,
         };
-        tally.add(Outcome::Line(equation[0], op));
+        tally.add(Outcome::TextLine(equation[0], op));
     }
 }

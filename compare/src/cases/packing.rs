@@ -1,11 +1,11 @@
 //! Compiled tables and tables made by hand, damaged or not, packed into a second one of any length (SPEC 8.8). What is
 //! promised of the packed table (SPEC 16.1) is checked of it too, and both tables are run over the same ticks, whose
-//! velocities and parameters change from one to the next (SPEC 16.5).
+//! velocities, verdicts and parameters change from one to the next (SPEC 16.5).
 
 use super::{same, show, Run};
 use crate::archive::{self, Tick};
 use crate::random::Random;
-use crate::rule::make::{random_parameters, random_rule, random_ticks, random_velocity};
+use crate::rule::make::{random_parameters, random_place, random_rule, random_ticks, random_velocity, random_verdicts};
 use crate::rule::meaning::Moment;
 use crate::rule::{text_of, Rule};
 use crate::table::make::{self, Chain};
@@ -32,10 +32,10 @@ struct Case {
 }
 
 /// Mostly two rules that are joined, half of the time the same rule twice.
-fn repeating_rule(random: &mut Random) -> Rule {
+fn repeating_rule(random: &mut Random, place: u32) -> Rule {
     let size = 1 + random.below(6);
-    let first = random_rule(random, size, false);
-    let second = if random.once_in(2) { first.clone() } else { random_rule(random, size, false) };
+    let first = random_rule(random, place, size, false);
+    let second = if random.once_in(2) { first.clone() } else { random_rule(random, place, size, false) };
     let (first, second) = (Box::new(first), Box::new(second));
     match random.below(4) {
         0 => *first,
@@ -53,9 +53,10 @@ impl Case {
     fn compiled(run: &mut Run) -> Case {
         let mut table = run.junk.clone();
         loop {
-            let rule = repeating_rule(&mut run.random);
+            let place = random_place(&mut run.random);
+            let rule = repeating_rule(&mut run.random, place);
             let text = text_of(&mut run.random, &rule);
-            let answer = archive::compile(&text, &mut table);
+            let answer = archive::compile(&text, place, &mut table);
             if answer.refusal == 0 {
                 let said = answer.result as usize;
                 table.truncate(4 * said + run.random.below(6));
@@ -119,14 +120,19 @@ fn check_promises(table: &[u32], packed: &[u32], case: impl Fn() -> String) {
     same((answer.refusal, &again[..4 * answer.result as usize]), (0, packed), || format!("packing again {}", case()));
 }
 
+/// A tick that has nothing to do with the one before it.
+fn any_moment(random: &mut Random) -> Moment {
+    let (start, signals) = (random.once_in(3), random.next());
+    Moment { start, signals, velocity: random_velocity(random), verdicts: random_verdicts(random) }
+}
+
 /// Both tables from a fresh state over the same ticks.
 fn check_run(run: &mut Run, table: &[u32], packed: &[u32], case: impl Fn() -> String) {
     let count = 4 + run.random.below(24);
     let mut ticks = random_ticks(&mut run.random, count);
     if run.random.once_in(2) {
         let random = &mut run.random;
-        let any = |_| Moment { start: random.once_in(3), signals: random.next(), velocity: random_velocity(random) };
-        ticks = (0..count).map(any).collect();
+        ticks = (0..count).map(|_| any_moment(random)).collect();
     }
     let mut buffers = [table, packed].map(|equations| {
         let n = equations.len() / 4;
@@ -136,8 +142,8 @@ fn check_run(run: &mut Run, table: &[u32], packed: &[u32], case: impl Fn() -> St
     });
     for (e, moment) in ticks.iter().enumerate() {
         let parameters = random_parameters(&mut run.random);
-        let Moment { start, signals, velocity } = *moment;
-        let tick = Tick { start: u32::from(start), signals, velocity, parameters };
+        let Moment { start, signals, velocity, verdicts } = *moment;
+        let tick = Tick { start: u32::from(start), signals, velocity, verdicts, parameters };
         let [given, packed] =
             buffers.each_mut().map(|(equations, n, state, values)| archive::step(equations, *n, state, values, &tick));
         same(given.refusal, 0, || format!("the step at tick {e} of {}", case()));

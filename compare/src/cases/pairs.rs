@@ -1,5 +1,5 @@
-//! Same rule (SPEC 8.3): two random texts, of one rule or not, each with its own parameters. What is the same rule is
-//! also compiled from both texts and run with the parameters of both.
+//! Same rule (SPEC 8.3): two random texts, of one rule or not, each with its own parameters, both read at place 8. What
+//! is the same rule is also compiled from both texts and run with the parameters of both.
 
 use super::{same, show, Run};
 use crate::archive::{self, Answer, Side, Tick};
@@ -13,18 +13,21 @@ use std::collections::BTreeSet;
 /// The highest value of a parameter.
 const LAST_VALUE: u32 = 999_999;
 
+/// The place at which same rule reads both texts.
+const PLACE: u32 = 8;
+
 /// Two texts: of one rule, of two near ones, or any.
 fn two_texts(random: &mut Random) -> [Vec<u8>; 2] {
     let size = 1 + random.below(8);
-    let rule = random_rule(random, size, false);
-    let first = if random.once_in(6) { random_text(random) } else { rule::text_of(random, &rule) };
+    let rule = random_rule(random, PLACE, size, false);
+    let first = if random.once_in(6) { random_text(random, PLACE) } else { rule::text_of(random, &rule) };
     let second = match random.below(4) {
-        0 => random_text(random),
+        0 => random_text(random, PLACE),
         1 => {
             let mut text = first.clone();
             if !text.is_empty() {
                 let at = random.below(text.len());
-                text[at] = random.pick(b" ()!&|,<=>skv0123456789");
+                text[at] = random.pick(b" ()!&|,<=>skvr0123456789");
             }
             text
         }
@@ -33,8 +36,8 @@ fn two_texts(random: &mut Random) -> [Vec<u8>; 2] {
     [first, second]
 }
 
-/// The place of a parameter, mostly of a named one if there is one.
-fn random_place(random: &mut Random, named: &[usize]) -> usize {
+/// The number of a parameter, mostly of a named one if there is one.
+fn random_parameter(random: &mut Random, named: &[usize]) -> usize {
     if named.is_empty() || random.once_in(3) { random.below(8) } else { random.pick(named) }
 }
 
@@ -48,21 +51,22 @@ fn other_value(random: &mut Random, value: u32) -> u32 {
 fn two_parameters(random: &mut Random, named: &[usize]) -> [[u32; 8]; 2] {
     let mut first = random_parameters(random);
     if random.once_in(8) {
-        first[random_place(random, named)] = LAST_VALUE;
+        first[random_parameter(random, named)] = LAST_VALUE;
     }
     let mut second = first;
     match random.below(8) {
         0 | 1 => {}
         2..=5 => {
-            let place = random_place(random, named);
-            second[place] = other_value(random, first[place]);
+            let j = random_parameter(random, named);
+            second[j] = other_value(random, first[j]);
         }
         6 => (0..8).filter(|j| !named.contains(j)).for_each(|j| second[j] = other_value(random, first[j])),
         _ => second = random_parameters(random),
     }
     [first, second].map(|mut parameters| {
         if random.once_in(5) {
-            parameters[random_place(random, named)] = random.pick(&[LAST_VALUE + 1, LAST_VALUE + 1, 1 << 31, u32::MAX]);
+            const HIGH: [u32; 4] = [LAST_VALUE + 1, LAST_VALUE + 1, 1 << 31, u32::MAX];
+            parameters[random_parameter(random, named)] = random.pick(&HIGH);
         }
         parameters
     })
@@ -77,7 +81,7 @@ struct Pair {
 impl Pair {
     fn random(random: &mut Random) -> Pair {
         let texts = two_texts(random);
-        let rules = texts.each_ref().map(|text| rule::read(text));
+        let rules = texts.each_ref().map(|text| rule::read(text, PLACE));
         let [first, second] = texts;
         let named = rules.iter().flatten().next().map(places).unwrap_or_default();
         let [own, other] = two_parameters(random, &named);
@@ -148,7 +152,7 @@ fn count_refusals(run: &mut Run, pair: &Pair, refusals: &[(Given, u32)]) {
 fn check_run(run: &mut Run, pair: &Pair, sameness: Sameness, case: impl Fn() -> String) {
     let tables = pair.sides.each_ref().map(|side| {
         let mut table = run.junk.clone();
-        let answer = archive::compile(&side.text, &mut table);
+        let answer = archive::compile(&side.text, PLACE, &mut table);
         same(answer.refusal, 0, || format!("compiling {}", case()));
         table.truncate(4 * answer.result as usize);
         table
@@ -160,9 +164,10 @@ fn check_run(run: &mut Run, pair: &Pair, sameness: Sameness, case: impl Fn() -> 
     buffers.iter_mut().for_each(|(state, _)| same(archive::fresh_state(table, n, state).refusal, 0, &case));
     let count = 1 + run.random.below(16);
     for (e, moment) in random_ticks(&mut run.random, count).into_iter().enumerate() {
-        let Moment { start, signals, velocity } = moment;
+        let Moment { start, signals, velocity, verdicts } = moment;
         let [first, second] = [0, 1].map(|i| {
-            let tick = Tick { start: u32::from(start), signals, velocity, parameters: pair.sides[i].parameters };
+            let parameters = pair.sides[i].parameters;
+            let tick = Tick { start: u32::from(start), signals, velocity, verdicts, parameters };
             let (state, values) = &mut buffers[i];
             archive::step(table, n, state, values, &tick)
         });

@@ -1,10 +1,13 @@
-//! Random rules: read, compiled, and run over random ticks with refused calls among them (SPEC 6.1), which are no ticks
-//! (SPEC 6.2). The verdicts have to be those of the interval meaning (SPEC 12.3).
+//! Random rules, each at a place of a set: read, compiled, and run over random ticks with refused calls among them
+//! (SPEC 6.1), which are no ticks (SPEC 6.2). The verdicts have to be those of the interval meaning (SPEC 12.3), over
+//! the numbers that the steps were given for `r1` to `r8`.
 
 use super::{same, show, Run};
 use crate::archive::{self, Answer, Tick};
 use crate::random::Random;
-use crate::rule::make::{high_velocity, random_parameters, random_rule, random_ticks, random_velocity};
+use crate::rule::make::{
+    high_velocity, random_parameters, random_place, random_rule, random_ticks, random_velocity, random_verdicts,
+};
 use crate::rule::meaning::{verdict, Moment, IDLE};
 use crate::rule::{self, Around, Rule};
 use crate::table;
@@ -18,8 +21,9 @@ struct Ticks {
     steady: u64,
 }
 
-/// A rule with its ticks and the verdicts that SPEC 4.10 has for them.
+/// A rule at its place, with its ticks and the verdicts that SPEC 4.10 has for them.
 struct Plan {
+    place: u32,
     rule: Rule,
     parameters: [u32; 8],
     trace: Vec<Moment>,
@@ -29,12 +33,13 @@ struct Plan {
 impl Plan {
     fn any(random: &mut Random) -> Plan {
         let size = if random.once_in(8) { 1 } else { 1 + random.below(10) };
-        let rule = random_rule(random, size, false);
+        let place = random_place(random);
+        let rule = random_rule(random, place, size, false);
         let parameters = random_parameters(random);
         let count = if random.once_in(12) { random.below(6) } else { 6 + random.below(30) };
         let trace = random_ticks(random, count);
         let verdicts = (0..count).map(|e| verdict(&rule, &trace, &parameters, e)).collect();
-        Plan { rule, parameters, trace, verdicts }
+        Plan { place, rule, parameters, trace, verdicts }
     }
     /// Whether there are ticks and none of them is a start.
     fn never_starts(&self) -> bool {
@@ -69,9 +74,9 @@ struct Bench {
 impl Bench {
     /// Compiles the rule, counts its equations (SPEC 12.6) and its memories (SPEC 12.8), and makes the fresh state over
     /// numbers that stood there.
-    fn new(run: &mut Run, text: &[u8], rule: &Rule, name: String) -> Bench {
+    fn new(run: &mut Run, text: &[u8], plan: &Plan, name: String) -> Bench {
         let mut table = run.junk.clone();
-        let answer = archive::compile(text, &mut table);
+        let answer = archive::compile(text, plan.place, &mut table);
         same(answer.refusal, 0, || format!("compiling {name}"));
         let n = answer.result as usize;
         same(n <= 619, true, || format!("the equations of {name}"));
@@ -79,7 +84,7 @@ impl Bench {
         same(table::closes_as_compiled(&table, n), true, || format!("how the table of {name} closes"));
         same(table[4 * n..] == run.junk[4 * n..], true, || format!("what stands after the table of {name}"));
         let memories = (0..n).filter(|i| matches!(table[4 * i], 6 | 7)).count();
-        same(memories, rule::memories(rule), || format!("the memories of {name}"));
+        same(memories, rule::memories(&plan.rule), || format!("the memories of {name}"));
         let mut state = run.random.numbers(n + 3);
         let mut wanted = state.clone();
         let answer = archive::fresh_state(&table, n, &mut state);
@@ -93,7 +98,7 @@ impl Bench {
     fn refused_call(&mut self, run: &mut Run, parameters: &[u32; 8]) {
         let random = &mut run.random;
         let (start, signals, velocity) = (random.pick(&[0, 1]), random.next(), random_velocity(random));
-        let mut tick = Tick { start, signals, velocity, parameters: *parameters };
+        let mut tick = Tick { start, signals, velocity, verdicts: random_verdicts(random), parameters: *parameters };
         let (mut cells, mut room) = (self.state.len(), self.values.len());
         let refusal = random.pick(&[12, 13, 19]);
         if refusal == 19 || random.once_in(4) {
@@ -121,8 +126,8 @@ impl Bench {
     /// are the table's (SPEC 6.4).
     fn tick(&mut self, run: &mut Run, plan: &Plan, e: usize) {
         let start = if plan.trace[e].start { run.random.pick(&[1, 1, 7, u32::MAX]) } else { 0 };
-        let Moment { signals, velocity, .. } = plan.trace[e];
-        let tick = Tick { start, signals, velocity, parameters: plan.parameters };
+        let Moment { signals, velocity, verdicts, .. } = plan.trace[e];
+        let tick = Tick { start, signals, velocity, verdicts, parameters: plan.parameters };
         let room = self.n + run.random.below(4);
         let (mut cells, mut flows) = (self.state.clone(), self.values.clone());
         let answer = archive::step(&self.table, self.n, &mut self.state, &mut self.values[..room], &tick);
@@ -140,8 +145,8 @@ impl Bench {
         archive::fresh_state(&self.table, self.n, &mut self.state);
         for (moment, planned) in plan.trace.iter().zip(&plan.verdicts) {
             let parameters = random_parameters(&mut run.random);
-            let Moment { start, signals, velocity } = *moment;
-            let tick = Tick { start: u32::from(start), signals, velocity, parameters };
+            let Moment { start, signals, velocity, verdicts } = *moment;
+            let tick = Tick { start: u32::from(start), signals, velocity, verdicts, parameters };
             let (mut cells, mut flows) = (self.state.clone(), self.values.clone());
             let wanted = table::step(&self.table, self.n, &mut cells, &mut flows, &tick);
             let answer = archive::step(&self.table, self.n, &mut self.state, &mut self.values, &tick);
@@ -156,17 +161,17 @@ impl Bench {
 fn rule_case(run: &mut Run, ticks: &mut Ticks, number: u64) {
     let plan = Plan::random(&mut run.random);
     let text = rule::text_of(&mut run.random, &plan.rule);
-    let name = format!("rule {number}: {}", show(&text));
-    let read = rule::read(&text);
+    let name = format!("rule {number}: {} at {}", show(&text), plan.place);
+    let read = rule::read(&text, plan.place);
     if let Err(refusal) = read {
         // too long or too deep: the refusals must be the same
-        same(archive::read_rule(&text), Answer::refused(refusal), || name);
+        same(archive::read_rule(&text, plan.place), Answer::refused(refusal), || name);
         return;
     }
     same(read, Ok(plan.rule.clone()), || format!("the evaluator's own reader and writer on {name}"));
     let nodes = rule::nodes(&plan.rule);
-    same(archive::read_rule(&text), Answer::given(nodes), || format!("reading {name}"));
-    let mut bench = Bench::new(run, &text, &plan.rule, name);
+    same(archive::read_rule(&text, plan.place), Answer::given(nodes), || format!("reading {name}"));
+    let mut bench = Bench::new(run, &text, &plan, name);
     let root = rule::root(&plan.rule);
     for (around, delay) in rule::lags(&plan.rule, Around::Nothing) {
         run.tally.add(Outcome::Lag(around, delay));
@@ -175,12 +180,18 @@ fn rule_case(run: &mut Run, ticks: &mut Ticks, number: u64) {
     if tests.iter().enumerate().any(|(i, test)| tests[..i].contains(test)) {
         run.tally.add(Outcome::RepeatedTest);
     }
+    let earlier = rule::earlier(&plan.rule);
+    if earlier.iter().enumerate().any(|(i, place)| earlier[..i].contains(place)) {
+        run.tally.add(Outcome::RepeatedVerdict);
+    }
     for e in 0..plan.trace.len() {
         if run.random.once_in(12) {
             bench.refused_call(run, &plan.parameters);
         }
         bench.tick(run, &plan, e);
         run.tally.extend(tests.iter().map(|(op, n)| Outcome::Tested(*op, plan.trace[e].velocity.cmp(n))));
+        let given = |place: &u32| Outcome::Given(*place, plan.trace[e].verdicts[*place as usize - 1].min(3));
+        run.tally.extend(earlier.iter().map(given));
         ticks.of[plan.verdicts[e] as usize] += 1;
         run.tally.add(Outcome::Verdict(root, plan.verdicts[e]));
     }

@@ -3,7 +3,7 @@
 use super::{same, Run};
 use crate::archive::{self, Tick};
 use crate::random::Random;
-use crate::rule::make::{high_velocity, random_parameters, random_velocity};
+use crate::rule::make::{high_velocity, random_parameters, random_velocity, random_verdicts};
 use crate::table;
 use crate::tally::{Operation, Outcome, Tally};
 
@@ -40,7 +40,7 @@ impl Case {
         let length = if random.once_in(15) { random.below(self.n) } else { self.n + random.below(4) };
         random.numbers(length)
     }
-    /// A tick, now and then with a parameter or the velocity above its range.
+    /// A tick, now and then with a parameter or the velocity above its range. Its verdicts have any numbers.
     fn tick(&self, random: &mut Random, parameters: &[u32; 8]) -> Tick {
         let mut parameters = *parameters;
         if random.once_in(15) {
@@ -48,7 +48,7 @@ impl Case {
         }
         let start = if random.once_in(4) { random.pick(&[1, 1, 7, u32::MAX]) } else { 0 };
         let velocity = if random.once_in(15) { high_velocity(random) } else { random_velocity(random) };
-        Tick { start, signals: random.next(), velocity, parameters }
+        Tick { start, signals: random.next(), velocity, verdicts: random_verdicts(random), parameters }
     }
     fn name(&self, number: u64) -> String {
         format!("table {number}: {:?}, n {}", self.table, self.said)
@@ -64,6 +64,7 @@ fn count_flows(tally: &mut Tally, case: &Case, values: &[u32], tick: &Tick) {
             10 => tally.add(Outcome::Compared(kind, b, values[a as usize].cmp(&c))),
             11 => tally.add(Outcome::Compared(kind, b, values[a as usize].cmp(&tick.parameters[c as usize]))),
             12 => tally.add(Outcome::Compared(kind, a, tick.velocity.cmp(&b))),
+            13 => tally.add(Outcome::TableGiven(a, tick.verdicts[a as usize - 1].min(3))),
             _ => {}
         }
         if kind == 8 && values[i] == 1_000_000 && values[a as usize] == 1_000_000 {

@@ -22,25 +22,50 @@ pub fn high_velocity(random: &mut Random) -> u32 {
     random.pick(&[128, 128, 129, 255, 256, 16_383, 1_000_000, u32::MAX])
 }
 
-fn random_leaf(random: &mut Random) -> Prop {
+/// A place of a set.
+pub fn random_place(random: &mut Random) -> u32 {
+    1 + random.below(8) as u32
+}
+
+/// A number that is no place.
+pub fn no_place(random: &mut Random) -> u32 {
+    random.pick(&[0, 0, 0, 9, 9, 10, 256, 257, 1 << 31, u32::MAX])
+}
+
+/// The number of a verdict, which is read as yes only where it is 1.
+pub fn random_verdict(random: &mut Random) -> u32 {
+    if random.once_in(2) { 1 } else { random.pick(&[0, 0, 0, 2, 2, 3, 255, 257, 0x8000_0001, u32::MAX]) }
+}
+
+pub fn random_verdicts(random: &mut Random) -> [u32; 8] {
+    std::array::from_fn(|_| random_verdict(random))
+}
+
+/// A leaf of a rule at this place, which names only the verdicts of those before it.
+fn random_leaf(random: &mut Random, place: u32) -> Prop {
+    if place > 1 && random.once_in(3) {
+        return Prop::Earlier(1 + random.below(place as usize - 1) as u32);
+    }
     if random.once_in(3) {
         return Prop::Velocity(OPS[random.below(5)].0, random_velocity(random));
     }
     random_signal(random)
 }
 
-fn random_prop(random: &mut Random, size: usize) -> Prop {
+fn random_prop(random: &mut Random, place: u32, size: usize) -> Prop {
     if random.once_in(24) {
         return Prop::Constant(random.once_in(2));
     }
     if size <= 1 || random.once_in(2) {
-        return random_leaf(random);
+        return random_leaf(random, place);
     }
     let half = size / 2;
-    match random.below(3) {
-        0 => Prop::Not(Box::new(random_prop(random, size - 1))),
-        1 => Prop::And(Box::new(random_prop(random, half)), Box::new(random_prop(random, half))),
-        _ => Prop::Or(Box::new(random_prop(random, half)), Box::new(random_prop(random, half))),
+    let kind = random.below(3);
+    let mut part = |size| Box::new(random_prop(random, place, size));
+    match kind {
+        0 => Prop::Not(part(size - 1)),
+        1 => Prop::And(part(half), part(half)),
+        _ => Prop::Or(part(half), part(half)),
     }
 }
 
@@ -52,9 +77,9 @@ fn random_num(random: &mut Random) -> Num {
     }
 }
 
-fn random_atom(random: &mut Random, lead: bool) -> Rule {
+fn random_atom(random: &mut Random, place: u32, lead: bool) -> Rule {
     let size = 1 + random.below(4);
-    let p = random_prop(random, size);
+    let p = random_prop(random, place, size);
     let op = if lead { random.pick(&[Op::Le, Op::Lt]) } else { OPS[random.below(5)].0 };
     let n = random_num(random);
     match random.below(if lead { 5 } else { 9 }) {
@@ -62,7 +87,7 @@ fn random_atom(random: &mut Random, lead: bool) -> Rule {
         1 => Rule::Test(Test::Kept, p),
         2 => Rule::Len(op, n),
         3 => Rule::Sum(p, op, n),
-        4 => Rule::Lag(p, n, random_prop(random, size)),
+        4 => Rule::Lag(p, n, random_prop(random, place, size)),
         5 => Rule::Age(p, op, n),
         6 => Rule::Test(Test::End, p),
         7 => Rule::Test(Test::Held, p),
@@ -70,23 +95,23 @@ fn random_atom(random: &mut Random, lead: bool) -> Rule {
     }
 }
 
-/// A rule of the fragment with about that many nodes.
-pub fn random_rule(random: &mut Random, size: usize, lead: bool) -> Rule {
+/// A rule of the fragment at this place, with about that many nodes.
+pub fn random_rule(random: &mut Random, place: u32, size: usize, lead: bool) -> Rule {
     if size <= 1 {
-        return random_atom(random, lead);
+        return random_atom(random, place, lead);
     }
     let left = 1 + random.below(size);
     let right = size.saturating_sub(left).max(1);
     let kind = random.below(if lead { 2 } else { 5 });
     if kind == 2 {
-        return Rule::Not(Box::new(random_rule(random, size - 1, false)));
+        return Rule::Not(Box::new(random_rule(random, place, size - 1, false)));
     }
     if kind > 2 {
-        let f = random_rule(random, left.min(3), true);
-        return Rule::Then(Box::new(f), Box::new(random_rule(random, right, false)));
+        let f = random_rule(random, place, left.min(3), true);
+        return Rule::Then(Box::new(f), Box::new(random_rule(random, place, right, false)));
     }
-    let f = Box::new(random_rule(random, left, lead));
-    let g = Box::new(random_rule(random, right, lead));
+    let f = Box::new(random_rule(random, place, left, lead));
+    let g = Box::new(random_rule(random, place, right, lead));
     if kind == 0 { Rule::And(f, g) } else { Rule::Or(f, g) }
 }
 
@@ -103,10 +128,11 @@ enum First {
     Never,
 }
 
-/// So many ticks. Tick 0 mostly starts; a signal mostly stays for some ticks, and so does the velocity.
+/// So many ticks. Tick 0 mostly starts; a signal mostly stays for some ticks, and so do the velocity and the verdicts.
 pub fn random_ticks(random: &mut Random, count: usize) -> Vec<Moment> {
     let mut signals = random.next();
     let mut velocity = random_velocity(random);
+    let mut verdicts = random_verdicts(random);
     let first = match random.below(40) {
         0 => First::Never,
         1..=4 => First::Late,
@@ -126,7 +152,12 @@ pub fn random_ticks(random: &mut Random, count: usize) -> Vec<Moment> {
         if random.once_in(3) {
             velocity = random_velocity(random);
         }
-        ticks.push(Moment { start, signals, velocity });
+        for verdict in &mut verdicts {
+            if random.once_in(4) {
+                *verdict = random_verdict(random);
+            }
+        }
+        ticks.push(Moment { start, signals, velocity, verdicts });
     }
     ticks
 }

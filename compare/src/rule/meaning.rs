@@ -1,11 +1,14 @@
-//! The interval meaning, straight from its clauses: slow and plain.
+//! The interval meaning, straight from its clauses: slow and plain; and the verdicts of a set.
 
 use super::{compare, Num, Prop, Rule, Test};
 
+/// A tick (SPEC 1.1), with the numbers that its verdicts are.
+#[derive(Clone, Copy)]
 pub struct Moment {
     pub start: bool,
     pub signals: u64,
     pub velocity: u32,
+    pub verdicts: [u32; 8],
 }
 
 /// SPEC 4.1: a proposition at a tick.
@@ -14,6 +17,7 @@ fn holds(p: &Prop, tick: &Moment) -> bool {
         Prop::Constant(c) => *c,
         Prop::Signal(j) => tick.signals >> j & 1 == 1,
         Prop::Velocity(op, n) => compare(*op, u64::from(tick.velocity), u64::from(*n)),
+        Prop::Earlier(place) => tick.verdicts[*place as usize - 1] == 1,
         Prop::Not(p) => !holds(p, tick),
         Prop::And(p, q) => holds(p, tick) && holds(q, tick),
         Prop::Or(p, q) => holds(p, tick) || holds(q, tick),
@@ -74,5 +78,34 @@ pub fn verdict(r: &Rule, trace: &[Moment], parameters: &[u32; 8], e: usize) -> u
     match started(trace, e) {
         None => IDLE,
         Some(b) => u32::from(meaning(r, trace, parameters, b, e)),
+    }
+}
+
+/// A rule of a set with its own parameters.
+pub struct Member {
+    pub rule: Rule,
+    pub parameters: [u32; 8],
+}
+
+/// The rules of a set in the order of their places, each with the ticks up to now as it sees them.
+#[derive(Default)]
+pub struct Set {
+    members: Vec<(Member, Vec<Moment>)>,
+}
+
+impl Set {
+    pub fn new(members: impl IntoIterator<Item = Member>) -> Set {
+        Set { members: members.into_iter().map(|member| (member, Vec::new())).collect() }
+    }
+    /// SPEC 17.2: the verdicts of the rules at the next tick. A rule sees the tick with the verdicts of those before
+    /// it, and 0 for the others; what verdicts the tick came with does not count.
+    pub fn tick(&mut self, moment: Moment) -> Vec<u32> {
+        let mut verdicts = [0; 8];
+        let of_place = |(i, (member, seen)): (usize, &mut (Member, Vec<Moment>))| {
+            seen.push(Moment { verdicts, ..moment });
+            verdicts[i] = verdict(&member.rule, seen, &member.parameters, seen.len() - 1);
+            verdicts[i]
+        };
+        self.members.iter_mut().enumerate().map(of_place).collect()
     }
 }

@@ -1,6 +1,7 @@
-//! Reading a rule text (SPEC 8.1): refusals 5 to 8 (SPEC 7.5, SPEC 7.6, SPEC 7.7, SPEC 7.8), after those of its words.
+//! Reading a rule text at its place (SPEC 8.1): refusals 5 to 8 (SPEC 7.5, SPEC 7.6, SPEC 7.7, SPEC 7.8) and 20
+//! (SPEC 7.20), after those of its words.
 
-use super::words::{words, Word, LAST_LITERAL, LAST_VELOCITY};
+use super::words::{words, Word, LAST_LITERAL, LAST_VELOCITY, PLACES};
 use super::{has_leads, Num, Op, Prop, Rule};
 
 struct Parser<'a> {
@@ -136,6 +137,7 @@ impl Parser<'_> {
             }
             Word::Literal(n) if n < 2 => Some(Prop::Constant(n == 1)),
             Word::Signal(j) => Some(Prop::Signal(j)),
+            Word::Earlier(place) => Some(Prop::Earlier(place)),
             Word::Velocity => match (self.next()?, self.next()?) {
                 (Word::Op(op), Word::Literal(n)) => Some(Prop::Velocity(op, n)),
                 _ => None,
@@ -167,18 +169,47 @@ fn parse(words: &[Word]) -> Option<Rule> {
     (parser.at == words.len()).then_some(rule)
 }
 
-/// The rule of a text, or all refusals that apply, in their order; of 1 to 4 only the first.
-pub fn read_or_all(text: &[u8]) -> Result<Rule, Vec<u32>> {
-    read_within(text, LAST_VELOCITY)
+/// Why a text is refused by 20 (SPEC 7.20).
+#[derive(Clone, Copy, PartialEq, Eq, PartialOrd, Ord, Debug)]
+pub enum Misplaced {
+    /// Its place is 0, or above 8.
+    NoPlace,
+    HighPlace,
+    /// It names the verdict of its own place, or, at this place, only of later ones.
+    Own,
+    Later,
+}
+
+/// What of SPEC 7.20 is so of some words at a place.
+fn misplacement(words: &[Word], place: u32) -> Option<Misplaced> {
+    let last = |w: &Word| if let Word::Earlier(j) = w { Some(*j) } else { None };
+    let places: Vec<u32> = words.iter().filter_map(last).collect();
+    match place {
+        0 => Some(Misplaced::NoPlace),
+        _ if u64::from(place) > PLACES => Some(Misplaced::HighPlace),
+        _ if places.contains(&place) => Some(Misplaced::Own),
+        _ if places.iter().any(|j| *j > place) => Some(Misplaced::Later),
+        _ => None,
+    }
+}
+
+/// The same of a text that has words.
+pub fn misplaced(text: &[u8], place: u32) -> Option<Misplaced> {
+    misplacement(&words(text, LAST_VELOCITY).ok()?, place)
+}
+
+/// The rule of a text at its place, or all refusals that apply, in their order; of 1 to 4 only the first.
+pub fn read_or_all(text: &[u8], place: u32) -> Result<Rule, Vec<u32>> {
+    read_within(text, place, LAST_VELOCITY)
 }
 
 /// The refusal of a text, 0 for none, if velocity literals went as far as others.
-pub fn refusal_without_velocities(text: &[u8]) -> u32 {
-    read_within(text, LAST_LITERAL).map_or_else(|refusals| refusals[0], |_| 0)
+pub fn refusal_without_velocities(text: &[u8], place: u32) -> u32 {
+    read_within(text, place, LAST_LITERAL).map_or_else(|refusals| refusals[0], |_| 0)
 }
 
 /// The same as `read_or_all`, with velocity literals up to a number.
-fn read_within(text: &[u8], last_velocity: u64) -> Result<Rule, Vec<u32>> {
+fn read_within(text: &[u8], place: u32, last_velocity: u64) -> Result<Rule, Vec<u32>> {
     let words = words(text, last_velocity).map_err(|refusal| vec![refusal])?;
     let (open, counted) = extent(&words);
     let rule = parse(&words);
@@ -187,14 +218,15 @@ fn read_within(text: &[u8], last_velocity: u64) -> Result<Rule, Vec<u32>> {
         (6, rule.is_none()),
         (7, words.iter().any(|w| matches!(w, Word::Chop | Word::Exists))),
         (8, rule.as_ref().is_some_and(|rule| !has_leads(rule))),
+        (20, misplacement(&words, place).is_some()),
     ];
     let refusals: Vec<u32> = applies.iter().filter(|a| a.1).map(|a| a.0).collect();
     rule.filter(|_| refusals.is_empty()).ok_or(refusals)
 }
 
-/// The rule of a text, or the first refusal.
-pub fn read(text: &[u8]) -> Result<Rule, u32> {
-    read_or_all(text).map_err(|refusals| refusals[0])
+/// The rule of a text at its place, or the first refusal.
+pub fn read(text: &[u8], place: u32) -> Result<Rule, u32> {
+    read_or_all(text, place).map_err(|refusals| refusals[0])
 }
 
 /// What of a text that is read stands exactly at its limit.
@@ -205,10 +237,14 @@ pub enum Limit {
     Brackets,
     Operators,
     Velocity,
+    /// It is at the last place, and it names the rule right before it.
+    Place,
+    Earlier,
 }
 
-/// The limits that a text with a rule reaches exactly: of SPEC 2.1, SPEC 2.9, SPEC 2.10 (two of them), SPEC 2.11.
-pub fn limits(text: &[u8]) -> Vec<Limit> {
+/// The limits that a text with a rule reaches exactly at its place: of SPEC 2.1, SPEC 2.9, SPEC 2.10 (two of them),
+/// SPEC 2.11, and of SPEC 7.20.
+pub fn limits(text: &[u8], place: u32) -> Vec<Limit> {
     let words = words(text, LAST_VELOCITY).expect("a text with a rule");
     let (open, counted) = extent(&words);
     let highest = |w: &[Word]| matches!(w, [Word::Velocity, Word::Op(_), Word::Literal(127)]);
@@ -218,6 +254,8 @@ pub fn limits(text: &[u8]) -> Vec<Limit> {
         (Limit::Brackets, open == 16),
         (Limit::Operators, counted == 32),
         (Limit::Velocity, words.windows(3).any(highest)),
+        (Limit::Place, u64::from(place) == PLACES),
+        (Limit::Earlier, words.iter().any(|w| *w == Word::Earlier(place - 1))),
     ];
     reached.iter().filter(|l| l.1).map(|l| l.0).collect()
 }

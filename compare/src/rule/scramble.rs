@@ -5,10 +5,10 @@ use super::make::random_rule;
 use super::{text_of, Rule};
 use crate::random::Random;
 
-const WORDS: [&str; 40] = [
+const WORDS: [&str; 45] = [
     "(", ")", "[", "]", "!", "&", "|", ",", "<=", "<", "=", ">", ">=", "begin", "end", "point", "held", "kept", "len",
     "sum", "age", "lag", "then", "chop", "exists", "v", "v", "0", "1", "7", "s0", "s63", "s64", "k7", "k8", "01", "127",
-    "128", "999999", "1000000",
+    "128", "999999", "1000000", "r1", "r8", "r0", "r9", "r",
 ];
 
 /// Texts like those of `lag`, and `,` in other places: a few are rules.
@@ -35,6 +35,17 @@ const NEAR_VELOCITY: [&str; 58] = [
     "v then end[1]",
 ];
 
+/// Texts like those of a verdict, and verdicts in other places: some are rules where they are read at a late place.
+const NEAR_VERDICT: [&str; 52] = [
+    "end[r1]", "end[r2]", "end[r3]", "end[r4]", "end[r5]", "end[r6]", "end[r7]", "end[r8]", "end[r0]", "end[r9]",
+    "end[r10]", "end[r01]", "end[r00]", "end[r]", "end[r 1]", "end[R1]", "end[r1r2]", "end[rs1]", "end[r-1]",
+    "end[r1a]", "end[r4294967297]", "end[r18446744073709551617]", "end[!r1]", "end[(r1)]", "end[r1 r2]", "end[r1]<=2",
+    "end[r1<=1]", "end[r1=1]", "end[v>=r1]", "end[r1&v>=90]", "end[r1|s1]", "end[r1 & r1]", "r1", "!r1",
+    "r1 then end[1]", "r1|end[1]", "begin[r1] then end[r2]", "kept[r1] then end[r1]", "end[r1] then end[r2]",
+    "end[r1] chop end[s0]", "len<=r1", "len<=1|end[r8]", "sum[r1]<=2", "sum[s0]<=r1", "age[r2 & !r3]>=2",
+    "lag[r1,2,r2]", "lag[r1,r2,r3]", "lag[s0,r1,s1]", "exists r1 end[1]", "exists s0 end[r1]", "(end[r1])", "end[r1",
+];
+
 fn random_words(random: &mut Random) -> Vec<u8> {
     let mut text = Vec::new();
     let most = if random.once_in(20) { 260 } else { 12 };
@@ -47,13 +58,19 @@ fn random_words(random: &mut Random) -> Vec<u8> {
     text
 }
 
-/// The text of a rule, now and then one with `chop` or `exists`, or with a left of `then` that is no lead.
-fn rule_text(random: &mut Random) -> Vec<u8> {
+/// The text of a rule at this place, now and then of one at the next or at any, one with `chop` or `exists`, or one
+/// with a left of `then` that is no lead.
+fn rule_text(random: &mut Random, place: u32) -> Vec<u8> {
+    let place = match random.below(8) {
+        0 => place.saturating_add(1).min(9),
+        1 => 9,
+        _ => place.min(9),
+    };
     let most = if random.once_in(30) { 90 } else { 12 };
     let size = 1 + random.below(most);
-    let mut rule = random_rule(random, size, false);
+    let mut rule = random_rule(random, place, size, false);
     while random.once_in(5) {
-        let other = Box::new(random_rule(random, 2, false));
+        let other = Box::new(random_rule(random, place, 2, false));
         rule = match random.below(3) {
             0 => Rule::Chop(Box::new(rule), other),
             1 => Rule::Exists(random.below(64) as u32, Box::new(rule)),
@@ -63,14 +80,14 @@ fn rule_text(random: &mut Random) -> Vec<u8> {
     text_of(random, &rule)
 }
 
-/// One of the texts near a `lag` or a velocity test, now and then with `!`, a `then` or another rule.
-fn near(random: &mut Random, texts: &[&str]) -> Vec<u8> {
+/// One of the texts near a `lag`, a velocity test or a verdict, now and then with `!`, a `then` or another rule.
+fn near(random: &mut Random, place: u32, texts: &[&str]) -> Vec<u8> {
     let near = random.pick(texts);
     match random.below(6) {
         0 => format!("!{near}").into_bytes(),
         1 => format!("{near} then end[s0]").into_bytes(),
         2 => format!("!{near} then end[s0]").into_bytes(),
-        3 => [rule_text(random), b"|".to_vec(), near.into()].concat(),
+        3 => [rule_text(random, place), b"|".to_vec(), near.into()].concat(),
         _ => near.into(),
     }
 }
@@ -82,11 +99,11 @@ fn damage(random: &mut Random, text: &mut Vec<u8>) {
         }
         let at = random.below(text.len());
         match random.below(4) {
-            0 => text[at] = random.pick(b" ()[]!&|,<=>skv0123456789abcdefghijklmnopqrstuvwxyz#\tA"),
+            0 => text[at] = random.pick(b" ()[]!&|,<=>skvr0123456789abcdefghijklmnopqrstuvwxyz#\tA"),
             1 => {
                 text.remove(at);
             }
-            2 => text.insert(at, random.pick(b" ()[]!&|,<=>skv019aeh\n\xff")),
+            2 => text.insert(at, random.pick(b" ()[]!&|,<=>skvr019aeh\n\xff")),
             _ => text.truncate(at),
         }
     }
@@ -110,7 +127,7 @@ fn many_words(random: &mut Random) -> Vec<u8> {
 fn stretch(random: &mut Random, text: Vec<u8>) -> Vec<u8> {
     match random.below(5) {
         0 => {
-            let deep = 14 + random.below(4);
+            let deep = random.pick(&[14, 15, 16, 16, 17]);
             [vec![b'('; deep], text, vec![b')'; deep]].concat()
         }
         1 if random.once_in(2) => [vec![b'!'; 27 + random.below(7)], text].concat(),
@@ -125,12 +142,14 @@ fn stretch(random: &mut Random, text: Vec<u8>) -> Vec<u8> {
     }
 }
 
-pub fn random_text(random: &mut Random) -> Vec<u8> {
+/// A text that is to be read at this place.
+pub fn random_text(random: &mut Random, place: u32) -> Vec<u8> {
     let mut text = match random.below(12) {
         0..=2 => random_words(random),
-        3 => near(random, &NEAR_LAG),
-        4 => near(random, &NEAR_VELOCITY),
-        _ => rule_text(random),
+        3 => near(random, place, &NEAR_LAG),
+        4 => near(random, place, &NEAR_VELOCITY),
+        5 => near(random, place, &NEAR_VERDICT),
+        _ => rule_text(random, place),
     };
     if random.once_in(2) {
         damage(random, &mut text);

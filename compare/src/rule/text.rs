@@ -58,6 +58,7 @@ impl Writer<'_> {
             Prop::Constant(c) => w.word(if *c { "1" } else { "0" }),
             Prop::Signal(j) => w.word(&format!("s{j}")),
             Prop::Velocity(op, n) => w.velocity(*op, *n),
+            Prop::Earlier(place) => w.word(&format!("r{place}")),
             Prop::Not(p) => {
                 w.word("!");
                 w.prop(p, 2);

@@ -25,6 +25,7 @@ pub enum Word {
     Literal(u32),
     Signal(u32),
     Parameter(u32),
+    Earlier(u32),
 }
 
 /// A number up to max, its digits by SPEC 2.8: else 2 or 3.
@@ -42,7 +43,16 @@ fn number(digits: &[u8], max: u64) -> Result<u32, u32> {
     Ok(value as u32)
 }
 
-/// The word of a run: a name (SPEC 2.5), a signal or a parameter (SPEC 2.6), a literal (SPEC 2.7) up to `largest`.
+/// SPEC 2.12: the word of a verdict, by the digits of its place.
+fn earlier(digits: &[u8]) -> Result<Word, u32> {
+    match number(digits, PLACES)? {
+        0 => Err(3),
+        place => Ok(Word::Earlier(place)),
+    }
+}
+
+/// The word of a run: a name (SPEC 2.5), a signal or a parameter (SPEC 2.6), a verdict (SPEC 2.12), a literal
+/// (SPEC 2.7) up to `largest`.
 fn run_word(run: &[u8], largest: u64) -> Result<Word, u32> {
     for (test, name) in TESTS {
         if run == name.as_bytes() {
@@ -61,6 +71,7 @@ fn run_word(run: &[u8], largest: u64) -> Result<Word, u32> {
         _ => match run[0] {
             b's' => number(&run[1..], 63).map(Word::Signal),
             b'k' => number(&run[1..], 7).map(Word::Parameter),
+            b'r' => earlier(&run[1..]),
             _ => number(run, largest).map(Word::Literal),
         },
     }
@@ -93,9 +104,10 @@ fn first_word(text: &[u8], largest: u64) -> Result<(Word, usize), u32> {
     })
 }
 
-/// The highest literal, and the highest velocity.
+/// The highest literal, the highest velocity, and the highest place in a set (SPEC 17.1).
 pub const LAST_LITERAL: u64 = 999_999;
 pub const LAST_VELOCITY: u64 = 127;
+pub const PLACES: u64 = 8;
 
 /// The words of a text, with spaces between (SPEC 2.2), or the first of the refusals 1 to 4, in the order of SPEC 8.1:
 /// the length of the text (SPEC 2.1), then word by word the number of words (SPEC 2.9) and each word. Right after `v`

@@ -53,7 +53,8 @@ fn right_side([k, a, b, c]: [u32; 4]) -> String {
         9 => format!("if f{a} then f{b} else 0"),
         10 => format!("f{a}{}{c}", OPS[b as usize].1),
         11 => format!("f{a}{}k{c}", OPS[b as usize].1),
-        _ => format!("v{}{b}", OPS[a as usize].1),
+        12 => format!("v{}{b}", OPS[a as usize].1),
+        _ => format!("r{a}"),
     }
 }
 
@@ -66,15 +67,16 @@ fn equation(right: &str) -> Option<[u32; 4]> {
     plain(right).or_else(|| memory(right)).or_else(|| joined(right)).or_else(|| compared(right))
 }
 
-/// Kinds 0 to 3.
+/// Kinds 0 to 3, and 13.
 fn plain(right: &str) -> Option<[u32; 4]> {
     match right {
         "b" => Some([1, 0, 0, 0]),
         "true" => Some([2, 1, 0, 0]),
         "false" => Some([2, 0, 0, 0]),
-        _ => match right.strip_prefix('s') {
-            Some(x) => Some([0, x.parse().ok()?, 0, 0]),
-            None => Some([3, flow_number(right.strip_prefix("not ")?)?, 0, 0]),
+        _ => match (right.strip_prefix('s'), right.strip_prefix('r')) {
+            (Some(x), _) => Some([0, x.parse().ok()?, 0, 0]),
+            (_, Some(x)) => Some([13, x.parse().ok()?, 0, 0]),
+            _ => Some([3, flow_number(right.strip_prefix("not ")?)?, 0, 0]),
         },
     }
 }

@@ -3,7 +3,7 @@
 use super::packing::flow_places;
 use super::{equation, is_count};
 use crate::random::Random;
-use crate::rule::make::random_velocity;
+use crate::rule::make::{random_place, random_velocity};
 
 /// The equations before the one that is made, by their sort.
 #[derive(Default)]
@@ -24,7 +24,7 @@ impl Flows {
     }
     /// The kinds that the next equation can have, counts only where it is none of the two that close the table.
     fn kinds(&self, closing: bool) -> Vec<u32> {
-        let mut kinds = vec![0, 1, 2, 6, 12];
+        let mut kinds = vec![0, 1, 2, 6, 12, 13];
         if !self.booleans.is_empty() {
             kinds.extend([3, 3, 4, 4, 5, 5]);
         }
@@ -53,6 +53,7 @@ impl Flows {
             10 => [self.count(random), random.below(5) as u32, random.below(literals) as u32],
             11 => [self.count(random), random.below(5) as u32, random.below(8) as u32],
             12 => [random.below(5) as u32, random_velocity(random), 0],
+            13 => [random_place(random), 0, 0],
             _ => [0, 0, 0],
         }
     }
@@ -167,6 +168,7 @@ fn change_constant(random: &mut Random, numbers: &mut [u32; 4]) {
         10 | 11 => numbers[3] = random.below(8) as u32,
         12 if random.once_in(2) => numbers[1] = random.below(5) as u32,
         12 => numbers[2] = random_velocity(random),
+        13 => numbers[1] = random_place(random),
         _ => {}
     }
 }

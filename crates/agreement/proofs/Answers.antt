@@ -4,7 +4,7 @@
 -- equations, and the laws of runs of any table (flows). Over a number m of signals that is left open (scheme,
 -- proofs/Parts.antt). Assumes nothing.
 use mathlib.Core.Bool.{true, cond}
-use mathlib.Core.List.{List, ◌++◌}
+use mathlib.Core.List.{List, [], ◌++◌}
 use mathlib.Core.Logic.Iff
 use mathlib.Core.Logic.{◌↔◌}
 use mathlib.Core.Path.{◌≡◌, sym, ap, ◌∙◌, subst}
@@ -119,7 +119,7 @@ module _ (cap velocities : ℕ) (low : cap ≤ literal_count) (m : ℕ) (few : m
       → EachTick (AsMeant f (trace_of_ticks ps (ticks (from_fresh cap velocities t n old calls)))) 0
       (from_fresh cap velocities t n old calls)
   answers-mean old room calls ps same =
-      answers-named old room calls (tick_of 0 0 0 ps) (λ j e i k. rw (same_at same i, same_at same k))
+      answers-named old room calls (tick_of 0 0 0 [] ps) (λ j e i k. rw (same_at same i, same_at same k))
 
   pub answers-idle : (old : List ℕ) → n ≤ length old → (calls : List Call) (d : Tick)
       → EachTick (IdleUntilStart (trace_of d (ticks (from_fresh cap velocities t n old calls)))) 0

@@ -5,8 +5,8 @@ use native.Mathlib.Omega.{arith}
 use Rattle.formulas.specs.Formula.{Test}
 use Rattle.formulas.specs.Formula.Test.{begin, end, point, held, kept}
 use Rattle.formulas.specs.Tree.{Tree, nodes, test_memories, memories_of}
-use Rattle.formulas.specs.Tree.Tree.{constant, signal, velocity, neg, and, or, then, chop, exists, test, len, count}
-use Rattle.formulas.specs.Tree.Tree.{lag}
+use Rattle.formulas.specs.Tree.Tree.{constant, signal, velocity, earlier, neg, and, or, then, chop, exists}
+use Rattle.formulas.specs.Tree.Tree.{test, len, count, lag}
 use Rattle.agreement.specs.Agreement.{ExactMemories, FewMemories}
 
 test-one : (k : Test) → test_memories k ≤ 1
@@ -20,6 +20,7 @@ two-a-node : (t : Tree) → memories_of t ≤ 2 * nodes t
 two-a-node (constant c) = omega arith
 two-a-node (signal j) = omega arith
 two-a-node (velocity o n) = omega arith
+two-a-node (earlier j) = omega arith
 two-a-node (neg t) = omega (arith, two-a-node t)
 two-a-node (and a b) = omega (arith, two-a-node a, two-a-node b)
 two-a-node (or a b) = omega (arith, two-a-node a, two-a-node b)

@@ -42,9 +42,10 @@ pub data SameParameters (ps : List ℕ) : List Tick → Type 0 where
   none : SameParameters ps []
   more : {k : Tick} {ks : List Tick} → k.parameters ≡ ps → SameParameters ps ks → SameParameters ps (k ∷ ks)
 
--- The trace of the ticks; past the last one, which no verdict looks at, ticks with those parameters.
+-- The trace of the ticks; past the last one, which no verdict looks at, ticks with those parameters, and with an empty
+-- list of verdicts of earlier rules, since nothing depends on it.
 abbrev pub trace_of_ticks : List ℕ → List Tick → Trace
-trace_of_ticks ps ks = trace_of (tick_of 0 0 0 ps) ks
+trace_of_ticks ps ks = trace_of (tick_of 0 0 0 [] ps) ks
 
 -- The step of the tick numbered k answers the verdict that the meaning of f has there.
 abbrev pub AsMeant : Formula → Trace → ℕ → Taken → Type 0

@@ -1,5 +1,5 @@
--- The first line of a card: it is an edition's line exactly if the test (`edition_of`) has the edition. Assumes
--- nothing.
+-- An edition's line: a line is one exactly if the test (`edition_of`) has the edition. It has no number of rules.
+-- Assumes nothing.
 use mathlib.Core.Path.{◌≡◌, refl, ◌∙◌, sym, ap, subst}
 use mathlib.Core.Bool.{Bool, true, false, cond, false≢true}
 use mathlib.Core.List.Memᴰ
@@ -13,7 +13,9 @@ use borrow.Author.Tests.{eqb-true, eqb-false}
 use Rattle.lists.specs.Same.{same}
 use Rattle.lists.proofs.Same.{same→eq, same_refl}
 use Rattle.cards.specs.Heads.{editions, IsEdition, edition_line, no_edition}
+use Rattle.cards.specs.Numbers.{has_prefix, cards_of}
 use Rattle.cards.specs.Says.{edition_in, edition_of}
+use Rattle.cards.specs.declared.Count.TheVariants as K
 
 -- ---- in any list of editions
 
@@ -78,3 +80,8 @@ edition-of {e} one = by_number (edition_of (edition_line e)) (eqb (edition_of (e
     by_number : (x : ℕ) (t : Bool) → edition_of (edition_line e) ≡ x → eqb x no_edition ≡ t → x ≡ e
     by_number x true q z = absurd (edition-not (edition_line e) (q ∙ eqb-true _ _ z) e one refl)
     by_number x false q z = line_of e x (edition-is (edition_line e) x (eqb-false _ _ z) q).1
+
+-- It begins otherwise than the line of the number of rules.
+pub edition-alone : (e : ℕ) → cards_of (edition_line e) ≡ K.Broken
+unfolding cards_of has_prefix
+edition-alone e = refl

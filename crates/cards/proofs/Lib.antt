@@ -9,4 +9,5 @@ pub mod Lines
 pub mod Front
 pub mod Editions
 pub mod Stages
+pub mod Sets
 pub mod Rows

@@ -1,15 +1,19 @@
 -- Lines of cards and what they say, computed: each row pins a definition of specs/ at a corner. Assumes nothing.
 use mathlib.Core.Path.{◌≡◌, refl}
-use mathlib.Core.List.{[], ◌∷◌}
+use mathlib.Core.List.{List, [], ◌∷◌}
+use Prim.Native.Nat.{ℕ}
 use Rattle.limits.specs.Limits.{velocity_count}
 use Rattle.lists.specs.Text.{bytes}
 use Rattle.lists.specs.Decimal.{is_digit, digits_after, numeral}
-use Rattle.cards.specs.Heads.{no_edition}
+use Rattle.cards.specs.Heads.{no_edition, head_refusal}
 use Rattle.cards.specs.Numbers.{number, has_prefix, before_comma, at_end, numbers, parameters_of}
-use Rattle.cards.specs.Numbers.{wholly, count_of}
+use Rattle.cards.specs.Numbers.{wholly, count_of, not_nought, cards_of}
 use Rattle.cards.specs.Numbers.Listed.{are, broken}
 use Rattle.cards.specs.Ticks.{hex_of, hexes, plain_tick, velocity_in, struck_tick, tick_line}
-use Rattle.cards.specs.Says.{edition_of}
+use Rattle.cards.specs.Says.{edition_of, stage_at, first_stage, over_stage, line_says, stage_after}
+use Rattle.cards.specs.Says.Says.{cards, edition, refused}
+use Rattle.cards.specs.declared.Stage.{Stage}
+use Rattle.cards.specs.declared.Phase.TheVariants as P
 use Rattle.cards.specs.declared.Count.TheVariants as K
 use Rattle.cards.specs.declared.TickLine.TheVariants as T
 
@@ -143,3 +147,101 @@ velocity-space = refl
 velocity-uppercase : tick_line velocity_count 2 (bytes "t=0,000000000000000A,5") ≡ T.Broken
 unfolding tick_line struck_tick plain_tick hexes hex_of is_digit velocity_in wholly number numeral digits_after
 velocity-uppercase = refl
+
+-- SPEC 17.3: the number of rules, its digits by SPEC 2.8.
+cards-1 : cards_of (bytes "cards=1") ≡ K.Is 1
+unfolding cards_of has_prefix not_nought wholly number numeral digits_after is_digit
+cards-1 = refl
+
+cards-8 : cards_of (bytes "cards=8") ≡ K.Is 8
+unfolding cards_of has_prefix not_nought wholly number numeral digits_after is_digit
+cards-8 = refl
+
+cards-0 : cards_of (bytes "cards=0") ≡ K.Broken
+unfolding cards_of has_prefix not_nought wholly number numeral digits_after is_digit
+cards-0 = refl
+
+cards-9 : cards_of (bytes "cards=9") ≡ K.Broken
+unfolding cards_of has_prefix not_nought wholly number numeral digits_after is_digit
+cards-9 = refl
+
+cards-needless : cards_of (bytes "cards=01") ≡ K.Broken
+unfolding cards_of has_prefix not_nought wholly number numeral digits_after is_digit
+cards-needless = refl
+
+cards-bare : cards_of (bytes "cards=") ≡ K.Broken
+unfolding cards_of has_prefix not_nought wholly number numeral digits_after is_digit
+cards-bare = refl
+
+cards-more : cards_of (bytes "cards=2x") ≡ K.Broken
+unfolding cards_of has_prefix not_nought wholly number numeral digits_after is_digit
+cards-more = refl
+
+cards-space : cards_of (bytes "cards= 2") ≡ K.Broken
+unfolding cards_of has_prefix not_nought wholly number numeral digits_after is_digit
+cards-space = refl
+
+cards-12 : cards_of (bytes "cards=12") ≡ K.Broken
+unfolding cards_of has_prefix not_nought wholly number numeral digits_after is_digit
+cards-12 = refl
+
+-- The stage after some lines.
+abbrev ahead : Stage → List (List ℕ) → Stage
+ahead k [] = k
+ahead k (l ∷ ls) = ahead (stage_after k (line_says velocity_count k l)) ls
+
+-- The three lines of a rule.
+abbrev rule_lines : List ℕ → List ℕ → List (List ℕ)
+rule_lines head text = head ∷ bytes "k=0,0,0,0,0,0,0,0" ∷ text ∷ []
+
+-- A set of two in the second edition: its first line, the first rule's edition, and the stages after the first rule and
+-- after the second, which the line of the number of ticks follows.
+set_first : line_says velocity_count first_stage (bytes "cards=2") ≡ cards 2
+unfolding line_says cards_of has_prefix not_nought wholly number numeral digits_after is_digit
+set_first = refl
+
+set-edition : line_says velocity_count (ahead first_stage (bytes "cards=2" ∷ [])) (bytes "edition=2") ≡ edition 2
+unfolding line_says cards_of has_prefix not_nought wholly number numeral digits_after is_digit
+set-edition = refl
+
+set-rule-1 : ahead (stage_after first_stage (cards 2)) (rule_lines (bytes "edition=2") (bytes "watch=end[s0]"))
+    ≡ stage_at P.Edition 2 2 2 0
+unfolding line_says parameters_of has_prefix numbers before_comma at_end number numeral digits_after is_digit
+set-rule-1 = refl
+
+set-rule-2 : ahead (stage_at P.Edition 2 2 2 0) (rule_lines (bytes "edition=2") (bytes "watch=end[r1]"))
+    ≡ stage_at P.Count 2 2 2 0
+unfolding line_says parameters_of has_prefix numbers before_comma at_end number numeral digits_after is_digit
+set-rule-2 = refl
+
+set-ticks : ahead (stage_at P.Count 2 2 2 0) (bytes "ticks=5" ∷ []) ≡ stage_at P.Ticks 2 2 2 5
+unfolding line_says count_of has_prefix wholly number numeral digits_after is_digit
+set-ticks = refl
+
+-- At its second rule another edition, no edition's line, and the number of ticks too early.
+other-edition : line_says velocity_count (stage_at P.Edition 2 2 2 0) (bytes "edition=1") ≡ refused head_refusal
+unfolding line_says
+other-edition = refl
+
+no-edition : line_says velocity_count (stage_at P.Edition 2 2 2 0) (bytes "edition=3") ≡ refused head_refusal
+unfolding line_says
+no-edition = refl
+
+early-ticks : ahead (stage_at P.Edition 2 2 2 0) (bytes "ticks=5" ∷ []) ≡ over_stage
+unfolding line_says
+early-ticks = refl
+
+-- The number of rules only in the first line; with one rule, and without that line.
+cards-twice : line_says velocity_count (ahead first_stage (bytes "cards=2" ∷ [])) (bytes "cards=2")
+    ≡ refused head_refusal
+unfolding line_says cards_of has_prefix not_nought wholly number numeral digits_after is_digit
+cards-twice = refl
+
+set-of-one : ahead (stage_after first_stage (cards 1)) (rule_lines (bytes "edition=1") (bytes "watch=end[s0]"))
+    ≡ stage_at P.Count 1 1 1 0
+unfolding line_says parameters_of has_prefix numbers before_comma at_end number numeral digits_after is_digit
+set-of-one = refl
+
+lone-card : ahead first_stage (rule_lines (bytes "edition=1") (bytes "watch=end[s0]")) ≡ stage_at P.Count 1 1 1 0
+unfolding line_says cards_of parameters_of has_prefix numbers before_comma at_end number numeral digits_after is_digit
+lone-card = refl

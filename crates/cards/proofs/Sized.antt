@@ -8,14 +8,14 @@ use native.Mathlib.Omega.{arith}
 use lib.Dec.{leb, eqb}
 use lib.ListN.{length, get_or, length-drop}
 use borrow.Author.Tests.{leb-true, eqb-false}
-use Rattle.limits.specs.Limits.{literal_count, last_literal, line_limit}
-use Rattle.cards.specs.Heads.{parameters_head, count_head, after_head}
+use Rattle.limits.specs.Limits.{literal_count, last_literal, place_count, line_limit}
+use Rattle.cards.specs.Heads.{cards_head, parameters_head, count_head, after_head}
 use Rattle.lists.specs.Decimal.{Numeral, is_digit, settled, digits_after, numeral}
 use Rattle.lists.specs.Decimal.Numeral.{is, above, missing}
 use Rattle.lists.proofs.Choice.{chosen}
 use Rattle.lists.proofs.Decimals.{digit-range, is-bounded}
 use Rattle.cards.specs.Numbers.{Parsed, parsed, number, has_prefix, Listed, before_comma, then_listed, at_end}
-use Rattle.cards.specs.Numbers.{numbers, last_parameter, parameters_of, wholly, count_of}
+use Rattle.cards.specs.Numbers.{numbers, last_parameter, parameters_of, wholly, count_of, not_nought, cards_of}
 use Rattle.cards.specs.Numbers.Parsed.{done, none}
 use Rattle.cards.specs.Numbers.Listed.{are, broken}
 use Rattle.cards.specs.declared.Count.{Count}
@@ -110,6 +110,22 @@ if-count max false x h = tt
 pub count_low : (l : List ℕ) → CountLow last_literal (count_of l)
 unfolding count_of
 count_low l = if-count last_literal (has_prefix count_head l) _ (last-low last_literal (after_head count_head l))
+
+-- A number of rules is 1 to 8.
+abbrev pub CardsLow : Count → Type 0
+CardsLow (K.Is m) = (1 ≤ m) × (m ≤ place_count)
+CardsLow K.Broken = Unit {0}
+
+nought-low : (k : Count) → CountLow place_count k → CardsLow (not_nought k)
+unfolding not_nought
+nought-low (K.Is m) h = chosen CardsLow (eqb m 0) (λ _. tt) (λ e. (omega (arith, eqb-false m 0 e), h))
+nought-low K.Broken h = tt
+
+pub cards-low : (l : List ℕ) → CardsLow (cards_of l)
+unfolding cards_of
+cards-low l =
+    chosen CardsLow (has_prefix cards_head l) (λ _. nought-low _ (last-low place_count (after_head cards_head l)))
+    (λ _. tt)
 
 -- ---- how long
 
@@ -259,16 +275,30 @@ wholly-counts l (done v (b ∷ r)) h = tt
 pub last-short : (max : ℕ) → max ≤ last_literal → (l : List ℕ) (k : ℕ) → wholly (number max l) ≡ K.Is k → length l ≤ 7
 last-short max h l k e = subst (Counts 7 l) e (wholly-counts l (number max l) (number-takes max h l))
 
-if-counts : (m : ℕ) (l : List ℕ) (b : Bool) (x : Count) → Counts m l x → Counts m l (cond b x K.Broken)
-if-counts m l true x h = h
-if-counts m l false x h = tt
+-- A line with a number behind its head is not over-long.
+module _ (head l : List ℕ) (small : length head ≤ line_limit - 8) where
+  head-short : (x : Count) (k : ℕ) → Counts 7 (after_head head l) x → cond (has_prefix head l) x K.Broken ≡ K.Is k
+      → length l < line_limit
+  head-short x k h e =
+      let rest = after_head head l in
+      let most : length rest ≤ 7 =
+      subst (Counts 7 rest) e (chosen (Counts 7 rest) (has_prefix head l) (λ _. h) (λ _. tt)) in
+      omega (arith, most, length-drop (length head) l)
 
 pub count-short : (l : List ℕ) (k : ℕ) → count_of l ≡ K.Is k → length l < line_limit
 unfolding count_of
 count-short l k e =
     let rest = after_head count_head l in
-    let most : length rest ≤ 7 =
-    subst (Counts 7 rest) e
-    (if-counts 7 rest (has_prefix count_head l) (wholly (number last_literal rest))
-    (wholly-counts rest (number last_literal rest) (literal-takes rest))) in
-    omega (arith, most, length-drop (length count_head) l)
+    head-short count_head l (omega arith) _ k (wholly-counts rest _ (literal-takes rest)) e
+
+nought-counts : (m : ℕ) (l : List ℕ) (x : Count) → Counts m l x → Counts m l (not_nought x)
+unfolding not_nought
+nought-counts m l (K.Is k) h = chosen (Counts m l) (eqb k 0) (λ _. tt) (λ _. h)
+nought-counts m l K.Broken h = tt
+
+pub cards-short : (l : List ℕ) (m : ℕ) → cards_of l ≡ K.Is m → length l < line_limit
+unfolding cards_of
+cards-short l m e =
+    let rest = after_head cards_head l in
+    let read = wholly-counts rest _ (number-takes place_count (omega arith) rest) in
+    head-short cards_head l (omega arith) _ m (nought-counts 7 rest _ read) e

@@ -1,24 +1,25 @@
 -- What follows what: in which stage a line says what it says (`Follows`), a card that is over stays so, and the lines
 -- that may still come grow fewer with each line (`rank`). Assumes nothing.
 use mathlib.Core.Path.{◌≡◌, refl, ◌∙◌, sym, ap}
-use mathlib.Core.Bool.{Bool, true, false, cond, false≢true}
+use mathlib.Core.Bool.{Bool, true, false, cond, false≢true, ◌||◌}
 use mathlib.Core.List.{List}
-use Prim.Native.Nat.{ℕ, ◌+◌, ◌≤◌, ◌<◌}
+use mathlib.Core.Logic.{◌⊎◌, inl, inr}
+use Prim.Native.Nat.{ℕ, ◌+◌, ◌-◌, ◌*◌, ◌≤◌, ◌<◌}
 use native.Mathlib.Omega.{arith}
-use lib.Dec.{eqb}
+use lib.Dec.{eqb, ltb}
 use lib.ListN.{length}
-use borrow.Author.Tests.{eqb-false, ne_eqb, le-leb, leb-false}
+use borrow.Author.Tests.{eqb-false, ne_eqb, ltb-true, le-leb, leb-false}
 use Rattle.lists.proofs.Choice.{chosen}
-use Rattle.limits.specs.Limits.{literal_count, last_literal, line_limit}
+use Rattle.limits.specs.Limits.{literal_count, last_literal, place_count, line_limit}
 use Rattle.cards.specs.Heads.{no_edition, rule_head, after_head}
-use Rattle.cards.specs.Numbers.{has_prefix, Listed, parameters_of, count_of}
+use Rattle.cards.specs.Numbers.{has_prefix, Listed, parameters_of, count_of, cards_of}
 use Rattle.cards.specs.Numbers.Listed.{are, broken}
 use Rattle.cards.specs.Ticks.{tick_length, tick_line}
 use Rattle.cards.specs.Lines.{over_long}
 use Rattle.cards.specs.Heads.{head_refusal, tick_refusal}
-use Rattle.cards.specs.Says.{Says, stage_at, is_over, broken_by, edition_of, edition_says, parameters_say, count_says}
-use Rattle.cards.specs.Says.{tick_says, says_in, line_says, stage_after, end_in, end_says}
-use Rattle.cards.specs.Says.Says.{edition, parameters, rule, count, tick, refused, nothing}
+use Rattle.cards.specs.Says.{Says, first_stage, is_over, broken_by, edition_of, edition_says, first_says}
+use Rattle.cards.specs.Says.{parameters_say, count_says, tick_says, says_in, line_says, stage_after, end_in, end_says}
+use Rattle.cards.specs.Says.Says.{cards, edition, parameters, rule, count, tick, refused, nothing}
 use Rattle.cards.specs.declared.Phase.{Phase}
 use Rattle.cards.specs.declared.Phase.TheVariants as P
 use Rattle.cards.specs.declared.Stage.{Stage}
@@ -27,14 +28,15 @@ use Rattle.cards.specs.declared.Count.TheVariants as K
 use Rattle.cards.specs.declared.TickLine.{TickLine}
 use Rattle.cards.specs.declared.TickLine.TheVariants as T
 use Rattle.cards.proofs.Numbers.{prefix-long}
-use Rattle.cards.proofs.Sized.{CountLow, count_low}
+use Rattle.cards.proofs.Sized.{CountLow, count_low, CardsLow, cards-low}
 use Rattle.cards.proofs.Ticks.{ticked, ticked-long}
 
 -- ---- in which stage a line says what it says
 
 -- A line of n bytes says so in phase p, where so many ticks are left.
 abbrev pub Follows : Phase → ℕ → ℕ → Says → Type 0
-Follows p left n (edition e) = p ≡ P.Edition
+Follows p left n (cards m) = (p ≡ P.First) × (1 ≤ m) × (m ≤ place_count)
+Follows p left n (edition e) = (p ≡ P.First) ⊎ (p ≡ P.Edition)
 Follows p left n (parameters ps) = p ≡ P.Parameters
 Follows p left n (rule text) = (p ≡ P.Rule) × (length rule_head ≤ n)
 Follows p left n (count k) = (p ≡ P.Count) × (k < literal_count)
@@ -43,6 +45,7 @@ Follows p left n (refused r) = is_over p ≡ false
 Follows p left n nothing = p ≡ P.Over
 
 broken-follows : (p : Phase) (left n : ℕ) → Follows p left n (broken_by p)
+broken-follows P.First left n = refl
 broken-follows P.Edition left n = refl
 broken-follows P.Parameters left n = refl
 broken-follows P.Rule left n = refl
@@ -50,9 +53,15 @@ broken-follows P.Count left n = refl
 broken-follows P.Ticks left n = refl
 broken-follows P.Over left n = refl
 
-edition-follows : (e left n : ℕ) → Follows P.Edition left n (edition_says e)
-edition-follows e left n =
-    chosen (Follows P.Edition left n) (eqb e no_edition) (λ _. refl) (λ _. refl)
+edition-follows : (p : Phase) (known e left n : ℕ) → (p ≡ P.First) ⊎ (p ≡ P.Edition) → is_over p ≡ false
+    → Follows p left n (edition_says known e)
+edition-follows p known e left n h o =
+    let S = Follows p left n in
+    chosen S (eqb e no_edition) (λ _. o) (λ _. chosen S (eqb known no_edition || eqb e known) (λ _. h) (λ _. o))
+
+first-follows : (k : Count) (l : List ℕ) (left n : ℕ) → CardsLow k → Follows P.First left n (first_says k l)
+first-follows (K.Is m) l left n h = (refl, h.0, h.1)
+first-follows K.Broken l left n h = edition-follows P.First no_edition (edition_of l) left n (inl refl) refl
 
 parameters-follow : (l : Listed) (left n : ℕ) → Follows P.Parameters left n (parameters_say l)
 parameters-follow (are ps) left n = refl
@@ -76,7 +85,8 @@ module _ (velocities : ℕ) where
   tick-follows l e left T.Broken false q h = refl
 
   in-follows : (p : Phase) (e left : ℕ) (l : List ℕ) → Follows p left (length l) (says_in velocities p e left l)
-  in-follows P.Edition e left l = edition-follows (edition_of l) left (length l)
+  in-follows P.First e left l = first-follows (cards_of l) l left (length l) (cards-low l)
+  in-follows P.Edition e left l = edition-follows P.Edition e (edition_of l) left (length l) (inr refl) refl
   in-follows P.Parameters e left l = parameters-follow (parameters_of l) left (length l)
   in-follows P.Rule e left l = rule-follows l left (has_prefix rule_head l) refl
   in-follows P.Count e left l = count-follows (count_of l) left (length l) (count_low l)
@@ -108,6 +118,7 @@ module _ (velocities : ℕ) (k : Stage) (l : List ℕ) where
   over-says e = over-split (over_long l) refl e
 
 pub is-over : (p : Phase) → is_over p ≡ true → p ≡ P.Over
+is-over P.First e = absurd (false≢true e)
 is-over P.Edition e = absurd (false≢true e)
 is-over P.Parameters e = absurd (false≢true e)
 is-over P.Rule e = absurd (false≢true e)
@@ -117,6 +128,7 @@ is-over P.Over e = refl
 
 -- After a byte with no line end, the end of the input is a broken line.
 end-in : (p : Phase) (left n : ℕ) → 0 < n → end_in p left n ≡ broken_by p
+end-in P.First left n h = refl
 end-in P.Edition left n h = refl
 end-in P.Parameters left n h = refl
 end-in P.Rule left n h = refl
@@ -133,48 +145,61 @@ end-broken k n h = end-in k.phase k.left n h
 
 -- ---- the lines that may still come
 
--- How many lines may still come, with the one that ends the card: the ticks are fewer than 1,000,000.
-abbrev rank_in : Phase → ℕ → ℕ
-rank_in P.Edition left = literal_count + 4
-rank_in P.Parameters left = literal_count + 3
-rank_in P.Rule left = literal_count + 2
-rank_in P.Count left = literal_count + 1
-rank_in P.Ticks left = left + 1
-rank_in P.Over left = 0
+-- The most lines that a card can have, with the one that ends it: the number of rules, three lines for each, the number
+-- of ticks, and fewer than 1,000,000 ticks.
+abbrev pub most_lines : ℕ
+most_lines = literal_count + 2 + 3 * place_count
+
+-- How many lines may still come, with the one that ends the card, where so many rules come after the present one.
+abbrev rank_in : Phase → ℕ → ℕ → ℕ
+rank_in P.First more left = most_lines + 3 * more
+rank_in P.Edition more left = literal_count + 4 + 3 * more
+rank_in P.Parameters more left = literal_count + 3 + 3 * more
+rank_in P.Rule more left = literal_count + 2 + 3 * more
+rank_in P.Count more left = literal_count + 1
+rank_in P.Ticks more left = left + 1
+rank_in P.Over more left = 0
 
 unfoldable pub rank : Stage → ℕ
-rank k = rank_in k.phase k.left
+rank k = rank_in k.phase (k.cards - k.place) k.left
 
-pub rank-first : (e left : ℕ) → rank (stage_at P.Edition e left) ≡ literal_count + 4
+pub rank-first : rank first_stage ≡ most_lines
 unfolding rank
-rank-first e left = refl
+rank-first = refl
 
 -- Where the card is not over, a line more may come.
-in-positive : (p : Phase) (left : ℕ) → is_over p ≡ false → 0 < rank_in p left
-in-positive P.Edition left e = omega arith
-in-positive P.Parameters left e = omega arith
-in-positive P.Rule left e = omega arith
-in-positive P.Count left e = omega arith
-in-positive P.Ticks left e = omega arith
-in-positive P.Over left e = absurd (false≢true (sym e))
+in-positive : (p : Phase) (more left : ℕ) → is_over p ≡ false → 0 < rank_in p more left
+in-positive P.First more left e = omega arith
+in-positive P.Edition more left e = omega arith
+in-positive P.Parameters more left e = omega arith
+in-positive P.Rule more left e = omega arith
+in-positive P.Count more left e = omega arith
+in-positive P.Ticks more left e = omega arith
+in-positive P.Over more left e = absurd (false≢true (sym e))
 
 pub rank-positive : (k : Stage) → is_over k.phase ≡ false → 0 < rank k
 unfolding rank
-rank-positive k e = in-positive k.phase k.left e
+rank-positive k e = in-positive k.phase (k.cards - k.place) k.left e
 
 -- A line leaves fewer, unless the card is over after it.
 fewer-in : (k : Stage) (n : ℕ) (s : Says) → Follows k.phase k.left n s
     → is_over (stage_after k s).phase ≡ false → rank (stage_after k s) + 1 ≤ rank k
 unfolding rank
-fewer-in k n (edition e) h o = rw h (omega arith)
+fewer-in k n (cards m) h o = rw h.0 (omega (arith, h.2))
+fewer-in k n (edition e) (inl h) o = rw h (omega arith)
+fewer-in k n (edition e) (inr h) o = rw h (omega arith)
 fewer-in k n (parameters ps) h o = rw h (omega arith)
-fewer-in k n (rule text) h o = rw h.0 (omega arith)
+fewer-in k n (rule text) h o =
+    rw h.0
+    (chosen (λ (s : Stage). rank s + 1 ≤ literal_count + 2 + 3 * (k.cards - k.place)) (ltb k.place k.cards)
+    (λ e. omega (arith, ltb-true k.place k.cards e)) (λ _. omega arith))
 fewer-in k n (count m) h o = rw h.0 (omega (arith, h.1))
 fewer-in k n (tick start signals velocity) h o = rw h.0 (omega (arith, h.1))
 fewer-in k n (refused r) h o = absurd (false≢true (sym o))
 fewer-in k n nothing h o = absurd (false≢true (sym o))
 
 long-over : (k : Stage) (p : Phase) → is_over (stage_after k (broken_by p)).phase ≡ true
+long-over k P.First = refl
 long-over k P.Edition = refl
 long-over k P.Parameters = refl
 long-over k P.Rule = refl

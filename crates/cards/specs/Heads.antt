@@ -11,7 +11,7 @@ editions = 1 ∷ 2 ∷ []
 abbrev pub IsEdition : ℕ → Type 0
 IsEdition e = Memᴰ e editions
 
--- the whole first line of one, whose number is a digit,
+-- the whole line of one, whose number is a digit,
 abbrev pub edition_line : ℕ → List ℕ
 edition_line e = bytes "edition=" ++ (digit e ∷ [])
 
@@ -21,6 +21,10 @@ plain_edition = 1
 
 abbrev pub no_edition : ℕ
 no_edition = 0
+
+-- SPEC 17.3: how the first line of a set's card begins.
+abbrev pub cards_head : List ℕ
+cards_head = bytes "cards="
 
 -- How the other three lines before the ticks begin (SPEC 10.3, SPEC 10.4, SPEC 10.5).
 abbrev pub parameters_head : List ℕ
@@ -36,8 +40,8 @@ count_head = bytes "ticks="
 abbrev pub after_head : List ℕ → List ℕ → List ℕ
 after_head head l = drop (length head) l
 
--- SPEC 10.7: which refusal a line gets that fails. 17 is for the four first lines (SPEC 7.17), 18 for the others and
--- for bytes behind them (SPEC 7.18).
+-- SPEC 10.7: which refusal a line gets that fails. 17 is for the lines up to that of the number of ticks (SPEC 7.17),
+-- 18 for the others and for bytes behind them (SPEC 7.18).
 abbrev pub head_refusal : ℕ
 head_refusal = 17
 

@@ -1,10 +1,11 @@
--- Decimal numbers on a card, and the lines `k=` (SPEC 10.3) and `ticks=` (SPEC 10.5). Definitions only.
+-- Decimal numbers on a card, and the lines `k=` (SPEC 10.3), `ticks=` (SPEC 10.5) and `cards=` (SPEC 17.3). Definitions
+-- only.
 use Rattle.std.specs.Prelude.{Bool, true, false, cond, List, [], ◌∷◌, ◌++◌, ℕ, zero, suc, ◌-◌, eqb}
-use Rattle.limits.specs.Limits.{last_literal, parameter_count}
+use Rattle.limits.specs.Limits.{last_literal, parameter_count, place_count}
 use Rattle.lists.specs.Text.{byte}
 use Rattle.lists.specs.Decimal.{Numeral, numeral}
 use Rattle.lists.specs.Decimal.Numeral.{is, above, missing}
-use Rattle.cards.specs.Heads.{parameters_head, count_head, after_head}
+use Rattle.cards.specs.Heads.{cards_head, parameters_head, count_head, after_head}
 use Rattle.cards.specs.declared.Count.{Count}
 use Rattle.cards.specs.declared.Count.TheVariants as K
 
@@ -72,3 +73,13 @@ wholly (done v (b ∷ l)) = K.Broken
 -- SPEC 10.5: how many ticks follow.
 unfoldable pub count_of : List ℕ → Count
 count_of l = cond (has_prefix count_head l) (wholly (number last_literal (after_head count_head l))) K.Broken
+
+-- A number that is not 0.
+unfoldable pub not_nought : Count → Count
+not_nought (K.Is m) = cond (eqb m 0) K.Broken (K.Is m)
+not_nought K.Broken = K.Broken
+
+-- SPEC 17.3: how many rules a set has.
+unfoldable pub cards_of : List ℕ → Count
+cards_of l =
+    cond (has_prefix cards_head l) (not_nought (wholly (number place_count (after_head cards_head l)))) K.Broken

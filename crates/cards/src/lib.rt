@@ -1,24 +1,27 @@
-// Cards: what a line of a card says. A light machine over bytes: which line comes next, how many ticks are left, and
-// for each line what it says or its refusal. No table, no state and no step is in it; the definition is `line_says` in
-// specs/Says.antt.
+// Cards: what a line of a card says. A light machine over bytes: which line comes next, of which rule, how many ticks
+// are left, and for each line what it says or its refusal. No table, no state and no step is in it; the definition is
+// `line_says` in specs/Says.antt.
 #![tactic(auto)]
 
 mod decimals;
 
-ghost use Rattle.std.specs.Prelude.{◌≡◌, List, ℕ, drop, replicate};
-ghost use Rattle.limits.specs.Limits.{last_literal, parameter_count};
+ghost use Rattle.std.specs.Prelude.{◌≡◌, List, ℕ, ◌≤◌, ◌<◌, drop, replicate};
+ghost use Rattle.limits.specs.Limits.{parameter_count, place_count};
 ghost use Rattle.cards.specs.Heads.{plain_edition};
-ghost use Rattle.cards.specs.Numbers.{number, parameters_of, wholly, count_of};
+ghost use Rattle.cards.specs.Numbers.{number, parameters_of, wholly, count_of, cards_of};
 ghost use Rattle.cards.specs.Ticks.{hex_of, plain_tick, velocity_in, struck_tick, tick_line};
 ghost use Rattle.cards.specs.Place.{hex_table, ReadsAs, tick_at};
-ghost use Rattle.cards.specs.Says.{edition_of, edition_says, parameters_say, count_says, tick_in, says_by, broken_by};
-ghost use Rattle.cards.specs.Says.{line_says};
-ghost use Rattle.cards.specs.Says.{end_says, stage_at, stage_after, first_stage, is_over};
+ghost use Rattle.cards.specs.Says.{edition_of, edition_says, first_says, parameters_say, count_says, tick_in, says_by};
+ghost use Rattle.cards.specs.Says.{broken_by, line_says, end_says};
+ghost use Rattle.cards.specs.Says.{stage_at, stage_after, first_stage, over_stage, slot_of, cards_in, is_over};
 
 use decimals::Number;
 
 // The place of the last parameter.
 const LAST: usize = limits::PARAMETERS - 1;
+
+// The most rules that a set has (SPEC 17.1).
+const CARDS: u32 = limits::PLACES as u32;
 
 // The bytes of a tick line with no velocity, its byte 10 not counted.
 const TICK_LINE: usize = 20;
@@ -26,13 +29,16 @@ const TICK_LINE: usize = 20;
 // How many values a byte has.
 pub const BYTES: usize = 256;
 
-// No edition is known: before the first line, and once the card is over.
+// No edition is known: before the first edition's line, and once the card is over.
 pub const NO_EDITION: u32 = 0;
 
 // The edition whose tick lines have no velocity (SPEC 10.6).
 const PLAIN_EDITION: u32 = 1;
 
-// The first line of each edition (SPEC 10.2), and how the next three begin (SPEC 10.3, SPEC 10.4, SPEC 10.5).
+// How the first line of a set's card begins (SPEC 17.3), the line of each edition (SPEC 10.2), and how the next three
+// begin (SPEC 10.3, SPEC 10.4, SPEC 10.5).
+const CARDS_HEAD: [u8; 6] = *b"cards=";
+
 const EDITION_1: [u8; 9] = *b"edition=1";
 
 const EDITION_2: [u8; 9] = *b"edition=2";
@@ -43,12 +49,12 @@ pub const RULE_HEAD: [u8; 6] = *b"watch=";
 
 const COUNT_HEAD: [u8; 6] = *b"ticks=";
 
-// SPEC 10.7: the refusal of one of the four first lines, and of one after them.
+// SPEC 10.7: the refusal of one of the lines up to that of the number of ticks, and of one after them.
 const HEAD_REFUSAL: u32 = 17;
 
 const TICK_REFUSAL: u32 = 18;
 
-// A number that ends a line: how many ticks there are, and in the definitions a velocity.
+// A number that ends a line: how many ticks there are, or rules, and in the definitions a velocity.
 #[derive(Clone, Copy)]
 pub enum Count {
     Is(u32),
@@ -69,9 +75,10 @@ pub enum TickFound {
     Broken,
 }
 
-// Which line comes next.
+// Which line comes next: the first line of the card, which has the number of rules or the edition, or another one.
 #[derive(Clone, Copy)]
 pub enum Phase {
+    First,
     Edition,
     Parameters,
     Rule,
@@ -80,17 +87,21 @@ pub enum Phase {
     Over,
 }
 
-// The line that comes next, the card's edition, and the ticks that are left.
+// The line that comes next, the card's edition, the place of the rule whose lines come, how many rules there are, and
+// the ticks that are left.
 #[derive(Clone, Copy)]
 pub struct Stage {
     pub phase: Phase,
     pub edition: u32,
+    pub place: u32,
+    pub cards: u32,
     pub left: u32,
 }
 
 // What a line says. The parameters stand beside it (`LineRead`), and the rule text is a part of the line.
 #[derive(Clone, Copy)]
 pub enum Content {
+    Cards(u32),
     Edition(u32),
     Parameters,
     Rule,
@@ -153,11 +164,11 @@ fn parameters_line(s: &[u8]) -> LineRead
     }
 }
 
-// The number from a place up to the line's end.
-fn last_number(s: &[u8], from: usize) -> Count
-    ensures { result ≡ wholly (number last_literal (drop from s.now)) }
+// The number from a place up to the line's end, up to a highest one.
+fn last_number(s: &[u8], from: usize, max: u32) -> Count
+    ensures { result ≡ wholly (number max (drop from s.now)) }
 {
-    let Number::Is { value, next } = decimals::decimal_at(s, from, limits::LAST_LITERAL) else {
+    let Number::Is { value, next } = decimals::decimal_at(s, from, max) else {
         return Count::Broken;
     };
     if next < s.len() {
@@ -173,7 +184,23 @@ fn count_line(s: &[u8]) -> Count
     if !decimals::has_prefix(s, &COUNT_HEAD) {
         return Count::Broken;
     }
-    last_number(s, COUNT_HEAD.len())
+    last_number(s, COUNT_HEAD.len(), limits::LAST_LITERAL)
+}
+
+// SPEC 17.3: the line of the number of rules.
+fn cards_line(s: &[u8]) -> Count
+    ensures { result ≡ cards_of s.now }
+{
+    if !decimals::has_prefix(s, &CARDS_HEAD) {
+        return Count::Broken;
+    }
+    let Count::Is(m) = last_number(s, CARDS_HEAD.len(), CARDS) else {
+        return Count::Broken;
+    };
+    if m == 0 {
+        return Count::Broken;
+    }
+    Count::Is(m)
 }
 
 // The value of each byte as a hexadecimal digit of SPEC 10.6, 16 where it is none. It is made once for all tick lines
@@ -287,7 +314,7 @@ fn tick_line(hex: &[u8; BYTES], velocities: u32, edition: u32, s: &[u8]) -> Tick
     struck_line(hex, velocities, s)
 }
 
-// SPEC 10.2: which edition's line the first line is.
+// SPEC 10.2: which edition's line a line is.
 fn edition_of(s: &[u8]) -> u32
     ensures { result ≡ edition_of s.now }
 {
@@ -364,6 +391,7 @@ pub fn broken(p: Phase) -> Content
     ensures { (ps l : List ℕ) → says_by result ps l ≡ broken_by p }
 {
     match p {
+        Phase::First => Content::Refused(HEAD_REFUSAL),
         Phase::Edition => Content::Refused(HEAD_REFUSAL),
         Phase::Parameters => Content::Refused(HEAD_REFUSAL),
         Phase::Rule => Content::Refused(HEAD_REFUSAL),
@@ -373,15 +401,32 @@ pub fn broken(p: Phase) -> Content
     }
 }
 
-// What the first line says.
-fn edition_content(s: &[u8]) -> Content
-    ensures { (ps l : List ℕ) → says_by result ps l ≡ edition_says (edition_of s.now) }
+// What an edition's line says where an edition is known, or none is.
+fn edition_content(known: u32, s: &[u8]) -> Content
+    ensures { (ps l : List ℕ) → says_by result ps l ≡ edition_says known (edition_of s.now) }
 {
     let edition = edition_of(s);
     if edition == NO_EDITION {
         return Content::Refused(HEAD_REFUSAL);
     }
+    if known == NO_EDITION {
+        return Content::Edition(edition);
+    }
+    if edition != known {
+        return Content::Refused(HEAD_REFUSAL);
+    }
     Content::Edition(edition)
+}
+
+// What the first line says: how many rules there are, or, on a card of one rule, the edition.
+fn first_content(s: &[u8]) -> Content
+    ensures { (ps l : List ℕ) → says_by result ps l ≡ first_says (cards_of s.now) s.now }
+{
+    let k = cards_line(s);
+    match k {
+        Count::Broken => edition_content(NO_EDITION, s),
+        Count::Is(m) => Content::Cards(m),
+    }
 }
 
 // What the line `ticks=` says.
@@ -420,7 +465,8 @@ pub fn read_line(velocities: u32, stage: Stage, s: &[u8]) -> LineRead
         return plain(broken(phase));
     }
     match phase {
-        Phase::Edition => plain(edition_content(s)),
+        Phase::First => plain(first_content(s)),
+        Phase::Edition => plain(edition_content(stage.edition, s)),
         Phase::Parameters => parameters_line(s),
         Phase::Rule => {
             if decimals::has_prefix(s, &RULE_HEAD) {
@@ -434,14 +480,36 @@ pub fn read_line(velocities: u32, stage: Stage, s: &[u8]) -> LineRead
     }
 }
 
-fn stage_at(phase: Phase, edition: u32, left: u32) -> Stage
-    ensures { result ≡ stage_at phase edition left }
+fn stage_at(phase: Phase, edition: u32, place: u32, cards: u32, left: u32) -> Stage
+    ensures { result ≡ stage_at phase edition place cards left }
 {
     Stage {
         phase,
         edition,
+        place,
+        cards,
         left,
     }
+}
+
+// The stage after a rule: the lines of the next one come, or the number of ticks after the last (SPEC 17.3).
+fn after_rule(stage: Stage) -> Stage
+    ensures { (ps l : List ℕ) → result ≡ stage_after stage (says_by Content.Rule ps l) }
+{
+    let edition = stage.edition;
+    let place = stage.place;
+    let cards = stage.cards;
+    if place < cards {
+        return stage_at(Phase::Edition, edition, place + 1, cards, 0);
+    }
+    stage_at(Phase::Count, edition, place, cards, 0)
+}
+
+// Once the card is over.
+fn over_stage() -> Stage
+    ensures { result ≡ over_stage }
+{
+    stage_at(Phase::Over, NO_EDITION, limits::LONE, 1, 0)
 }
 
 // The stage after a line, with the one before it.
@@ -449,20 +517,23 @@ pub fn stage_after(stage: Stage, content: Content) -> Stage
     ensures { (ps l : List ℕ) → result ≡ stage_after stage (says_by content ps l) }
 {
     let edition = stage.edition;
+    let place = stage.place;
+    let cards = stage.cards;
     let left = stage.left;
     match content {
-        Content::Edition(e) => stage_at(Phase::Parameters, e, 0),
-        Content::Parameters => stage_at(Phase::Rule, edition, 0),
-        Content::Rule => stage_at(Phase::Count, edition, 0),
-        Content::Count(k) => stage_at(Phase::Ticks, edition, k),
+        Content::Cards(m) => stage_at(Phase::Edition, NO_EDITION, limits::LONE, m, 0),
+        Content::Edition(e) => stage_at(Phase::Parameters, e, place, cards, 0),
+        Content::Parameters => stage_at(Phase::Rule, edition, place, cards, 0),
+        Content::Rule => after_rule(stage),
+        Content::Count(k) => stage_at(Phase::Ticks, edition, place, cards, k),
         Content::Tick(start, signals, velocity) => {
             if left == 0 {
-                return stage_at(Phase::Ticks, edition, 0);
+                return stage_at(Phase::Ticks, edition, place, cards, 0);
             }
-            stage_at(Phase::Ticks, edition, left - 1)
+            stage_at(Phase::Ticks, edition, place, cards, left - 1)
         }
-        Content::Refused(r) => stage_at(Phase::Over, NO_EDITION, 0),
-        Content::Nothing => stage_at(Phase::Over, NO_EDITION, 0),
+        Content::Refused(r) => over_stage(),
+        Content::Nothing => over_stage(),
     }
 }
 
@@ -483,6 +554,7 @@ pub fn end(stage: Stage, n: usize) -> Content
             Content::Refused(TICK_REFUSAL)
         }
         Phase::Over => Content::Nothing,
+        Phase::First => Content::Refused(HEAD_REFUSAL),
         Phase::Edition => Content::Refused(HEAD_REFUSAL),
         Phase::Parameters => Content::Refused(HEAD_REFUSAL),
         Phase::Rule => Content::Refused(HEAD_REFUSAL),
@@ -494,7 +566,32 @@ pub fn end(stage: Stage, n: usize) -> Content
 pub fn first_stage() -> Stage
     ensures { result ≡ first_stage }
 {
-    stage_at(Phase::Edition, NO_EDITION, 0)
+    stage_at(Phase::First, NO_EDITION, limits::LONE, 1, 0)
+}
+
+// How many rules there are before the one whose lines come, within the limit.
+pub fn slot(stage: Stage) -> usize
+    ensures { (result ≡ slot_of stage) × (result < place_count) }
+{
+    let place = stage.place as usize;
+    if place == 0 {
+        return 0;
+    }
+    if limits::PLACES < place {
+        return limits::PLACES - 1;
+    }
+    place - 1
+}
+
+// How many rules there are in all, within the limit.
+pub fn card_count(stage: Stage) -> usize
+    ensures { (result ≡ cards_in stage) × (result ≤ place_count) }
+{
+    let cards = stage.cards as usize;
+    if limits::PLACES < cards {
+        return limits::PLACES;
+    }
+    cards
 }
 
 // Whether nothing more is said.
@@ -502,6 +599,7 @@ pub fn is_over(phase: Phase) -> bool
     ensures { result ≡ is_over phase }
 {
     match phase {
+        Phase::First => false,
         Phase::Edition => false,
         Phase::Parameters => false,
         Phase::Rule => false,

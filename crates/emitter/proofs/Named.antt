@@ -14,21 +14,21 @@ use Rattle.traces.specs.Trace.{truth, nonzero}
 use Rattle.traces.specs.Compare.{op_number}
 use Rattle.traces.specs.declared.Op.TheVariants.{Below as lt}
 use Rattle.formulas.specs.Formula.{Prop, Test, Count, Formula}
-use Rattle.formulas.specs.Formula.Prop.{constant, signal, velocity, neg_p, and_p, or_p}
+use Rattle.formulas.specs.Formula.Prop.{constant, signal, velocity, earlier, neg_p, and_p, or_p}
 use Rattle.formulas.specs.Formula.Test.{begin, end, point, held, kept}
 use Rattle.formulas.specs.Formula.Count.{sum, age}
 use Rattle.formulas.specs.Formula.Formula.{test, len, count, lag, neg, and, or, then}
 use Rattle.formulas.specs.Arena.{CONSTANT, SIGNAL, NOT, AND, OR, TEST, LEN, COUNT, RUN, FINE, ALWAYS, LEAD-END, THEN}
-use Rattle.formulas.specs.Arena.{VELOCITY, test_number, count_number, num_kind, num_value, row, flat}
+use Rattle.formulas.specs.Arena.{VELOCITY, EARLIER, test_number, count_number, num_kind, num_value, row, flat}
 use Rattle.formulas.proofs.Formulas.{raw_p, raw}
 use Rattle.tables.specs.Kind as tables
 use Rattle.tables.specs.Table.{Equation, equation}
 use Rattle.scheme.specs.Emit.{named_by_p, named_by, tests_p, tests_of}
-use Rattle.emitter.specs.Machine.{marked, marks, tests_in}
+use Rattle.emitter.specs.Machine.{record_of, marked, marks, test_of, tests_in}
 
 -- A record of this kind is no leaf's that the table's head has a part of.
 abbrev Other : ℕ → Type 0
-Other k = (eqb k SIGNAL ≡ false) × (eqb k VELOCITY ≡ false)
+Other k = (eqb k SIGNAL ≡ false) × (eqb k VELOCITY ≡ false) × (eqb k EARLIER ≡ false)
 
 -- The records l mark the signals of ν and have the tests ts, whatever records follow: `on` are the marks then.
 record Leaves (l : List ℕ) (ν : ℕ → Bool) (ts : List Equation) : Type 0 where
@@ -46,7 +46,7 @@ record Passed (l : List ℕ) : Type 0 where
 
 passed : (k a b c : ℕ) → Other k → Passed (row k a b c)
 unfolding marks marked tests_in
-passed k a b c e = record { marks-left = λ r named. rw e.0; tests_left = λ r. rw e.1 }
+passed k a b c e = record { marks-left = λ r named. rw e.0; tests_left = λ r. rw (e.1, e.2) }
 
 other : (k a b c : ℕ) → Other k → Leaves (row k a b c) (λ j. false) []
 other k a b c e =
@@ -76,16 +76,17 @@ of-signal i =
       tests = λ r. refl;
     }
 
--- a velocity test's has its test,
-of-velocity : (a b : ℕ) → Leaves (row VELOCITY a b 0) (λ j. false) (equation tables.VELOCITY a b 0 ∷ [])
+-- that of a velocity test or of an earlier rule's verdict has its test,
+of_test : (k a b : ℕ) (e : Equation) → eqb k SIGNAL ≡ false → test_of (record_of k a b 0) ≡ e ∷ []
+    → Leaves (row k a b 0) (λ j. false) (e ∷ [])
 unfolding marks marked tests_in
-of-velocity a b =
+of_test k a b e other is =
     record {
       on = λ named. named;
-      left = λ r named. refl;
+      left = λ r named. rw other;
       long = λ named. refl;
       adds = λ named j h. refl;
-      tests = λ r. refl;
+      tests = λ r. ap (λ (ts : List Equation). ts ++ tests_in r) is;
     }
 
 -- and records after others have both.
@@ -161,24 +162,25 @@ both-props p q k e g h =
     (after-prop q k 0 0 0 e h)
 
 leaves-prop : (p : Prop) → LeavesP p
-leaves-prop (constant c) = other CONSTANT (truth c) 0 0 (refl, refl)
+leaves-prop (constant c) = other CONSTANT (truth c) 0 0 (refl, refl, refl)
 leaves-prop (signal i) = of-signal i
-leaves-prop (velocity o n) = of-velocity (op_number o) n
-leaves-prop (neg_p p) = after-prop p NOT 0 0 0 (refl, refl) (leaves-prop p)
-leaves-prop (and_p p q) = both-props p q AND (refl, refl) (leaves-prop p) (leaves-prop q)
-leaves-prop (or_p p q) = both-props p q OR (refl, refl) (leaves-prop p) (leaves-prop q)
+leaves-prop (velocity o n) = of_test VELOCITY (op_number o) n _ refl refl
+leaves-prop (earlier j) = of_test EARLIER j 0 _ refl refl
+leaves-prop (neg_p p) = after-prop p NOT 0 0 0 (refl, refl, refl) (leaves-prop p)
+leaves-prop (and_p p q) = both-props p q AND (refl, refl, refl) (leaves-prop p) (leaves-prop q)
+leaves-prop (or_p p q) = both-props p q OR (refl, refl, refl) (leaves-prop p) (leaves-prop q)
 
 -- No test and no count has a leaf's kind.
 test-other : (k : Test) → Other (TEST + test_number k)
-test-other begin = (refl, refl)
-test-other end = (refl, refl)
-test-other point = (refl, refl)
-test-other held = (refl, refl)
-test-other kept = (refl, refl)
+test-other begin = (refl, refl, refl)
+test-other end = (refl, refl, refl)
+test-other point = (refl, refl, refl)
+test-other held = (refl, refl, refl)
+test-other kept = (refl, refl, refl)
 
 count-other : (k : Count) → Other (COUNT + count_number k)
-count-other sum = (refl, refl)
-count-other age = (refl, refl)
+count-other sum = (refl, refl, refl)
+count-other age = (refl, refl, refl)
 
 after-formula : (f : Formula) (k : ℕ) → Other k → LeavesOf f
     → Leaves (flat (raw f) ++ row k 0 0 0) (named_by f) (tests_of f)
@@ -193,31 +195,31 @@ both-formulas f g k e x y =
 
 leaves-formula : (f : Formula) → LeavesOf f
 leaves-formula (test k p) = after-prop p (TEST + test_number k) 0 0 0 (test-other k) (leaves-prop p)
-leaves-formula (len o n) = other LEN (op_number o) (num_kind n) (num_value n) (refl, refl)
+leaves-formula (len o n) = other LEN (op_number o) (num_kind n) (num_value n) (refl, refl, refl)
 leaves-formula (count k p o n) =
     after-prop p (COUNT + count_number k) (op_number o) (num_kind n) (num_value n) (count-other k) (leaves-prop p)
 leaves-formula (lag p n q) =
     let always : List ℕ = row ALWAYS 0 0 0 in
     let closing : List ℕ = row FINE (op_number lt) (num_kind n) (num_value n) ++ always in
-    let fine-passed = passed FINE (op_number lt) (num_kind n) (num_value n) (refl, refl) in
-    let always-passed = passed ALWAYS 0 0 0 (refl, refl) in
+    let fine-passed = passed FINE (op_number lt) (num_kind n) (num_value n) (refl, refl, refl) in
+    let always-passed = passed ALWAYS 0 0 0 (refl, refl, refl) in
     let none : Passed closing = record {
       marks-left = λ r named. fine-passed.marks-left (always ++ r) named ∙ always-passed.marks-left r named;
       tests_left = λ r. fine-passed.tests_left (always ++ r) ∙ always-passed.tests_left r;
     } in
     let rest : List ℕ = flat (raw_p q) ++ closing in
     both (flat (raw_p p)) (row RUN 0 0 0 ++ rest) (named_by_p p) (named_by_p q) (tests_p p) (tests_p q) (leaves-prop p)
-    (record-before rest (named_by_p q) (tests_p q) RUN 0 0 0 (refl, refl)
+    (record-before rest (named_by_p q) (tests_p q) RUN 0 0 0 (refl, refl, refl)
     (records-after (flat (raw_p q)) (named_by_p q) (tests_p q) closing none (leaves-prop q)))
-leaves-formula (neg f) = after-formula f NOT (refl, refl) (leaves-formula f)
-leaves-formula (and f g) = both-formulas f g AND (refl, refl) (leaves-formula f) (leaves-formula g)
-leaves-formula (or f g) = both-formulas f g OR (refl, refl) (leaves-formula f) (leaves-formula g)
+leaves-formula (neg f) = after-formula f NOT (refl, refl, refl) (leaves-formula f)
+leaves-formula (and f g) = both-formulas f g AND (refl, refl, refl) (leaves-formula f) (leaves-formula g)
+leaves-formula (or f g) = both-formulas f g OR (refl, refl, refl) (leaves-formula f) (leaves-formula g)
 leaves-formula (then f g) =
     let rest : List ℕ = flat (raw g) ++ row THEN 0 0 0 in
     both (flat (raw f)) (row LEAD-END 0 0 0 ++ rest) (named_by f) (named_by g) (tests_of f) (tests_of g)
     (leaves-formula f)
-    (record-before rest (named_by g) (tests_of g) LEAD-END 0 0 0 (refl, refl)
-    (after-formula g THEN (refl, refl) (leaves-formula g)))
+    (record-before rest (named_by g) (tests_of g) LEAD-END 0 0 0 (refl, refl, refl)
+    (after-formula g THEN (refl, refl, refl) (leaves-formula g)))
 
 -- ---- the tests
 

@@ -8,7 +8,7 @@ use Rattle.traces.specs.Compare.{op_number}
 use Rattle.traces.specs.declared.Op.{Op}
 use Rattle.traces.specs.declared.Op.TheVariants.{Below as lt}
 use Rattle.formulas.specs.Formula.{Num, Prop, Test, Count, Formula}
-use Rattle.formulas.specs.Formula.Prop.{constant, signal, velocity, neg_p, and_p, or_p}
+use Rattle.formulas.specs.Formula.Prop.{constant, signal, velocity, earlier, neg_p, and_p, or_p}
 use Rattle.formulas.specs.Formula.Test.{begin, end, point, held, kept}
 use Rattle.formulas.specs.Formula.Count.{sum, age}
 use Rattle.formulas.specs.Formula.Formula.{test, len, count, lag, neg, and, or, then}
@@ -130,6 +130,7 @@ module _ (places : List ℕ) where
   run-prop (constant c) r s = refl
   run-prop (signal j) r s = refl
   run-prop (velocity o n) r s = refl
+  run-prop (earlier j) r s = refl
   run-prop (neg_p p) r s =
       one (flat (raw_p p)) (block_p p) (tests_p p) (run-prop p) NOT 0 0 0 r s ∙ not_done (block_p p s) (tests_p p) r s
   run-prop (and_p p q) r s =

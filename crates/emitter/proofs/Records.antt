@@ -10,7 +10,7 @@ use borrow.Author.Tests.{ne_eqb, le-leb, lt-leb}
 use lib.Dec.{eqb}
 use lib.ListN.{set, drop, length}
 use Rattle.lists.proofs.Fours.{four, short}
-use Rattle.formulas.specs.Arena.{SIGNAL, VELOCITY}
+use Rattle.formulas.specs.Arena.{SIGNAL, VELOCITY, EARLIER}
 use Rattle.tables.specs.Kind as tables
 use Rattle.tables.specs.Table.{Equation, equation}
 use Rattle.scheme.specs.Scheme.{widest}
@@ -161,11 +161,12 @@ tests-one l i h = ap tests_in (four l i h)
 
 -- A record has one test at most.
 test-near : (x : Record) (o : ℕ) → place_after o (test_of x) ≤ o + 1
-test-near x o = at_most (eqb x.kind VELOCITY)
+test-near x o = at_most _ _ (eqb x.kind VELOCITY) (eqb x.kind EARLIER)
   where
-    at_most : (b : Bool) → place_after o (cond b (equation tables.VELOCITY x.a x.b 0 ∷ []) []) ≤ o + 1
-    at_most true = omega arith
-    at_most false = omega arith
+    at_most : (e e' : Equation) (b b' : Bool) → place_after o (cond b (e ∷ []) (cond b' (e' ∷ []) [])) ≤ o + 1
+    at_most e e' true b' = omega arith
+    at_most e e' false true = omega arith
+    at_most e e' false false = omega arith
 
 -- The loop of `put_tests`: i numbers of the arena are passed, and the tests of the others give all.
 pub record Testing (arena t₀ : List ℕ) (o₀ : ℕ) (t : List ℕ) (o i : ℕ) : Type 0 where
@@ -206,9 +207,14 @@ pub put-velocity : (x : Record) (t : List ℕ) (o : ℕ) {t' : List ℕ} → x.k
     → t' ≡ with_equations t o (equation tables.VELOCITY x.a x.b 0 ∷ []) → Put (test_of x) t o t' (o + 1)
 put-velocity x t o e h = record { table = rw e h; next = rw (e, add-one o) }
 
-pub put_other : (x : Record) (t : List ℕ) (o : ℕ) → (x.kind ≡ VELOCITY → ⊥) → Put (test_of x) t o t o
-put_other x t o h =
+pub put-earlier : (x : Record) (t : List ℕ) (o : ℕ) {t' : List ℕ} → x.kind ≡ EARLIER
+    → t' ≡ with_equations t o (equation tables.EARLIER x.a 0 0 ∷ []) → Put (test_of x) t o t' (o + 1)
+put-earlier x t o e h = record { table = rw e h; next = rw (e, add-one o) }
+
+pub put_other : (x : Record) (t : List ℕ) (o : ℕ) → (x.kind ≡ VELOCITY → ⊥) → (x.kind ≡ EARLIER → ⊥)
+    → Put (test_of x) t o t o
+put_other x t o h g =
     record {
-      table = rw (ne_eqb x.kind VELOCITY h) (sym (equations-none t o));
-      next = rw (ne_eqb x.kind VELOCITY h);
+      table = rw (ne_eqb x.kind VELOCITY h, ne_eqb x.kind EARLIER g) (sym (equations-none t o));
+      next = rw (ne_eqb x.kind VELOCITY h, ne_eqb x.kind EARLIER g);
     }

@@ -7,7 +7,7 @@ use Rattle.std.proofs.lemmas.List.Edits.{sets}
 use Rattle.lists.specs.Number.{number_at}
 use Rattle.traces.specs.Trace.{nonzero}
 use Rattle.formulas.specs.Arena as arena
-use Rattle.tables.specs.Kind.{SIGNAL, VELOCITY}
+use Rattle.tables.specs.Kind.{SIGNAL, VELOCITY, EARLIER}
 use Rattle.tables.specs.Table.{Equation}
 use Rattle.limits.specs.Limits.{record_limit, signal_count}
 use Rattle.scheme.specs.Scheme.{◌⊕◌, Node, node_of, Values, value_named, comparison_of, filled}
@@ -141,11 +141,13 @@ settle (suc m) j h = settle m (suc j) (with_signal j h)
 abbrev pub headed : List ℕ → List ℕ → Header
 headed t named = settle signal_count 0 (header_of (with_equations t 0 start-es) named header_count)
 
--- ---- the velocity tests
+-- ---- the tests
 
--- A velocity test's record has an equation in the table's head, any other none.
+-- The records of a velocity test and of an earlier rule's verdict have an equation in the table's head, any other none.
 abbrev pub test_of : Record → List Equation
-test_of r = cond (eqb r.kind arena.VELOCITY) (equation VELOCITY r.a r.b 0 ∷ []) []
+test_of r =
+    cond (eqb r.kind arena.VELOCITY) (equation VELOCITY r.a r.b 0 ∷ [])
+    (cond (eqb r.kind arena.EARLIER) (equation EARLIER r.a 0 0 ∷ []) [])
 
 -- Those of all records, in their order.
 unfoldable pub tests_in : List ℕ → List Equation

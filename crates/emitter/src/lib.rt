@@ -1,8 +1,8 @@
 // The observer of a rule (SPEC 8.2, SPEC 12.3): first the table's head, which has the start flows, the signals that the
-// rule names and its velocity tests, and then one pass over the records of the rule's tree, operands first, as a stack
-// machine. A record's kind picks a node of the observer scheme (crate scheme), and the node's rows go to the table. The
-// passes as definitions are in specs/Machine.antt; that they give the observer's equations is what `emit_observer`
-// promises.
+// rule names and its tests (velocity tests and verdicts of earlier rules), and then one pass over the records of the
+// rule's tree, operands first, as a stack machine. A record's kind picks a node of the observer scheme (crate scheme),
+// and the node's rows go to the table. The passes as definitions are in specs/Machine.antt; that they give the
+// observer's equations is what `emit_observer` promises.
 #![tactic(auto)]
 
 ghost use Rattle.std.specs.Prelude.{◌≡◌, [], ◌∷◌, map, ◌≤◌, ◌<◌, ◌+◌, ◌-◌, set, length, take};
@@ -326,15 +326,20 @@ fn settle_all(table: &mut [u32], named: &mut [u32]) -> u32
     next
 }
 
-// ---- the velocity tests
+// ---- the tests
 
-// A velocity test's record puts its equation at the next place: the place after it.
+// The record of a velocity test or of an earlier rule's verdict puts its equation at the next place: the place after
+// it.
 fn put_test(table: &mut [u32], next: u32, x: Record) -> u32
     requires { next ≤ equation_limit }
     ensures { Put (test_of x) table.old next table.new result }
 {
     if x.kind == formulas::VELOCITY {
         put(table, next, tables::VELOCITY, x.a, x.b, 0);
+        return next + 1;
+    }
+    if x.kind == formulas::EARLIER {
+        put(table, next, tables::EARLIER, x.a, 0, 0);
         return next + 1;
     }
     next

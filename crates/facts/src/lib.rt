@@ -25,7 +25,7 @@ pub fn both(a: bool, b: bool) -> bool
     if a { b } else { false }
 }
 
-// The facts of `0`, `1`, a signal and a velocity test.
+// The facts of `0`, `1`, a signal, a velocity test and a verdict.
 pub fn leaf_facts() -> Facts
     ensures { result ≡ leaf_facts }
 {

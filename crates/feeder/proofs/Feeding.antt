@@ -16,7 +16,7 @@ use Rattle.cards.specs.declared.Phase.TheVariants as P
 use Rattle.lists.proofs.Lines.{line-short}
 use Rattle.cards.proofs.Lines.{one_line}
 use Rattle.player.specs.Card.{World, world_in, over_watch, over_world, Effect, lined}
-use Rattle.player.specs.Card.{broken_bytes, longest_output}
+use Rattle.player.specs.Card.{broken_bytes, longest_refusal}
 use Rattle.player.specs.Output.{output_bytes}
 use Rattle.feeder.specs.Feed.{Goes, Short, Room, fed_to, Runs, Feeds, fed_world, left_over, placed}
 use Rattle.feeder.specs.Feed.{tail_bytes, tail_fed}
@@ -34,7 +34,7 @@ pub record Between (w₀ : World) (b out₀ : List ℕ) (w : World) (out : List 
   pub rest : left_over b ≡ left_over (drop u b)
   pub within : u ≤ length b
   pub paid : at ≤ u + debt w.watch.stage.phase
-  pub room : length b + longest_output ≤ length out₀
+  pub room : length b + longest_refusal ≤ length out₀
   pub kept : drop at out ≡ drop at out₀
   pub same : length out ≡ length out₀
 

@@ -1,12 +1,12 @@
 -- Bytes that are moved down in a buffer, bytes that are placed in one, and a buffer that is lent from a place on.
 -- Assumes nothing.
 use mathlib.Core.Path.{◌≡◌, refl, ◌∙◌, sym, ap}
-use mathlib.Core.List.{List, [], ◌∷◌, ◌++◌}
+use mathlib.Core.List.{List, [], ◌∷◌, ◌++◌, append_assoc}
 use Prim.Native.Nat.{ℕ, zero, suc, ◌+◌, ◌-◌, ◌≤◌, ◌<◌}
 use native.Mathlib.Omega.{arith}
 use lib.ListN.{length, get_or, set, take, drop, length-drop, length-set, length-append, drop_of_length-le}
 use lib.Seq.{take-suc, take-suc-set, get_or-drop, drop-set-lt, drop-drop, paste, take-length, take_at}
-use lib.Seq.{length-take-le, take-nil, take_all, drop_at}
+use lib.Seq.{length-take-le, take-nil, take_all, drop_at, set_split}
 use Rattle.feeder.specs.Feed.{placed, shifted}
 use Rattle.cards.proofs.Lines.{append-nil}
 
@@ -100,6 +100,25 @@ length-placed out s at h =
     length-append (take at out ++ s) rest in
     let b = length-append (take at out) s in
     omega (arith, a, b, length-take-le at out (omega arith), length-drop (at + length s) out)
+
+-- Bytes that are placed after those that were placed,
+pub placed_on : (out s t : List ℕ) (at : ℕ) → at + length s ≤ length out
+    → placed (placed out at s) (at + length s) t ≡ placed out at (s ++ t)
+placed_on out s t at h =
+    let n = at + length s in
+    let all : n + length t ≡ at + length (s ++ t) = omega (arith, length-append s t) in
+    let back : drop (n + length t) (placed out at s) ≡ drop (at + length (s ++ t)) out =
+    sym (drop-drop (length t) n (placed out at s))
+    ∙ ap (λ (l : List ℕ). drop (length t) l) (drop-placed out s at h)
+    ∙ drop-drop (length t) n out
+    ∙ ap (λ (k : ℕ). drop k out) all in
+    rw (take-placed out s at h, back)
+    (ap (λ (l : List ℕ). l ++ drop (at + length (s ++ t)) out) (append_assoc (take at out) s t))
+
+-- and one byte that is stored.
+pub set-placed : (out : List ℕ) (at x : ℕ) → at < length out → set out at x ≡ placed out at (x ∷ [])
+set-placed out at x h =
+    let z : at + 1 ≡ suc at = omega arith in rw (z, append_assoc (take at out)) (set_split out at x h)
 
 -- The same as the code's answers: new is old with s placed at `at`, and at' the place after it.
 module _

@@ -1,112 +1,72 @@
--- Tick lines at the front of a piece, where no step has a refusal: what such a line does. Assumes nothing.
+-- Tick lines at the front of a piece, where no step of a rule has a refusal: what such a line does. Assumes nothing.
 use mathlib.Core.Path.{◌≡◌, refl, ◌∙◌, sym, ap, subst}
 use mathlib.Core.List.{List}
 use Prim.Native.Nat.{ℕ, ◌+◌, ◌≤◌, ◌<◌}
 use native.Mathlib.Omega.{arith}
-use lib.ListN.{length, drop, length-drop}
-use borrow.Author.Tests.{lt-ltb}
-use Rattle.limits.specs.Limits.{standard_cap}
+use lib.ListN.{length, take, drop, length-drop}
+use Rattle.limits.specs.Limits.{standard_cap, velocity_count}
 use Rattle.limits.specs.declared.Context.{Context}
-use Rattle.flows.specs.Step.{AfterStep, after_step, step_checked, stepped}
-use Rattle.tables.specs.declared.Checked.TheVariants.{Passed}
-use Rattle.flows.specs.declared.Stepped.TheVariants as S
-use Rattle.flows.proofs.Lists.{step-on}
+use Rattle.formulas.specs.Sets.{shared_tick}
+use Rattle.sets.specs.Steps.{Rules, rules_of, after_steps, steps_to, Passing}
+use Rattle.sets.specs.declared.Ticked.TheVariants as S
 use Rattle.lists.specs.Line.{line}
 use Rattle.cards.specs.Place.{tick_at}
+use Rattle.cards.specs.Says.{cards_in}
 use Rattle.cards.specs.declared.Phase.TheVariants as P
 use Rattle.cards.specs.declared.TickFound.TheVariants as F
 use Rattle.cards.proofs.Front.{First, first-tick}
 use Rattle.cards.proofs.Ticks.{ticked}
-use Rattle.traces.specs.Trace.{tick_of}
-use Rattle.traces.specs.declared.Tick.{Tick}
-use Rattle.traces.specs.Parameters.{parameter_fits}
-use Rattle.player.specs.Card.{World, world_in, lined}
+use Rattle.player.specs.Card.{World, world_in, effect_of, lined}
 use Rattle.player.specs.Output.{output_bytes}
-use Rattle.player.specs.declared.Output.TheVariants as O
+use Rattle.player.specs.Output.Printed.{verdicts}
 use Rattle.player.specs.declared.Watch.{Watch}
-use Rattle.player.proofs.Playing.{saying, one_less, tick-lined}
-use Rattle.feeder.specs.Feed.{Admitted, Runs, fed_to, placed}
+use Rattle.player.proofs.Playing.{one_less, tick-lined}
+use Rattle.feeder.specs.Feed.{Runs, fed_to, placed}
 use Rattle.feeder.proofs.Resuming.{goes_none}
 use Rattle.feeder.proofs.Feeding.{Between, said-room, after_line}
 
-module _ (context : Context) (ps t : List ℕ) where
-  -- How many velocities there are.
-  abbrev velocities : ℕ
-  velocities = context.velocities
+-- No step of the first m rules has a refusal.
+abbrev pub Passes : Rules → List ℕ → List ℕ → ℕ → Type 0
+Passes r c v m = Passing standard_cap velocity_count r m c v
 
-  -- A step's refusals do not depend on its start and signals, nor on which of the velocities it has.
-  any-tick : (n : ℕ) (c v : List ℕ) → step_checked standard_cap velocities t n c v (tick_of 0 0 0 ps) ≡ Passed
-      → (start signals velocity : ℕ) → velocity < velocities
-      → step_checked standard_cap velocities t n c v (tick_of start signals velocity ps) ≡ Passed
-  unfolding step_checked parameter_fits
-  any-tick n c v e start signals velocity low =
-      let some : 0 < velocities = omega (arith, low) in
-      rw (lt-ltb velocity velocities low) (rw (lt-ltb 0 velocities some) at e)
+-- A tick line at the place p of a piece.
+module _ (context : Context) (w : Watch) {i j u next : ℕ} (b : List ℕ) (p : ℕ)
+    (f : F.Is i j u next ≡ tick_at context.velocities w.stage.edition b p) where
+  first : First context.velocities w.stage.edition (drop p b) i j u
+  first = (first-tick context.velocities w.stage.edition b p f).0
 
-  pub passes-any : (n : ℕ) (c v : List ℕ) {k : Tick} → k ≡ tick_of 0 0 0 ps
-      → step_checked standard_cap velocities t n c v k ≡ Passed
-      → (start signals velocity : ℕ) → velocity < velocities
-      → step_checked standard_cap velocities t n c v (tick_of start signals velocity ps) ≡ Passed
-  passes-any n c v e h = any-tick n c v (ap (step_checked standard_cap velocities t n c v) (sym e) ∙ h)
+  pub velocity-low : 0 < context.velocities → u < context.velocities
+  velocity-low some = (ticked context.velocities w.stage.edition (line (drop p b)) first.tick).low some
 
-  -- So every tick with these parameters passes where one does.
-  pub passes_at : {w : Watch} {c v : List ℕ} {k : Tick} {i j u : ℕ} → Admitted (world_in context w ps t c v)
-      → u < velocities → k ≡ tick_of i j u ps → step_checked standard_cap velocities t w.n c v k ≡ Passed
-  passes_at {w} {c} {v} {k} {i} {j} {u} h low e =
-      ap (step_checked standard_cap velocities t w.n c v) e ∙ h.passes i j u low
+  -- The steps of the m rules at it have verdicts.
+  module _ {ps t c v c' v' vs : List ℕ} {m : ℕ} (all : m ≡ cards_in w.stage) (at-ticks : w.stage.phase ≡ P.Ticks)
+      (a : after_steps S.Verdicts c' v' vs
+      ≡ steps_to standard_cap context.velocities (rules_of w.sizes ps t) (shared_tick i j u) c v m)
+      {w₀ : World} {out₀ out : List ℕ} {at : ℕ} (s : Between w₀ b out₀ (world_in context w ps t c v) out p at)
+      (more : 0 < w.stage.left) where
+    line-inside : p + length (line (drop p b)) < length b
+    line-inside = omega (arith, first.whole, length-drop p b)
 
-  -- The step of a line at the ticks, where no step has a refusal: the line is at the place p of a piece.
-  module _ (some : 0 < velocities) {w : Watch} {c v : List ℕ} {i j u next : ℕ} (b : List ℕ) (p : ℕ)
-      (k : Admitted (world_in context w ps t c v))
-      (f : F.Is i j u next ≡ tick_at velocities w.stage.edition b p) where
-    first : First velocities w.stage.edition (drop p b) i j u
-    first = (first-tick velocities w.stage.edition b p f).0
+    does : effect_of (verdicts (take m vs)) (world_in context (one_less w) ps t c' v')
+        ≡ lined (world_in context w ps t c v) (line (drop p b))
+    does =
+        let after = after_steps S.Verdicts c' v' vs in
+        let run = steps_to standard_cap context.velocities (rules_of w.sizes ps t) (shared_tick i j u) c v in
+        rw all
+        (sym
+        (tick-lined context ps t w (line (drop p b)) i j u c v after at-ticks more first.tick
+        (sym (a ∙ ap run all)) refl))
 
-    pub velocity-low : u < velocities
-    velocity-low = (ticked velocities w.stage.edition (line (drop p b)) first.tick).low some
+    pub verdicts-room : at + length (output_bytes (verdicts (take m vs))) ≤ length out
+    verdicts-room = said-room s (length (line (drop p b))) refl line-inside does
 
-    module _ {c' v' : List ℕ} {x : ℕ} {y : Tick} (is : y ≡ tick_of i j u ps)
-        (a : after_step (S.Verdict x) c' v' ≡ stepped standard_cap velocities t w.n c v y) where
-      at_tick : after_step (S.Verdict x) c' v' ≡ stepped standard_cap velocities t w.n c v (tick_of i j u ps)
-      at_tick = a ∙ ap (stepped standard_cap velocities t w.n c v) is
-
-      -- It leaves it so.
-      pub admitted-on : Admitted (world_in context (one_less w) ps t c' v')
-      admitted-on =
-          record {
-            phase = k.phase;
-            passes = λ start signals velocity low.
-                subst
-                (λ (y : AfterStep).
-                step_checked standard_cap velocities t w.n y.state y.values
-                (tick_of start signals velocity ps) ≡ Passed)
-                (sym at_tick)
-                (step-on standard_cap velocities t w.n c v (tick_of i j u ps) (k.passes i j u velocity-low)
-                (tick_of start signals velocity ps) refl low);
-          }
-
-      module _ {w₀ : World} {out₀ out : List ℕ} {at : ℕ} (s : Between w₀ b out₀ (world_in context w ps t c v) out p at)
-          (more : 0 < w.stage.left) where
-        line-inside : p + length (line (drop p b)) < length b
-        line-inside = omega (arith, first.whole, length-drop p b)
-
-        does : saying context ps t (one_less w) x c' v' ≡ lined (world_in context w ps t c v) (line (drop p b))
-        does =
-            let after = after_step (S.Verdict x) c' v' in
-            sym
-            (tick-lined context ps t w (line (drop p b)) i j u x c v after k.phase more first.tick (sym at_tick)
-            refl)
-
-        pub verdict-room : at + length (output_bytes (O.Verdict x)) ≤ length out
-        verdict-room = said-room s (length (line (drop p b))) refl line-inside does
-
-        pub after-tick : {out' : List ℕ} {at' : ℕ} → at' ≡ at + length (output_bytes (O.Verdict x))
-            → out' ≡ placed out at (output_bytes (O.Verdict x))
-            → Between w₀ b out₀ (world_in context (one_less w) ps t c' v') out' next at'
-        after-tick {out'} {at'} e q =
-            let end = (first-tick velocities w.stage.edition b p f).1 in
-            subst (λ (m : ℕ). Between w₀ b out₀ (world_in context (one_less w) ps t c' v') out' m at') (sym end)
-            (after_line s (length (line (drop p b))) refl line-inside does e q)
+    pub after-tick : {out' : List ℕ} {at' : ℕ} → at' ≡ at + length (output_bytes (verdicts (take m vs)))
+        → out' ≡ placed out at (output_bytes (verdicts (take m vs)))
+        → Between w₀ b out₀ (world_in context (one_less w) ps t c' v') out' next at'
+    after-tick {out'} {at'} e q =
+        let end = (first-tick context.velocities w.stage.edition b p f).1 in
+        subst (λ (n : ℕ). Between w₀ b out₀ (world_in context (one_less w) ps t c' v') out' n at') (sym end)
+        (after_line s (length (line (drop p b))) refl line-inside does e q)
 
 -- No lines are used up.
 pub runs_none : (w : World) (b out : List ℕ) → Runs w b (fed_to w.watch 0 0) w out out

@@ -1,17 +1,17 @@
 -- What handing over a piece of a card does, whatever comes after it (SPEC 11.2). Definitions only.
 use Rattle.std.specs.Prelude.{cond, List, [], ◌∷◌, ◌++◌, ◌≡◌, ℕ, ◌+◌, ◌-◌, ◌≤◌, ◌<◌, leb, length, take, drop}
 use Rattle.limits.specs.Limits.{standard_cap, line_limit}
-use Rattle.flows.specs.Step.{step_checked}
-use Rattle.tables.specs.declared.Checked.TheVariants.{Passed}
+use Rattle.sets.specs.Steps.{Passing}
 use Rattle.lists.specs.Line.{line}
 use Rattle.cards.specs.Lines.{over_long, cut}
 use Rattle.cards.specs.Place.{tick_first}
+use Rattle.cards.specs.Says.{cards_in}
 use Rattle.cards.specs.declared.Phase.{Phase}
 use Rattle.cards.specs.declared.Phase.TheVariants as P
 use Rattle.cards.specs.declared.TickLine.TheVariants as T
-use Rattle.player.specs.Card.{World, world_of, velocities_in, over_watch, over_world, lined, broken_bytes, prints}
-use Rattle.player.specs.Card.{longest_output}
-use Rattle.traces.specs.Trace.{tick_of}
+use Rattle.player.specs.Card.{World, world_of, velocities_in, rules_in, over_watch, over_world, lined, broken_bytes}
+use Rattle.player.specs.Card.{prints}
+use Rattle.player.specs.Card.{longest_refusal}
 use Rattle.feeder.specs.declared.Fed.{Fed}
 use Rattle.feeder.specs.declared.Turn.{Turn}
 use Rattle.player.specs.declared.Watch.{Watch}
@@ -27,7 +27,7 @@ pub record Short (s : List ℕ) : Type 0 where
 
 -- The output has room: a line prints no more bytes than it has, but for one refusal.
 pub record Room (s out : List ℕ) : Type 0 where
-  pub room : length s + longest_output ≤ length out
+  pub room : length s + longest_refusal ≤ length out
 
 -- The world after these lines,
 unfoldable pub after_lines : World → List (List ℕ) → World
@@ -54,12 +54,10 @@ tail_bytes p n = cond (leb line_limit n) (broken_bytes p) []
 abbrev pub Stops : World → List ℕ → Type 0
 Stops w s = 0 < w.watch.stage.left → tick_first (velocities_in w) w.watch.stage.edition s ≡ T.Broken
 
--- The ticks come next, and a step with these parameters has no refusal, whatever its start, signals and velocity.
+-- The ticks come next, and no step of a rule has a refusal.
 pub record Admitted (w : World) : Type 0 where
   pub phase : w.watch.stage.phase ≡ P.Ticks
-  pub passes : (start signals velocity : ℕ) → velocity < velocities_in w
-      → step_checked standard_cap (velocities_in w) w.table w.watch.n w.state w.values
-      (tick_of start signals velocity w.parameters) ≡ Passed
+  pub passes : Passing standard_cap (velocities_in w) (rules_in w) (cards_in w.watch.stage) w.state w.values
 
 abbrev pub fed_to : Watch → ℕ → ℕ → Fed
 fed_to w used filled = record { watch = w; used = used; filled = filled }
@@ -126,4 +124,4 @@ pub record Ready (buf : List ℕ) (to : ℕ) (out : List ℕ) : Type 0 where
   pub short : Short (take to buf)
   pub within : to ≤ length buf
   pub size : line_limit ≤ length buf
-  pub room : length buf + longest_output ≤ length out
+  pub room : length buf + longest_refusal ≤ length out

@@ -2,16 +2,15 @@
 // is `player`'s; what a piece of a card does is defined in specs/Feed.antt.
 #![tactic(auto)]
 
-ghost use Rattle.std.specs.Prelude.{◌≡◌, ◌+◌, ◌-◌, ◌≤◌, length, take, drop};
+ghost use Rattle.std.specs.Prelude.{◌≡◌, map, ◌+◌, ◌-◌, ◌≤◌, length, take, drop};
 ghost use Rattle.cards.specs.Says.{stage_at};
-ghost use Rattle.player.specs.Card.{world_of, watch_of, longest_output};
-ghost use Rattle.player.specs.Output.{output_bytes};
+ghost use Rattle.player.specs.Card.{world_of, watch_of, longest_refusal};
+ghost use Rattle.player.specs.Output.{Printed, verdict_digit, printed_by, output_bytes};
 ghost use Rattle.feeder.specs.Feed.{Room, Stops, Admitted, fed_to, Runs, tail_bytes, tail_fed, Feeds};
 ghost use Rattle.feeder.specs.Feed.{shifted, Turns, Short, Finishes, placed};
 
 use cards::{Phase, Stage, TickFound};
 use player::{Output, Watch};
-use tables::Checked;
 
 // After a piece of a card: how many of its bytes are used up, and how many bytes of the output are filled.
 #[derive(Clone, Copy)]
@@ -43,22 +42,44 @@ fn put_word(out: &mut [u8], at: usize, w: &[u8]) -> usize
     at + k
 }
 
-// Puts `verdict=`, the verdict's digit and a byte 10.
-fn put_verdict(out: &mut [u8], at: usize, v: u32) -> usize
-    requires { at + length (output_bytes (Output.Verdict v)) ≤ length out.old }
-    ensures { (result ≡ at + length (output_bytes (Output.Verdict v)))
-        × (out.new ≡ placed out.old at (output_bytes (Output.Verdict v))) }
+// Puts the digits of the first n verdicts.
+fn put_digits(out: &mut [u8], at: usize, n: usize, verdicts: &[u32]) -> usize
+    requires { (n ≤ length verdicts.now) × (at + n ≤ length out.old) }
+    ensures { (result ≡ at + n)
+        × (out.new ≡ placed out.old at (map verdict_digit (take n verdicts.now))) }
 {
-    let mut line = *b"verdict=0\n";
-    line[8] = b'0' + (v % 10) as u8;
-    put_word(out, at, &line)
+    let mut i = 0;
+    while i < n {
+        out[at + i] = b'0' + (verdicts[i] % 10) as u8;
+        i += 1;
+    }
+    at + i
+}
+
+// Puts `verdict=`, a digit for each of the first m verdicts and a byte 10.
+fn put_verdicts(out: &mut [u8], at: usize, m: usize, verdicts: &[u32; limits::PLACES]) -> usize
+    requires { at + length (output_bytes (printed_by (Output.Verdicts m) verdicts.now)) ≤ length out.old }
+    ensures { (result ≡ at + length (output_bytes (printed_by (Output.Verdicts m) verdicts.now)))
+        × (out.new
+        ≡ placed out.old at (output_bytes (printed_by (Output.Verdicts m) verdicts.now))) }
+{
+    let n = if m < limits::PLACES {
+        m
+    } else {
+        limits::PLACES
+    };
+    let word = *b"verdict=";
+    let from = put_word(out, at, &word);
+    let end = put_digits(out, from, n, verdicts);
+    out[end] = lists::LINE_END;
+    end + 1
 }
 
 // Puts `refused=`, the refusal's number and a byte 10.
 fn put_refusal(out: &mut [u8], at: usize, refusal: u32) -> usize
-    requires { at + length (output_bytes (Output.Refused refusal)) ≤ length out.old }
-    ensures { (result ≡ at + length (output_bytes (Output.Refused refusal)))
-        × (out.new ≡ placed out.old at (output_bytes (Output.Refused refusal))) }
+    requires { at + length (output_bytes (Printed.refused refusal)) ≤ length out.old }
+    ensures { (result ≡ at + length (output_bytes (Printed.refused refusal)))
+        × (out.new ≡ placed out.old at (output_bytes (Printed.refused refusal))) }
 {
     if refusal < 10 {
         let mut short = *b"refused=0\n";
@@ -71,29 +92,34 @@ fn put_refusal(out: &mut [u8], at: usize, refusal: u32) -> usize
     put_word(out, at, &long)
 }
 
-// Puts the line of an output (SPEC 10.10) to a place of out, and answers the place after it.
-fn put(out: &mut [u8], at: usize, d: Output) -> usize
-    requires { at + length (output_bytes d) ≤ length out.old }
-    ensures { (result ≡ at + length (output_bytes d))
-        × (out.new ≡ placed out.old at (output_bytes d)) }
+// Puts the line of an output (SPEC 10.10, SPEC 17.4) to a place of out, and answers the place after it.
+fn put(out: &mut [u8], at: usize, d: Output, verdicts: &[u32; limits::PLACES]) -> usize
+    requires { at + length (output_bytes (printed_by d verdicts.now)) ≤ length out.old }
+    ensures { (result ≡ at + length (output_bytes (printed_by d verdicts.now)))
+        × (out.new ≡ placed out.old at (output_bytes (printed_by d verdicts.now))) }
 {
     match d {
         Output::Quiet => at,
-        Output::Verdict(v) => put_verdict(out, at, v),
+        Output::Verdicts(m) => put_verdicts(out, at, m, verdicts),
         Output::Refused(r) => put_refusal(out, at, r),
     }
 }
 
-fn watch_at(phase: Phase, edition: u32, left: u32, n: usize) -> Watch
-    ensures { result ≡ watch_of (stage_at phase edition left) n }
+// The stage with so many ticks left, and the sizes of the rules.
+fn watch_at(stage: Stage, left: u32, sizes: [usize; limits::PLACES]) -> Watch
+    ensures { result
+        ≡ watch_of (stage_at stage.phase stage.edition stage.place stage.cards left) sizes }
 {
+    let phase = stage.phase;
     Watch {
         stage: Stage {
-            phase,
-            edition,
-            left,
+            phase: phase,
+            edition: stage.edition,
+            place: stage.place,
+            cards: stage.cards,
+            left: left,
         },
-        n: n,
+        sizes: sizes,
     }
 }
 
@@ -112,7 +138,7 @@ fn fed_to(watch: Watch, used: usize, filled: usize) -> Fed
 fn run_ticks(
     watch: Watch,
     bytes: &[u8],
-    parameters: &[u32; limits::PARAMETERS],
+    parameters: &[u32; sets::PARAMETERS],
     table: &[u32],
     state: &mut [u32],
     values: &mut [u32],
@@ -125,9 +151,9 @@ fn run_ticks(
         (drop result.used bytes.now) }
 {
     let stage = watch.stage;
-    let phase = stage.phase;
+    let sizes = watch.sizes;
+    let m = cards::card_count(stage);
     let edition = stage.edition;
-    let n = watch.n;
     let hex = cards::hex_digits();
     let mut left = stage.left;
     let mut used = 0;
@@ -135,15 +161,16 @@ fn run_ticks(
     while 0 < left {
         let found = cards::tick_at(&hex, limits::VELOCITIES, edition, bytes, used);
         let TickFound::Is(start, signals, velocity, next) = found else {
-            return fed_to(watch_at(phase, edition, left, n), used, at);
+            return fed_to(watch_at(stage, left, sizes), used, at);
         };
-        let now = traces::tick_of(start, signals, velocity, *parameters);
-        let v = flows::step_passed(table, n, state, values, now);
-        at = put_verdict(out, at, v);
+        let verdicts = sets::run_rules(
+            m, &sizes, table, state, values, start, signals, velocity, parameters,
+        );
+        at = put_verdicts(out, at, m, &verdicts);
         used = next;
         left -= 1;
     }
-    fed_to(watch_at(phase, edition, left, n), used, at)
+    fed_to(watch_at(stage, left, sizes), used, at)
 }
 
 // Where the ticks come next and no step has a refusal, runs the tick lines at the front of a piece: one check for all
@@ -151,7 +178,7 @@ fn run_ticks(
 fn feed_ticks(
     w: Watch,
     bytes: &[u8],
-    parameters: &[u32; limits::PARAMETERS],
+    parameters: &[u32; sets::PARAMETERS],
     table: &[u32],
     state: &mut [u32],
     values: &mut [u32],
@@ -169,11 +196,11 @@ fn feed_ticks(
     let Phase::Ticks = phase else {
         return fed_to(w, 0, 0);
     };
-    let now = traces::tick_of(0, 0, 0, *parameters);
-    let checked = flows::step_checked(table, w.n, state, values, now);
-    let Checked::Passed = checked else {
+    let sizes = w.sizes;
+    let m = cards::card_count(stage);
+    if !sets::rules_pass(m, &sizes, table, state, values, parameters) {
         return fed_to(w, 0, 0);
-    };
+    }
     run_ticks(w, bytes, parameters, table, state, values, out)
 }
 
@@ -190,7 +217,8 @@ fn feed_tail(w: Watch, used: usize, to: usize, out: &mut [u8], at: usize) -> Fed
     let over = player::end_over_long(w);
     let last = over.watch;
     let word = over.output;
-    let past = put(out, at, word);
+    let verdicts = over.verdicts;
+    let past = put(out, at, word, &verdicts);
     fed_to(last, to, past)
 }
 
@@ -198,7 +226,7 @@ fn feed_tail(w: Watch, used: usize, to: usize, out: &mut [u8], at: usize) -> Fed
 fn feed(
     watch: Watch,
     bytes: &[u8],
-    parameters: &mut [u32; limits::PARAMETERS],
+    parameters: &mut [u32; sets::PARAMETERS],
     table: &mut [u32],
     state: &mut [u32],
     values: &mut [u32],
@@ -225,7 +253,8 @@ fn feed(
         let t = player::on_line(w, bytes, used, to, parameters, table, state, values);
         let next = t.watch;
         let output = t.output;
-        at = put(out, at, output);
+        let verdicts = t.verdicts;
+        at = put(out, at, output, &verdicts);
         w = next;
         used = to + 1;
     }
@@ -249,13 +278,13 @@ pub fn run_turn(
     watch: Watch,
     buf: &mut [u8],
     to: usize,
-    parameters: &mut [u32; limits::PARAMETERS],
+    parameters: &mut [u32; sets::PARAMETERS],
     table: &mut [u32],
     state: &mut [u32],
     values: &mut [u32],
     out: &mut [u8],
 ) -> Turn
-    requires { (to ≤ length buf.old) × (to + longest_output ≤ length out.old) }
+    requires { (to ≤ length buf.old) × (to + longest_refusal ≤ length out.old) }
     ensures { Turns (world_of watch parameters.old table.old state.old values.old) buf.old to result
         (world_of result.watch parameters.new table.new state.new values.new) buf.new out.old out.new }
 {
@@ -273,10 +302,10 @@ pub fn run_turn(
 
 // The end of the input: the first `to` bytes of buf are left over. Answers how many bytes are to be written.
 pub fn finish(w: Watch, buf: &[u8], to: usize, out: &mut [u8]) -> usize
-    requires { (to ≤ length buf.now) × (Short (take to buf.now) × (longest_output ≤ length out.old)) }
+    requires { (to ≤ length buf.now) × (Short (take to buf.now) × (longest_refusal ≤ length out.old)) }
     ensures { Finishes w (take to buf.now) result out.old out.new }
 {
     let stage = w.stage;
     let d = player::last_output(cards::end(stage, to));
-    put(out, 0, d)
+    put(out, 0, d, &[0u32; limits::PLACES])
 }

@@ -3,8 +3,8 @@
 #![tactic(auto)]
 
 ghost use Rattle.std.specs.Prelude.{◌≡◌};
-ghost use Rattle.limits.specs.Limits.{standard_cap, velocity_count};
-ghost use Rattle.limits.specs.Context.{standard_context};
+ghost use Rattle.limits.specs.Limits.{standard_cap, velocity_count, place_count};
+ghost use Rattle.limits.specs.Context.{context_at};
 ghost use Rattle.traces.specs.Trace.{tick_of};
 ghost use Rattle.flows.specs.Step.{after_fresh, freshened, fresh_reply, after_step, stepped, step_reply};
 ghost use Rattle.rules.specs.Computed.{rule_of, comparison};
@@ -84,13 +84,14 @@ pub extern "C" fn towerwatch_step(
     start: u32,
     signals: u64,
     velocity: u32,
+    verdicts: &[u32; limits::PLACES],
     parameters: &[u32; limits::PARAMETERS],
 ) -> Answer
     ensures { Given step_reply (λ x. after_step x state.new values.new
         ≡ stepped standard_cap velocity_count table.now n state.old values.old
-        (tick_of start signals velocity parameters.now)) result }
+        (tick_of start signals velocity verdicts.now parameters.now)) result }
 {
-    let now = traces::tick_of(start, signals, velocity, *parameters);
+    let now = traces::tick_of(start, signals, velocity, *verdicts, *parameters);
     step_answer(flows::step(table, n, state, values, now))
 }
 
@@ -147,27 +148,28 @@ fn same_answer(s: Same) -> Answer
     }
 }
 
-// Reads a rule: how many nodes (SPEC 8.1).
+// Reads a rule at its place: how many nodes (SPEC 8.1).
 #[unsafe(no_mangle)]
-pub extern "C" fn towerwatch_read_rule(text: &[u8]) -> Answer
-    ensures given { Given read_reply (λ x. x ≡ answer_of (rule_of standard_context text.now)) result }
-    ensures given_2 { Given read_reply (Told standard_context text.now) result }
+pub extern "C" fn towerwatch_read_rule(text: &[u8], place: u32) -> Answer
+    ensures given { Given read_reply (λ x. x ≡ answer_of (rule_of (context_at place) text.now)) result }
+    ensures given_2 { Given read_reply (Told (context_at place) text.now) result }
 {
-    read_answer(rules::read_rule(text))
+    read_answer(rules::read_rule(text, place))
 }
 
-// Compiles a rule into a table: how many equations (SPEC 8.2).
+// Compiles a rule at its place into a table: how many equations (SPEC 8.2).
 #[unsafe(no_mangle)]
-pub extern "C" fn towerwatch_compile(text: &[u8], table: &mut [u32]) -> Answer
+pub extern "C" fn towerwatch_compile(text: &[u8], place: u32, table: &mut [u32]) -> Answer
     ensures given { Given compile_reply (λ x. after_compile x table.new
-        ≡ compiled standard_context text.now table.old) result }
-    ensures given_2 { Given compile_reply (λ x. Compiles standard_context text.now table.old x
+        ≡ compiled (context_at place) text.now table.old) result }
+    ensures given_2 { Given compile_reply (λ x. Compiles (context_at place) text.now table.old x
         table.new) result }
 {
-    compiled_answer(observers::compile_rule(text, table))
+    compiled_answer(observers::compile_rule(text, place, table))
 }
 
-// Compares two texts, each with its parameters: 1 where they are the same rule, else 0 (SPEC 8.3).
+// Compares two texts, each with its parameters and read at the last place: 1 where they are the same rule, else 0
+// (SPEC 8.3).
 #[unsafe(no_mangle)]
 pub extern "C" fn towerwatch_same_rule(
     first: &[u8],
@@ -175,9 +177,9 @@ pub extern "C" fn towerwatch_same_rule(
     second: &[u8],
     qs: &[u32; limits::PARAMETERS],
 ) -> Answer
-    ensures given { Given same_reply (λ x. x ≡ comparison standard_context first.now ps.now
+    ensures given { Given same_reply (λ x. x ≡ comparison (context_at place_count) first.now ps.now
         second.now qs.now) result }
-    ensures given_2 { Given same_reply (SameAnswer standard_context first.now ps.now
+    ensures given_2 { Given same_reply (SameAnswer (context_at place_count) first.now ps.now
         second.now qs.now) result }
 {
     same_answer(rules::same_rule(first, ps, second, qs))

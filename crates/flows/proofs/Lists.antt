@@ -178,7 +178,7 @@ module _ (cap velocities : ℕ) (t : List ℕ) (n : ℕ) (passed : checked veloc
         (from_fresh cap velocities t n old calls)
     unfolding state_at
     calls-decide calls =
-        let trace : Trace = λ k. tick_of 0 0 0 [] in
+        let trace : Trace = λ k. tick_of 0 0 0 [] [] in
         subst (λ (z : AfterFresh). CallsDecide cap velocities n calls (steps cap velocities t n z.state calls))
         (sym (made velocities t n old passed room))
         (decided calls (fresh_state t n old) (state-room cap t n old trace room 0)

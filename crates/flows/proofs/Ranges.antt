@@ -10,14 +10,15 @@ use lib.Dec.{ltb, eqb}
 use lib.ListN.{length}
 use borrow.Author.Tests.{le-leb, ltb-true}
 use Rattle.traces.specs.declared.Tick.{Tick}
-use Rattle.traces.specs.Trace.{truth, nonzero, signal_at, parameter_at, starts}
+use Rattle.traces.specs.Trace.{truth, nonzero, signal_at, parameter_at, starts, verdict_at}
 use Rattle.traces.specs.Compare.{op_of, compares}
 use Rattle.lists.specs.Number.{number_at}
 use Rattle.tables.specs.Table.{all, Equation, equation_at, Kind, kind_at, shape_of, sort_of}
 use Rattle.tables.specs.Table.{same_sort, is_flow, operand_fits, shape_fits, equation_fits}
 use Rattle.limits.specs.Limits.{truth_count}
 use Rattle.tables.specs.Table.Kind.{signal, start, constant, negation, conjunction, disjunction, boolean_pre}
-use Rattle.tables.specs.Table.Kind.{count_pre, capped, if_else, compare_literal, compare_parameter, velocity, unknown}
+use Rattle.tables.specs.Table.Kind.{count_pre, capped, if_else, compare_literal, compare_parameter, velocity, earlier}
+use Rattle.tables.specs.Table.Kind.{unknown}
 use Rattle.flows.specs.Flow.{increased, value_of, flows, memories_set, initial, initial_at, fresh_state}
 use Rattle.tables.specs.Table.{is_memory}
 use Rattle.flows.specs.Flow.{operand_at, next_state, in_range}
@@ -43,6 +44,7 @@ memory-kind if_else e = inl cc
 memory-kind compare_literal e = inl cc
 memory-kind compare_parameter e = inl cc
 memory-kind velocity e = inl cc
+memory-kind earlier e = inl cc
 memory-kind unknown e = inl cc
 
 -- An operand is one of the first m equations, of its sort.
@@ -94,7 +96,7 @@ module _ (cap : ℕ) where
 
   -- The value of an equation that fits is in range, if the flows that it reads and its cell are.
   module _ (velocities : ℕ) (t : List ℕ) (n i : ℕ) (k : Tick) (flow : ℕ → ℕ) (cell : ℕ)
-      (earlier : Ranged t i flow) where
+      (ranged : Ranged t i flow) where
     value-range : (q : Kind) (e : Equation) → shape_fits velocities t n i (shape_of q) e ≡ true
         → cell_fits cap q cell ≡ true → in_range cap (sort_of q) (value_of cap k flow cell q e) ≡ true
     unfolding shape_fits shape_of operand_fits value_of is_memory in_range
@@ -108,14 +110,15 @@ module _ (cap : ℕ) where
     value-range count_pre e f h = cell-range count_pre cell refl h
     value-range capped e f h =
         increased-range (flow e.a) (nonzero (flow e.b))
-        (operand-range t i flow earlier Count e.a (and-true (is_flow t i Count e.a) _ f).0)
+        (operand-range t i flow ranged Count e.a (and-true (is_flow t i Count e.a) _ f).0)
     value-range if_else e f h =
         let g = (and-true (is_flow t i Boolean e.a) _ f).1 in
         chosen-range (nonzero (flow e.a)) (flow e.b)
-        (operand-range t i flow earlier Count e.b (and-true (is_flow t i Count e.b) _ g).0)
+        (operand-range t i flow ranged Count e.b (and-true (is_flow t i Count e.b) _ g).0)
     value-range compare_literal e f h = truth-range (compares (op_of e.b) (flow e.a) e.c)
     value-range compare_parameter e f h = truth-range (compares (op_of e.b) (flow e.a) (parameter_at k e.c))
     value-range velocity e f h = truth-range (compares (op_of e.a) k.velocity e.b)
+    value-range earlier e f h = truth-range (verdict_at k e.a)
     value-range unknown e f h = truth-range false
 
   -- What is written to a memory's cell, the initial value or the flow of the operand, is in range.
@@ -161,11 +164,11 @@ module _ (cap : ℕ) where
     ranged_below k state h zero i l g = absurd (omega arith)
     ranged_below k state h (suc m) i l g =
         let before = number_at (flows cap t k state i) in
-        let earlier : Ranged t i before =
+        let ranged : Ranged t i before =
         λ j r. rw (← flows-kept cap t k state n i j r (omega arith))
         (ranged_below k state h m j (omega arith) (omega arith)) in
         rw (flows-at cap t k state n i (omega arith))
-        (value-range velocities t n i k before (number_at state i) earlier (kind_at t i) (equation_at t i)
+        (value-range velocities t n i k before (number_at state i) ranged (kind_at t i) (equation_at t i)
         (all-at (equation_fits velocities t n) n fit i (omega arith))
         (all-at (cell_fits_at cap t state) n h i (omega arith)))
 

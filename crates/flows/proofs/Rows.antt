@@ -1,5 +1,5 @@
--- A table with an equation of each kind but 12 and one with tests of the velocity, and what their checks, their fresh
--- state and their steps give, by computation. Assumes nothing.
+-- A table with an equation of each kind but 12 and 13, one with tests of the velocity and one with verdicts of earlier
+-- rules, and what their checks, their fresh state and their steps give, by computation. Assumes nothing.
 use mathlib.Core.Path.{◌≡◌, refl}
 use mathlib.Core.Bool.{true}
 use mathlib.Core.List.{List, [], ◌∷◌, ◌++◌, map}
@@ -10,7 +10,7 @@ use Rattle.traces.specs.declared.Tick.{Tick}
 use Rattle.traces.specs.Parameters.{parameter_fits}
 use Rattle.tables.specs.Table.{all, kind_of, shape_of, same_sort, is_flow, operand_fits, shape_fits, length_fits}
 use Rattle.tables.specs.Table.{equations_fit, closes, checked}
-use Rattle.limits.specs.Limits.{parameter_count, standard_cap, velocity_count}
+use Rattle.limits.specs.Limits.{place_count, parameter_count, standard_cap, velocity_count}
 use Rattle.limits.specs.Reply.{Reply, gives, refused}
 use Rattle.tables.specs.Reply.{checked_reply}
 use Rattle.tables.specs.declared.Checked.{Checked}
@@ -29,9 +29,10 @@ table =
     0 ∷ 5 ∷ 0 ∷ 0 ∷ 1 ∷ 0 ∷ 0 ∷ 0 ∷ 2 ∷ 1 ∷ 0 ∷ 0 ∷ 3 ∷ 0 ∷ 0 ∷ 0 ∷ 4 ∷ 0 ∷ 1 ∷ 0 ∷ 5 ∷ 0 ∷ 1 ∷ 0
     ∷ 6 ∷ 0 ∷ 0 ∷ 1 ∷ 7 ∷ 8 ∷ 0 ∷ 0 ∷ 8 ∷ 7 ∷ 0 ∷ 0 ∷ 9 ∷ 6 ∷ 8 ∷ 0 ∷ 10 ∷ 8 ∷ 3 ∷ 1 ∷ 11 ∷ 8 ∷ 0 ∷ 0 ∷ []
 
--- A tick with that start, these signals and that velocity, k0 = x and the other parameters 0; one of velocity 0.
+-- A tick with that start, these signals and that velocity, no verdict yes, k0 = x and the other parameters 0; one of
+-- velocity 0.
 abbrev struck : ℕ → ℕ → ℕ → ℕ → Tick
-struck s g v x = tick_of s g v (x ∷ replicate (parameter_count - 1) 0)
+struck s g v x = tick_of s g v (replicate place_count 0) (x ∷ replicate (parameter_count - 1) 0)
 
 abbrev tick : ℕ → ℕ → ℕ → Tick
 tick s g x = struck s g 0 x
@@ -181,3 +182,38 @@ unfolding stepped step_checked length_fits equations_fit closes all shape_fits s
     same_sort
     memories_set is_memory after_tick answer_of flows value_of increased parameter_fits cell_fits in_range
 velocity-rows = refl
+
+-- ---- kind 13, and the verdicts of a tick
+
+-- f0=r1; f1=r2; f2=r8;
+abbrev verdicts : List ℕ
+verdicts = 13 ∷ 1 ∷ 0 ∷ 0 ∷ 13 ∷ 2 ∷ 0 ∷ 0 ∷ 13 ∷ 8 ∷ 0 ∷ 0 ∷ []
+
+-- What a step with these verdicts leaves in the values; the tick's other numbers say yes.
+abbrev flows_for : List ℕ → List ℕ
+flows_for rs =
+    let k = tick_of 1 255 1 rs (replicate parameter_count 1) in
+    (stepped standard_cap velocity_count verdicts 3 (replicate 3 9) (replicate 3 7) k).values
+
+-- A verdict says yes where it is 1, at its own place alone; 0, 2, which is idle, and 7 say no (SPEC 4.1), and no number
+-- is refused.
+verdict-rows : map flows_for
+    ((1 ∷ replicate 7 0) ∷ (0 ∷ 1 ∷ replicate 6 0) ∷ (replicate 7 0 ++ (1 ∷ [])) ∷ replicate 8 1
+    ∷ replicate 8 0 ∷ replicate 8 2 ∷ replicate 8 7 ∷ (2 ∷ 1 ∷ 1 ∷ replicate 5 7) ∷ [])
+    ≡ (1 ∷ 0 ∷ 0 ∷ []) ∷ (0 ∷ 1 ∷ 0 ∷ []) ∷ (0 ∷ 0 ∷ 1 ∷ []) ∷ (1 ∷ 1 ∷ 1 ∷ [])
+    ∷ (0 ∷ 0 ∷ 0 ∷ []) ∷ (0 ∷ 0 ∷ 0 ∷ []) ∷ (0 ∷ 0 ∷ 0 ∷ []) ∷ (0 ∷ 1 ∷ 0 ∷ []) ∷ []
+unfolding stepped step_checked length_fits equations_fit closes all shape_fits shape_of kind_of operand_fits is_flow
+    same_sort
+    memories_set is_memory after_tick answer_of flows value_of increased parameter_fits cell_fits in_range
+verdict-rows = refl
+
+-- A is 1 to 8, and B and C are 0; these tables end with f1=true.
+abbrev place : ℕ → ℕ → ℕ → List ℕ
+place a b c = 13 ∷ a ∷ b ∷ c ∷ 2 ∷ 1 ∷ 0 ∷ 0 ∷ []
+
+place-rows : map checked_reply
+    (check (place 1 0 0) 2 ∷ check (place 8 0 0) 2 ∷ check (place 0 0 0) 2 ∷ check (place 9 0 0) 2
+    ∷ check (place 1 1 0) 2 ∷ check (place 1 0 1) 2 ∷ [])
+    ≡ gives 0 ∷ gives 0 ∷ refused 11 ∷ refused 11 ∷ refused 11 ∷ refused 11 ∷ []
+unfolding checked length_fits equations_fit closes all shape_fits shape_of kind_of operand_fits is_flow same_sort
+place-rows = refl

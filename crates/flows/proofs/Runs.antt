@@ -14,7 +14,8 @@ use Rattle.tables.specs.Table.{all, Equation, equation_at, Kind, kind_at, shape_
 use Rattle.tables.specs.Table.{is_flow, operand_fits, shape_fits, equation_fits, checked}
 use Rattle.tables.specs.Table.{closing_count, started_of, verdict_of}
 use Rattle.tables.specs.Table.Kind.{signal, start, constant, negation, conjunction, disjunction, boolean_pre}
-use Rattle.tables.specs.Table.Kind.{count_pre, capped, if_else, compare_literal, compare_parameter, velocity, unknown}
+use Rattle.tables.specs.Table.Kind.{count_pre, capped, if_else, compare_literal, compare_parameter, velocity, earlier}
+use Rattle.tables.specs.Table.Kind.{unknown}
 use Rattle.flows.specs.Flow.{value_of, flows, answer_of, initial_at, operand_at, fresh_state, next_state}
 use Rattle.tables.specs.Table.{is_memory}
 use Rattle.flows.specs.Step.{cells_fit}
@@ -83,6 +84,7 @@ module _ (cap velocities : ℕ) (t : List ℕ) (n i : ℕ) (k : Tick) (flow flow
   value_same compare_literal e f h = rw (same_operand Count e.a _ f)
   value_same compare_parameter e f h = rw (same_operand Count e.a _ f)
   value_same velocity e f h = refl
+  value_same earlier e f h = refl
   value_same unknown e f h = refl
 
 module _ (cap : ℕ) (t : List ℕ) (n : ℕ) (old : List ℕ) (trace : Trace) (room : n ≤ length old) where

@@ -1,13 +1,14 @@
 -- One tick of a table, over the cap of its counts: the flows, the fresh state and the next state. Definitions only.
 use Rattle.std.specs.Prelude.{Bool, not, ◌&&◌, ◌||◌, cond, List, [], ◌∷◌, ◌++◌, ℕ, zero, suc, ◌+◌, min, ltb, leb, set}
 use Rattle.traces.specs.declared.Tick.{Tick}
-use Rattle.traces.specs.Trace.{truth, idle_verdict, nonzero, signal_at, parameter_at, starts}
+use Rattle.traces.specs.Trace.{truth, idle_verdict, nonzero, signal_at, parameter_at, starts, verdict_at}
 use Rattle.traces.specs.Compare.{op_of, compares}
 use Rattle.lists.specs.Number.{number_at}
 use Rattle.tables.specs.Table.{is_memory, Equation, equation_at, Kind, kind_at, sort_of, started_of, verdict_of}
 use Rattle.limits.specs.Limits.{truth_count}
 use Rattle.tables.specs.Table.Kind.{signal, start, constant, negation, conjunction, disjunction, boolean_pre}
-use Rattle.tables.specs.Table.Kind.{count_pre, capped, if_else, compare_literal, compare_parameter, velocity, unknown}
+use Rattle.tables.specs.Table.Kind.{count_pre, capped, if_else, compare_literal, compare_parameter, velocity, earlier}
+use Rattle.tables.specs.Table.Kind.{unknown}
 use Rattle.tables.specs.declared.Sort.{Sort}
 use Rattle.tables.specs.declared.Sort.TheVariants.{Boolean, Count}
 
@@ -31,6 +32,7 @@ value_of cap k flow cell if_else e = cond (nonzero (flow e.a)) (flow e.b) 0
 value_of cap k flow cell compare_literal e = truth (compares (op_of e.b) (flow e.a) e.c)
 value_of cap k flow cell compare_parameter e = truth (compares (op_of e.b) (flow e.a) (parameter_at k e.c))
 value_of cap k flow cell velocity e = truth (compares (op_of e.a) k.velocity e.b)
+value_of cap k flow cell earlier e = truth (verdict_at k e.a)
 value_of cap k flow cell unknown e = 0
 
 -- The value of equation i, after the flows before it.

@@ -2,7 +2,7 @@
 // refusals 10 to 14 and 19. What they mean is in specs/.
 #![tactic(auto)]
 
-ghost use Rattle.std.specs.Prelude.{◌≡◌, ◌&&◌, ◌||◌, cond, ◌++◌, ◌+◌, ◌*◌, ◌≤◌, ◌<◌, length, drop};
+ghost use Rattle.std.specs.Prelude.{◌≡◌, ◌&&◌, ◌||◌, cond, ◌++◌, ◌+◌, ◌*◌, ◌-◌, ◌≤◌, ◌<◌, eqb, length, drop};
 ghost use Rattle.limits.specs.Limits.{standard_cap, velocity_count};
 ghost use Rattle.traces.specs.Trace.{truth, nonzero, bit};
 ghost use Rattle.traces.specs.Parameters.{parameters_fit};
@@ -62,6 +62,15 @@ fn signal_at(signals: u64, j: u32) -> u32
     }
 }
 
+// The verdict for place j, numbered from 1, as a truth value: it says yes where it is 1, and no where it is any other
+// number.
+fn verdict_at(verdicts: &[u32; limits::PLACES], j: u32) -> u32
+    ensures { result ≡ truth (eqb (number_at verdicts.now (j - 1)) 1) }
+{
+    let i = if 0 < j { j - 1 } else { 0 };
+    number(number_at(verdicts, i) == 1)
+}
+
 // x and y.
 fn conjunction(x: u32, y: u32) -> u32
     ensures { result ≡ truth (nonzero x && nonzero y) }
@@ -104,18 +113,19 @@ fn gate(x: u32, y: u32) -> u32
     if 0 < x { y } else { 0 }
 }
 
-// The value of equation i, from its cell and the flows before it. `ps` are the tick's parameters, lent to all
-// equations: out of the tick the compiler would copy all of them at each use.
+// The value of equation i, from its cell and the flows before it. `rs` are the tick's verdicts and `ps` its parameters,
+// lent to all equations: out of the tick the compiler would copy all of them at each use.
 fn value(
     cap: u32,
     table: &[u32],
     i: usize,
     tick: Tick,
+    rs: &[u32; limits::PLACES],
     ps: &[u32; limits::PARAMETERS],
     cell: u32,
     before: &[u32],
 ) -> u32
-    requires { (4 * i + 3 < length table.now) × (ps.now ≡ tick.parameters) }
+    requires { (4 * i + 3 < length table.now) × (rs.now ≡ tick.verdicts) × (ps.now ≡ tick.parameters) }
     ensures { result ≡ value_of cap tick (number_at before.now) cell
         (kind_at table.now i) (equation_at table.now i) }
 {
@@ -137,6 +147,7 @@ fn value(
         tables::COMPARE_LITERAL => number(compare(b, number_at(before, a), c)),
         tables::COMPARE_PARAMETER => number(compare(b, number_at(before, a), number_at(ps, c))),
         tables::VELOCITY => number(compare(a, tick.velocity, b)),
+        tables::EARLIER => verdict_at(rs, a),
         _ => 0,
     }
 }
@@ -147,10 +158,11 @@ fn fill(cap: u32, table: &[u32], n: usize, state: &[u32], values: &mut [u32], ti
     ensures { values.new
         ≡ flows cap table.now tick state.now n ++ drop n values.old }
 {
+    let rs = tick.verdicts;
     let ps = tick.parameters;
     let mut i = 0;
     while i < n {
-        let v = value(cap, table, i, tick, &ps, state[i], &values[..i]);
+        let v = value(cap, table, i, tick, &rs, &ps, state[i], &values[..i]);
         values[i] = v;
         i += 1;
     }

@@ -15,8 +15,8 @@ use Rattle.formulas.specs.Formula.Num.{literal, parameter}
 use Rattle.formulas.specs.Formula.Test.{begin, end, point, held, kept}
 use Rattle.formulas.specs.Formula.Count.{sum, age}
 use Rattle.formulas.specs.Tree.{Tree}
-use Rattle.formulas.specs.Tree.Tree.{constant, signal, velocity, neg, and, or, then, chop, exists, test, len}
-use Rattle.formulas.specs.Tree.Tree.{count, lag}
+use Rattle.formulas.specs.Tree.Tree.{constant, signal, velocity, earlier, neg, and, or, then, chop, exists}
+use Rattle.formulas.specs.Tree.Tree.{test, len, count, lag}
 use Rattle.formulas.specs.Arena.{NOT, AND, OR, TEST, COUNT, RUN, FINE, ALWAYS, LEAD-END, THEN, CHOP, EXISTS}
 use Rattle.formulas.specs.Arena.{test_number, count_number, LITERAL, num_kind, num_value, row, flat}
 
@@ -67,6 +67,7 @@ readers a b c =
     ∷ none
     ∷ two then
     ∷ (λ st. velocity (op_of a) b ∷ st)
+    ∷ (λ st. earlier a ∷ st)
     ∷ none
     ∷ two chop
     ∷ one (exists a)
@@ -141,6 +142,7 @@ unfolding back
 back-flat (constant c) r st = back-constant c r st
 back-flat (signal j) r st = refl
 back-flat (velocity o n) r st = back-velocity o n r st
+back-flat (earlier j) r st = refl
 back-flat (neg t) r st = after_one (flat t) (row NOT 0 0 0) r st ∙ back-flat t (row NOT 0 0 0 ++ r) st
 back-flat (and a b) r st =
     after_two (flat a) (flat b) (row AND 0 0 0) r st

@@ -4,14 +4,15 @@ use mathlib.Core.Option.{Option, none, some, none-ne-some}
 use Rattle.formulas.specs.Formula.{Prop, Formula}
 use Rattle.formulas.specs.Tree.{Tree, map, map₂, prop_of, formula_of}
 pub use Rattle.formulas.specs.Raw.{raw_p, raw}
-use Rattle.formulas.specs.Tree.Tree.{constant, signal, velocity, neg, and, or, then, chop, exists, test, len}
-use Rattle.formulas.specs.Tree.Tree.{count, lag}
+use Rattle.formulas.specs.Tree.Tree.{constant, signal, velocity, earlier, neg, and, or, then, chop, exists}
+use Rattle.formulas.specs.Tree.Tree.{test, len, count, lag}
 
 -- They are read back.
 pub prop-raw_p : (p : Prop) → prop_of (raw_p p) ≡ some p
 prop-raw_p (Prop.constant c) = refl
 prop-raw_p (Prop.signal j) = refl
 prop-raw_p (Prop.velocity o n) = refl
+prop-raw_p (Prop.earlier j) = refl
 prop-raw_p (Prop.neg_p p) = ap (map Prop.neg_p) (prop-raw_p p)
 prop-raw_p (Prop.and_p p q) = ap₂ (map₂ Prop.and_p) (prop-raw_p p) (prop-raw_p q)
 prop-raw_p (Prop.or_p p q) = ap₂ (map₂ Prop.or_p) (prop-raw_p p) (prop-raw_p q)
@@ -56,6 +57,7 @@ pub prop-raw : (t : Tree) (p : Prop) → prop_of t ≡ some p → t ≡ raw_p p
 prop-raw (constant c) p e = let f : Prop.constant c ≡ p = cc in ap raw_p f
 prop-raw (signal j) p e = let f : Prop.signal j ≡ p = cc in ap raw_p f
 prop-raw (velocity o n) p e = let f : Prop.velocity o n ≡ p = cc in ap raw_p f
+prop-raw (earlier j) p e = let f : Prop.earlier j ≡ p = cc in ap raw_p f
 prop-raw (neg t) p e =
     let m = map-some Prop.neg_p (prop_of t) p e in
     ap neg (prop-raw t m.part m.there) ∙ ap raw_p m.made
@@ -78,6 +80,7 @@ pub formula-raw : (t : Tree) (f : Formula) → formula_of t ≡ some f → t ≡
 formula-raw (constant c) f e = absurd (none-ne-some f e)
 formula-raw (signal j) f e = absurd (none-ne-some f e)
 formula-raw (velocity o n) f e = absurd (none-ne-some f e)
+formula-raw (earlier j) f e = absurd (none-ne-some f e)
 formula-raw (neg t) f e =
     let m = map-some Formula.neg (formula_of t) f e in
     ap neg (formula-raw t m.part m.there) ∙ ap raw m.made

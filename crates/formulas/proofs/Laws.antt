@@ -11,7 +11,7 @@ use native.Mathlib.Omega.{arith}
 use native.Mathlib.Nat.{eq-or-lt_of_le}
 use lib.Dec.{eqb, ltb, leb}
 use borrow.Author.Tests.{leb-true, ltb-true, eqb-true, le-leb, lt-ltb, eq-eqb}
-use Rattle.traces.specs.Trace.{Trace, nonzero, bit, starts, truth, idle_verdict}
+use Rattle.traces.specs.Trace.{Trace, nonzero, bit, verdict_for, starts, truth, idle_verdict}
 use Rattle.traces.specs.Compare.{compares, Compared}
 use Rattle.traces.specs.declared.Op.{Op}
 use Rattle.traces.proofs.Laws.{truth-idle, compared}
@@ -307,7 +307,7 @@ module _ (trace : Trace) where
     since-idle none s = (λ h. s, λ n. refl)
     since-idle (some b) s = (λ h. absurd (truth-idle (on b) h), λ n. absurd (n b s.past s.set))
 
-  verdict-since : (f : Formula) (b e : ℕ) → Latest trace b e → verdict trace f e ≡ truth (meaning trace f b e)
+  pub verdict-since : (f : Formula) (b e : ℕ) → Latest trace b e → verdict trace f e ≡ truth (meaning trace f b e)
   verdict-since f b e l = since-some (λ b. meaning trace f b e) e (latest trace e) (seen e) b l
 
   -- ---- the laws
@@ -319,6 +319,7 @@ module _ (trace : Trace) where
         one_at = λ i. refl;
         signal-at = λ j i. bit-iff (trace i).signals j;
         velocity-at = λ o n i. compared o (trace i).velocity n;
+        earlier-at = λ j i. (eqb-true (verdict_for (trace i) j) 1, eq-eqb (verdict_for (trace i) j) 1);
         not_at = λ p i. not_iff (at trace p i);
         and_at = λ p q i. and-eq-true_iff (at trace p i) (at trace q i);
         or_at = λ p q i. or-iff (at trace p i) (at trace q i);

@@ -10,8 +10,8 @@ use Rattle.traces.specs.Trace.{Trace, parameter_at}
 use Rattle.formulas.specs.Formula.{Num}
 use Rattle.formulas.specs.Formula.Num.{literal, parameter}
 use Rattle.formulas.specs.Tree.{Tree}
-use Rattle.formulas.specs.Tree.Tree.{constant, signal, velocity, neg, and, or, then, chop, exists, test, len}
-use Rattle.formulas.specs.Tree.Tree.{count, lag}
+use Rattle.formulas.specs.Tree.Tree.{constant, signal, velocity, earlier, neg, and, or, then, chop, exists}
+use Rattle.formulas.specs.Tree.Tree.{test, len, count, lag}
 use Rattle.formulas.specs.Meaning.{value}
 use Rattle.formulas.specs.Bounds.{signal_bound, num_bound, bounded}
 use Rattle.formulas.specs.Names.{num_names, names_parameter}
@@ -69,6 +69,7 @@ module _ (limit velocities : ℕ) where
   parameters-below (constant c) j b e = absurd (false≢true e)
   parameters-below (signal i) j b e = absurd (false≢true e)
   parameters-below (velocity o n) j b e = absurd (false≢true e)
+  parameters-below (earlier i) j b e = absurd (false≢true e)
   parameters-below (neg t) j b e = parameters-below t j b e
   parameters-below (and s t) j b e =
       of_either _ _ (names_parameter s j) (names_parameter t j) (parameters-below s j) (parameters-below t j) b e

@@ -11,7 +11,7 @@ use native.Mathlib.Omega.{arith}
 use Rattle.traces.specs.Trace.{Trace}
 use Rattle.traces.specs.Compare.{Compared}
 use Rattle.formulas.specs.Formula.{Prop, Formula}
-use Rattle.formulas.specs.Formula.Prop.{constant, signal, velocity, neg_p, and_p, or_p}
+use Rattle.formulas.specs.Formula.Prop.{constant, signal, velocity, earlier, neg_p, and_p, or_p}
 use Rattle.formulas.specs.Formula.Test.{begin, end, point, held, kept}
 use Rattle.formulas.specs.Formula.Count.{sum, age}
 use Rattle.formulas.specs.Formula.Formula.{test, len, count, lag, neg, and, or, then}
@@ -54,6 +54,7 @@ module _
     only_at (constant false) i = (λ h. absurd (laws.zero-at i h), λ h. absurd (false≢true h))
     only_at (signal j) i = Iff.trans (laws.signal-at j i) (Iff.symm ((means trace).signal-at j i))
     only_at (velocity o n) i = Iff.trans (laws.velocity-at o n i) (Iff.symm ((means trace).velocity-at o n i))
+    only_at (earlier j) i = Iff.trans (laws.earlier-at j i) (Iff.symm ((means trace).earlier-at j i))
     only_at (neg_p p) i = through (laws.not_at p i) ((means trace).not_at p i) (Iff.not (only_at p i))
     only_at (and_p p q) i =
         through (laws.and_at p q i) ((means trace).and_at p q i) (Iff.and (only_at p i) (only_at q i))

@@ -12,11 +12,11 @@ use Rattle.formulas.specs.Formula.Num.{literal, parameter}
 use Rattle.formulas.specs.Formula.Test.{begin, end, point, held, kept}
 use Rattle.formulas.specs.Formula.Count.{sum, age}
 use Rattle.formulas.specs.Tree.{Tree}
-use Rattle.formulas.specs.Tree.Tree.{constant, signal, velocity, neg, and, or, then, chop, exists, test, len}
-use Rattle.formulas.specs.Tree.Tree.{count, lag}
+use Rattle.formulas.specs.Tree.Tree.{constant, signal, velocity, earlier, neg, and, or, then, chop, exists}
+use Rattle.formulas.specs.Tree.Tree.{test, len, count, lag}
 use Rattle.formulas.specs.Names.{num_names, names_parameter}
 use Rattle.formulas.specs.Arena.{CONSTANT, SIGNAL, NOT, AND, OR, TEST, LEN, COUNT, RUN, FINE, ALWAYS, LEAD-END}
-use Rattle.formulas.specs.Arena.{THEN, CHOP, EXISTS, LITERAL, PARAMETER}
+use Rattle.formulas.specs.Arena.{THEN, EARLIER, CHOP, EXISTS, LITERAL, PARAMETER}
 use Rattle.formulas.specs.Arena.{test_number, count_number, num_kind, num_value, record_names, row, flat}
 
 -- Some record of the list names parameter j.
@@ -79,6 +79,7 @@ module _ (j : ℕ) where
   tells (constant c) = silent CONSTANT (truth c) refl
   tells (signal i) = silent SIGNAL i refl
   tells (velocity o n) = told (λ r. refl)
+  tells (earlier i) = silent EARLIER i refl
   tells (neg t) = before (tells t) (silent NOT 0 refl)
   tells (and a b) = both (tells a) (before (tells b) (silent AND 0 refl))
   tells (or a b) = both (tells a) (before (tells b) (silent OR 0 refl))

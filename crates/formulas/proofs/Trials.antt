@@ -1,13 +1,15 @@
 -- P1 to P13 and the further rows, by computation: of every row the formula has as many nodes and the rule as many
--- memories as said, each `then` in it has a lead on its left, and the interval meaning gives the verdicts. `row` and
--- `through` take what is computed of all rows to one of them, and to what is made of it. Assumes nothing.
-use mathlib.Core.Bool.{true}
+-- memories as said, each `then` in it has a lead on its left, and the interval meaning gives the verdicts; P1 to P13
+-- name no velocity. `row` and `through` take what is computed of all rows to one of them, and to what is made of it.
+-- Assumes nothing.
+use mathlib.Core.Bool.{true, false}
 use mathlib.Core.Path.{◌≡◌, refl, ap₂}
 use mathlib.Core.List.{List, [], ◌∷◌, map}
 use Prim.Native.Nat.{ℕ, zero, suc, ◌<◌}
 use native.Mathlib.Omega.{arith}
 use lib.ListN.{length, get_or}
 use Rattle.formulas.specs.Tree.{nodes, leads, rule_memories}
+use Rattle.formulas.specs.Names.{names_velocity}
 use Rattle.formulas.specs.Raw.{raw}
 use Rattle.formulas.specs.Trials.{Trial, trials, further_trials, meant}
 
@@ -26,6 +28,10 @@ further-remember = refl
 
 trials-led : map (λ (r : Trial). leads (raw r.formula)) trials ≡ map (λ (r : Trial). true) trials
 trials-led = refl
+
+-- SPEC 3.12: none of them has a velocity test.
+trials-velocity : map (λ (r : Trial). names_velocity (raw r.formula)) trials ≡ map (λ (r : Trial). false) trials
+trials-velocity = refl
 
 pub trials-meant : map meant trials ≡ map (λ (r : Trial). r.verdicts) trials
 trials-meant = refl

@@ -9,8 +9,8 @@ use Rattle.formulas.specs.Formula.Num.{literal, parameter}
 use Rattle.formulas.specs.Formula.Test.{begin, end, point, held, kept}
 use Rattle.formulas.specs.Formula.Count.{sum, age}
 use Rattle.formulas.specs.Tree.{Tree}
-use Rattle.formulas.specs.Tree.Tree.{constant, signal, velocity, neg, and, or, then, chop, exists, test, len}
-use Rattle.formulas.specs.Tree.Tree.{count, lag}
+use Rattle.formulas.specs.Tree.Tree.{constant, signal, velocity, earlier, neg, and, or, then, chop, exists}
+use Rattle.formulas.specs.Tree.Tree.{test, len, count, lag}
 
 -- The kinds of records. `LEAD-END` stands between the two parts of a `then`; no tree's record has `WHOLE`.
 abbrev pub CONSTANT : ℕ
@@ -58,15 +58,18 @@ THEN = 17
 abbrev pub VELOCITY : ℕ
 VELOCITY = 18
 
+abbrev pub EARLIER : ℕ
+EARLIER = 19
+
 -- a whole rule
 abbrev pub WHOLE : ℕ
-WHOLE = 19
+WHOLE = 20
 
 abbrev pub CHOP : ℕ
-CHOP = 20
+CHOP = 21
 
 abbrev pub EXISTS : ℕ
-EXISTS = 21
+EXISTS = 22
 
 -- The tests and the counts, numbered in the order of SPEC 3.5.
 abbrev pub test_number : Test → ℕ
@@ -110,6 +113,7 @@ abbrev pub flat : Tree → List ℕ
 flat (constant c) = row CONSTANT (truth c) 0 0
 flat (signal j) = row SIGNAL j 0 0
 flat (velocity o n) = row VELOCITY (op_number o) n 0
+flat (earlier j) = row EARLIER j 0 0
 flat (neg t) = flat t ++ row NOT 0 0 0
 flat (and a b) = flat a ++ (flat b ++ row AND 0 0 0)
 flat (or a b) = flat a ++ (flat b ++ row OR 0 0 0)

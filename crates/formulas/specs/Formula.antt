@@ -7,11 +7,13 @@ pub data Num : Type 0 where
   literal : ℕ → Num
   parameter : ℕ → Num
 
--- SPEC 3.6: propositions. A constant is `0` or `1`; a velocity test is a comparison with a literal.
+-- SPEC 3.6: propositions. A constant is `0` or `1`; a velocity test is a comparison with a literal; `r1` to `r8` are
+-- verdicts of earlier rules of the set, by their places.
 pub data Prop : Type 0 where
   constant : Bool → Prop
   signal : ℕ → Prop
   velocity : Op → ℕ → Prop
+  earlier : ℕ → Prop
   neg_p : Prop → Prop
   and_p : Prop → Prop → Prop
   or_p : Prop → Prop → Prop

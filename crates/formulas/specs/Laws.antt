@@ -7,7 +7,7 @@ use Rattle.traces.specs.Compare.{Compared}
 use Rattle.traces.specs.declared.Op.{Op}
 use Rattle.formulas.specs.Formula.{Num, Prop, Formula}
 use Rattle.formulas.specs.Formula.Num.{literal, parameter}
-use Rattle.formulas.specs.Formula.Prop.{constant, signal, velocity, neg_p, and_p, or_p}
+use Rattle.formulas.specs.Formula.Prop.{constant, signal, velocity, earlier, neg_p, and_p, or_p}
 use Rattle.formulas.specs.Formula.Test.{begin, end, point, held, kept}
 use Rattle.formulas.specs.Formula.Count.{sum, age}
 use Rattle.formulas.specs.Formula.Formula.{test, len, count, lag, neg, and, or, then}
@@ -39,11 +39,13 @@ module _ (trace : Trace) where
 
   -- At p i: P holds at tick i. On f b e: the formula holds on b to e.
   pub record Means (At : Prop → ℕ → Type 0) (On : Formula → ℕ → ℕ → Type 0) (verdict : Formula → ℕ → ℕ) : Type 0 where
-    -- SPEC 4.1: the constants, a signal by its bit, and a velocity test.
+    -- SPEC 4.1: the constants, a signal by its bit, a velocity test, and a verdict by the number that the tick has for
+    -- its place.
     pub zero-at : (i : ℕ) → ¬ At (constant false) i
     pub one_at : (i : ℕ) → At (constant true) i
     pub signal-at : (j i : ℕ) → At (signal j) i ↔ bit (trace i).signals j ≡ 1
     pub velocity-at : (o : Op) (n i : ℕ) → At (velocity o n) i ↔ Compared o (trace i).velocity n
+    pub earlier-at : (j i : ℕ) → At (earlier j) i ↔ get_or (trace i).verdicts (j - 1) 0 ≡ 1
     -- SPEC 4.1: `!`, `&` and `|` in P.
     pub not_at : (p : Prop) (i : ℕ) → At (neg_p p) i ↔ ¬ At p i
     pub and_at : (p q : Prop) (i : ℕ) → At (and_p p q) i ↔ At p i × At q i

@@ -5,6 +5,8 @@ pub mod Laws
 pub mod Tree
 pub mod Bounds
 pub mod Names
+pub mod Alike
 pub mod Arena
 pub mod Raw
+pub mod Sets
 pub mod Trials

@@ -2,21 +2,22 @@
 use Rattle.std.specs.Prelude.{Bool, true, false, not, ◌&&◌, ◌||◌, cond, ℕ, zero, suc, ◌-◌, eqb, ltb, leb}
 use Rattle.std.proofs.Math.Option.{Option, none, some}
 use Rattle.traces.specs.declared.Tick.{Tick}
-use Rattle.traces.specs.Trace.{Trace, signal_at, parameter_at, starts, truth, idle_verdict}
+use Rattle.traces.specs.Trace.{Trace, signal_at, parameter_at, verdict_at, starts, truth, idle_verdict}
 use Rattle.traces.specs.Compare.{compares}
 use Rattle.formulas.specs.Formula.{Num, Prop, Formula}
 use Rattle.formulas.specs.Formula.Num.{literal, parameter}
-use Rattle.formulas.specs.Formula.Prop.{constant, signal, velocity, neg_p, and_p, or_p}
+use Rattle.formulas.specs.Formula.Prop.{constant, signal, velocity, earlier, neg_p, and_p, or_p}
 use Rattle.formulas.specs.Formula.Test.{begin, end, point, held, kept}
 use Rattle.formulas.specs.Formula.Count.{sum, age}
 use Rattle.formulas.specs.Formula.Formula.{test, len, count, lag, neg, and, or, then}
 
--- SPEC 4.1: P at a tick. A constant is its truth value, a signal says whether it is on, and a velocity test compares
--- the tick's velocity with its literal.
+-- SPEC 4.1: P at a tick. A constant is its truth value, a signal says whether it is on, a velocity test compares the
+-- tick's velocity with its literal, and an earlier rule says whether the tick has 1 for its verdict.
 abbrev pub holds : Prop → Tick → Bool
 holds (constant c) k = c
 holds (signal j) k = signal_at k j
 holds (velocity o n) k = compares o k.velocity n
+holds (earlier j) k = verdict_at k j
 holds (neg_p p) k = not (holds p k)
 holds (and_p p q) k = holds p k && holds q k
 holds (or_p p q) k = holds p k || holds q k

@@ -1,13 +1,15 @@
 -- Formulas as trees: the tree that a formula is the formula of. Definitions only.
 use Rattle.formulas.specs.Formula.{Prop, Formula}
 use Rattle.formulas.specs.Tree.{Tree}
-use Rattle.formulas.specs.Tree.Tree.{constant, signal, velocity, neg, and, or, then, test, len, count, lag}
+use Rattle.formulas.specs.Tree.Tree.{constant, signal, velocity, earlier, neg, and, or, then, test, len, count}
+use Rattle.formulas.specs.Tree.Tree.{lag}
 
 -- A proposition's tree, and a formula's.
 abbrev pub raw_p : Prop → Tree
 raw_p (Prop.constant c) = constant c
 raw_p (Prop.signal j) = signal j
 raw_p (Prop.velocity o n) = velocity o n
+raw_p (Prop.earlier j) = earlier j
 raw_p (Prop.neg_p p) = neg (raw_p p)
 raw_p (Prop.and_p p q) = and (raw_p p) (raw_p q)
 raw_p (Prop.or_p p q) = or (raw_p p) (raw_p q)

@@ -8,11 +8,13 @@ use Rattle.formulas.specs.Formula.{Num, Prop, Test, Count, Formula}
 use Rattle.formulas.specs.Formula.Test.{begin, end, point, held, kept}
 use Rattle.formulas.specs.Formula.Count.{sum, age}
 
--- `!`, `&` and `|` stand inside and outside square brackets, constants, signals and velocity tests only inside.
+-- `!`, `&` and `|` stand inside and outside square brackets, constants, signals, velocity tests and verdicts of earlier
+-- rules only inside.
 pub data Tree : Type 0 where
   constant : Bool → Tree
   signal : ℕ → Tree
   velocity : Op → ℕ → Tree
+  earlier : ℕ → Tree
   neg : Tree → Tree
   and : Tree → Tree → Tree
   or : Tree → Tree → Tree
@@ -29,6 +31,7 @@ abbrev pub nodes : Tree → ℕ
 nodes (constant c) = 0
 nodes (signal j) = 0
 nodes (velocity o n) = 0
+nodes (earlier j) = 0
 nodes (neg t) = nodes t + 1
 nodes (and a b) = nodes a + nodes b + 1
 nodes (or a b) = nodes a + nodes b + 1
@@ -53,6 +56,7 @@ abbrev pub memories_of : Tree → ℕ
 memories_of (constant c) = 0
 memories_of (signal j) = 0
 memories_of (velocity o n) = 0
+memories_of (earlier j) = 0
 memories_of (neg t) = memories_of t
 memories_of (and a b) = memories_of a + memories_of b
 memories_of (or a b) = memories_of a + memories_of b
@@ -94,6 +98,7 @@ abbrev pub lead : Tree → Bool
 lead (constant c) = false
 lead (signal j) = false
 lead (velocity o n) = false
+lead (earlier j) = false
 lead (neg t) = false
 lead (and a b) = lead a && lead b
 lead (or a b) = lead a && lead b
@@ -110,6 +115,7 @@ abbrev pub leads : Tree → Bool
 leads (constant c) = true
 leads (signal j) = true
 leads (velocity o n) = true
+leads (earlier j) = true
 leads (neg t) = leads t
 leads (and a b) = leads a && leads b
 leads (or a b) = leads a && leads b
@@ -136,6 +142,7 @@ abbrev pub prop_of : Tree → Option Prop
 prop_of (constant c) = some (Prop.constant c)
 prop_of (signal j) = some (Prop.signal j)
 prop_of (velocity o n) = some (Prop.velocity o n)
+prop_of (earlier j) = some (Prop.earlier j)
 prop_of (neg t) = map Prop.neg_p (prop_of t)
 prop_of (and a b) = map₂ Prop.and_p (prop_of a) (prop_of b)
 prop_of (or a b) = map₂ Prop.or_p (prop_of a) (prop_of b)
@@ -152,6 +159,7 @@ abbrev pub formula_of : Tree → Option Formula
 formula_of (constant c) = none
 formula_of (signal j) = none
 formula_of (velocity o n) = none
+formula_of (earlier j) = none
 formula_of (neg t) = map Formula.neg (formula_of t)
 formula_of (and a b) = map₂ Formula.and (formula_of a) (formula_of b)
 formula_of (or a b) = map₂ Formula.or (formula_of a) (formula_of b)

@@ -9,7 +9,7 @@ use Rattle.traces.specs.Trace.{Trace, tick_of, trace_of}
 use Rattle.traces.specs.declared.Op.TheVariants.{AtMost as le, Below as lt, Equal as eq, Above as gt, AtLeast as ge}
 use Rattle.formulas.specs.Formula.{Prop, Formula}
 use Rattle.formulas.specs.Formula.Num.{literal, parameter}
-use Rattle.formulas.specs.Formula.Prop.{constant, signal, velocity, neg_p, and_p, or_p}
+use Rattle.formulas.specs.Formula.Prop.{constant, signal, velocity, earlier, neg_p, and_p, or_p}
 use Rattle.formulas.specs.Formula.Test.{begin, end, point, held, kept}
 use Rattle.formulas.specs.Formula.Count.{sum, age}
 use Rattle.formulas.specs.Formula.Formula.{test, len, count, lag, neg, and, or, then}
@@ -42,6 +42,12 @@ s0 = signal 0
 abbrev pub s1 : Prop
 s1 = signal 1
 
+abbrev pub r1 : Prop
+r1 = earlier 1
+
+abbrev pub r2 : Prop
+r2 = earlier 2
+
 -- SPEC 14.1: P1 to P13.
 abbrev pub trials : List Trial
 trials =
@@ -70,7 +76,7 @@ trials =
 -- start that ends what was false, and one that cuts a run of P; a parameter; under `!`; as a second part. Idle: no
 -- start at all, and a `!`, which leaves it as it is. SPEC 12.8: a sum that comes up twice, whose memories are two.
 -- SPEC 14.6: each comparison of a velocity test, and tests in a count, in a `lag`, beside signals, and in both parts of
--- a `then`.
+-- a `then`. SPEC 14.7: verdicts of earlier rules, where other numbers than 1 say no.
 abbrev pub further_trials : List Trial
 further_trials =
     trial "end[!s0]" (test end (neg_p s0)) 1 1 first (five 0 0 1 0 0)
@@ -126,6 +132,16 @@ further_trials =
     (five 1 1 0 0 1)
     ∷ trial "kept[v<64] then end[v<64]" (then (test kept (velocity lt 64)) (test end (velocity lt 64))) 3 4 first
     (five 0 0 0 1 0)
+    ∷ trial "end[r1]" (test end r1) 1 1 first (five 1 0 0 1 0)
+    ∷ trial "end[!r1]" (test end (neg_p r1)) 1 1 first (five 0 1 1 0 1)
+    ∷ trial "end[r2]" (test end r2) 1 1 first (five 0 1 1 0 1)
+    ∷ trial "end[r3]" (test end (earlier 3)) 1 1 first (five 0 0 0 0 0)
+    ∷ trial "end[r7]" (test end (earlier 7)) 1 1 first (five 1 1 1 1 1)
+    ∷ trial "sum[r1] >= 1" (count sum r1 ge (literal 1)) 1 2 first (five 0 1 1 1 1)
+    ∷ trial "kept[r1 | s0]" (test kept (or_p r1 s0)) 1 2 first (five 1 1 1 0 0)
+    ∷ trial "kept[r1] then end[r2]" (then (test kept r1) (test end r2)) 3 4 first (five 0 0 1 0 1)
+    ∷ trial "lag[r2,1,s0]" (lag r2 (literal 1) s0) 1 3 first (five 1 1 0 0 0)
+    ∷ trial "end[r1 | v>=127]" (test end (or_p r1 (velocity ge 127))) 1 1 first (five 1 0 1 1 0)
     ∷ []
 
 -- No row: what stands past the last one.
@@ -140,26 +156,34 @@ signals = five 1 1 2 1 3
 abbrev pub noughts : List ℕ
 noughts = replicate parameter_count 0
 
-abbrev pub tick : ℕ → ℕ → ℕ → Tick
-tick s g v = tick_of s g v noughts
+abbrev pub tick : ℕ → ℕ → ℕ → List ℕ → Tick
+tick s g v rs = tick_of s g v rs noughts
 
 -- SPEC 14.6: the velocities at the five ticks.
 abbrev pub strengths : List ℕ
 strengths = five 0 64 127 63 90
 
--- The ticks with these starts, signals and velocities, in order.
-abbrev pub ticks_of : List ℕ → List ℕ → List ℕ → List Tick
-ticks_of [] gs vs = []
-ticks_of (s ∷ ss) [] vs = []
-ticks_of (s ∷ ss) (g ∷ gs) [] = []
-ticks_of (s ∷ ss) (g ∷ gs) (v ∷ vs) = tick s g v ∷ ticks_of ss gs vs
+-- SPEC 14.7: a tick's verdicts, and those of the five ticks.
+abbrev pub eight : ℕ → ℕ → List ℕ
+eight a b = a ∷ b ∷ 0 ∷ 0 ∷ 0 ∷ 0 ∷ 1 ∷ 0 ∷ []
+
+abbrev pub earlier_verdicts : List (List ℕ)
+earlier_verdicts = eight 1 0 ∷ eight 0 1 ∷ eight 2 1 ∷ eight 1 2 ∷ eight 7 1 ∷ []
+
+-- The ticks with these starts, signals, velocities and verdicts, in order.
+abbrev pub ticks_of : List ℕ → List ℕ → List ℕ → List (List ℕ) → List Tick
+ticks_of [] gs vs rs = []
+ticks_of (s ∷ ss) [] vs rs = []
+ticks_of (s ∷ ss) (g ∷ gs) [] rs = []
+ticks_of (s ∷ ss) (g ∷ gs) (v ∷ vs) [] = []
+ticks_of (s ∷ ss) (g ∷ gs) (v ∷ vs) (r ∷ rs) = tick s g v r ∷ ticks_of ss gs vs rs
 
 -- A row's ticks, and its trace.
 abbrev pub ticks_in : Trial → List Tick
-ticks_in r = ticks_of r.starts signals strengths
+ticks_in r = ticks_of r.starts signals strengths earlier_verdicts
 
 abbrev pub trace_in : Trial → Trace
-trace_in r = trace_of (tick 0 0 0) (ticks_in r)
+trace_in r = trace_of (tick 0 0 0 (eight 0 0)) (ticks_in r)
 
 -- The verdicts of a formula at the n ticks from i on.
 abbrev pub verdicts_from : Trace → Formula → ℕ → ℕ → List ℕ

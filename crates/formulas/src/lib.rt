@@ -35,12 +35,14 @@ pub const THEN: u32 = 17;
 
 pub const VELOCITY: u32 = 18;
 
+pub const EARLIER: u32 = 19;
+
 // A whole rule: no tree's record has this kind.
-pub const WHOLE: u32 = 19;
+pub const WHOLE: u32 = 20;
 
-pub const CHOP: u32 = 20;
+pub const CHOP: u32 = 21;
 
-pub const EXISTS: u32 = 21;
+pub const EXISTS: u32 = 22;
 
 // What a record compares a count with.
 pub const LITERAL: u32 = 0;

@@ -2,7 +2,7 @@
 use mathlib.Core.Path.{◌≡◌, refl, sym, ap, ◌∙◌}
 use mathlib.Core.Bool.{Bool, true, false, ◌&&◌, ◌||◌, cond, true≢false}
 use mathlib.Core.List.{List}
-use Prim.Native.Nat.{ℕ, ◌+◌, ◌≤◌}
+use Prim.Native.Nat.{ℕ, ◌+◌, ◌≤◌, ◌<◌}
 use native.Mathlib.Omega.{arith}
 use native.Mathlib.Nat.{le_refl}
 use lib.Dec.{eqb}
@@ -11,12 +11,13 @@ use borrow.Author.Tests.{eq-eqb, ne_eqb}
 use Rattle.traces.specs.declared.Op.{Op}
 use Rattle.formulas.specs.Formula.{Num}
 use Rattle.formulas.specs.Tree.{Tree}
-use Rattle.formulas.specs.Tree.Tree.{constant, signal, velocity, and, or, len, count}
+use Rattle.formulas.specs.Tree.Tree.{constant, signal, velocity, earlier, and, or, len, count}
 use Rattle.words.specs.Word.{ROUND, ROUND-END, NOT, AND, OR, BEGIN, KEPT, LEN, SUM, AGE, LAG}
-use Rattle.words.specs.Word.{THEN, CHOP, EXISTS, VEL, SIGNAL}
-use Rattle.words.specs.Word.{is_op, is_signal, is_num, is_velocity, is_bit, is_test, is_count}
-use Rattle.words.proofs.Classes.{within-above}
-use Rattle.grammar.specs.Grammar.{Symbol, bit_word, signal_word, velocity_word, op_word, num_word, count_word}
+use Rattle.words.specs.Word.{THEN, CHOP, EXISTS, VEL, SIGNAL, LITERAL}
+use Rattle.words.specs.Word.{is_op, is_signal, is_earlier, is_num, is_velocity, is_bit, is_test, is_count}
+use Rattle.words.proofs.Classes.{within-below, within-above}
+use Rattle.grammar.specs.Grammar.{Symbol, bit_word, signal_word, earlier_word, velocity_word, op_word, num_word}
+use Rattle.grammar.specs.Grammar.{count_word}
 use Rattle.grammar.specs.Grammar.Symbol.{F, D, C, U, B}
 use Rattle.grammar.specs.Parse.{Result, Join, Unit as First, Atom, word, bind, join_of, unit_of, atom_of}
 use Rattle.grammar.specs.Parse.{leaf_at, with_comparison, closed}
@@ -27,24 +28,18 @@ use Rattle.grammar.specs.Parse.Goal.{go_f, go_d, go_ds, go_c, go_cs, go_u, go_a,
 use Rattle.grammar.specs.Parse.Join.{join-then, join-chop, join-none}
 use Rattle.grammar.specs.Parse.Unit.{unit-not, unit-round, unit-leaf, unit-exists, unit-atom}
 use Rattle.grammar.specs.Parse.Atom.{atom-test, atom-len, atom-count, atom-lag}
-use Rattle.grammar.proofs.Position.{DerivesAt, within-high, signal-pos, bit-pos, test-pos, count-pos}
+use Rattle.grammar.proofs.Position.{DerivesAt, within-high, signal-pos, earlier-pos, bit-pos, test-pos}
+use Rattle.grammar.proofs.Position.{earlier-high, count-pos}
 use Rattle.grammar.proofs.Position.DerivesAt.{f-one, f-then, f-chop, d-one, d-or, c-one, c-and}
-use Rattle.grammar.proofs.Position.DerivesAt.{u-not, u-exists, u-round, u-constant, u-signal, u-velocity}
-use Rattle.grammar.proofs.Position.DerivesAt.{u-test, u-len, u-count, u-lag, b-between}
+use Rattle.grammar.proofs.Position.DerivesAt.{u-not, u-exists, u-round, u-constant, u-signal, u-earlier}
+use Rattle.grammar.proofs.Position.DerivesAt.{u-velocity, u-test, u-len, u-count, u-lag, b-between}
 use Rattle.grammar.proofs.Sound.{read-eq, read-holds}
 
 -- ---- classes of words
 
--- Words that are not `!` nor a round bracket: a leaf's inside square brackets,
-signal-leaf : (w : ℕ) → is_signal w ≡ true → unit_of true w ≡ unit-leaf
-signal-leaf w h =
-    let p = signal-pos w h in
-    simp (ne_eqb w NOT (λ e. omega arith), ne_eqb w ROUND (λ e. omega arith))
-
-bit-leaf : (w : ℕ) → is_bit w ≡ true → unit_of true w ≡ unit-leaf
-bit-leaf w h =
-    let p = bit-pos w h in
-    simp (ne_eqb w NOT (λ e. omega arith), ne_eqb w ROUND (λ e. omega arith))
+-- Words above `!` are not a round bracket: a leaf's inside square brackets,
+unit-of-leaf : (w : ℕ) → NOT < w → unit_of true w ≡ unit-leaf
+unit-of-leaf w p = simp (ne_eqb w NOT (λ e. omega arith), ne_eqb w ROUND (λ e. omega arith))
 
 -- and an atom's outside, which are not `exists` either.
 unit-of-atom : (w : ℕ) → BEGIN ≤ w → w ≤ AGE → unit_of false w ≡ unit-atom
@@ -85,7 +80,16 @@ bit-signal : (w : ℕ) → is_bit w ≡ true → is_signal w ≡ false
 unfolding is_signal
 bit-signal w h = within-above SIGNAL _ w (omega (arith, bit-pos w h))
 
--- `v` is neither.
+-- A verdict is neither.
+earlier-signal : (w : ℕ) → is_earlier w ≡ true → is_signal w ≡ false
+unfolding is_signal
+earlier-signal w h = within-below SIGNAL _ w (omega (arith, earlier-high w h))
+
+earlier-bit : (w : ℕ) → is_earlier w ≡ true → is_bit w ≡ false
+unfolding is_bit
+earlier-bit w h = within-below LITERAL _ w (omega (arith, earlier-high w h))
+
+-- `v` is none of the three.
 vel-signal : (w : ℕ) → w ≡ VEL → is_signal w ≡ false
 unfolding is_signal
 vel-signal w e = ap is_signal e
@@ -93,6 +97,10 @@ vel-signal w e = ap is_signal e
 vel-bit : (w : ℕ) → w ≡ VEL → is_bit w ≡ false
 unfolding is_bit
 vel-bit w e = ap is_bit e
+
+vel-earlier : (w : ℕ) → w ≡ VEL → is_earlier w ≡ false
+unfolding is_earlier
+vel-earlier w e = ap is_earlier e
 
 -- A word that joins no further F to a D.
 pub stop-join : (l : Bool) (w : ℕ) → (w ≡ THEN → ⊥) → (w ≡ CHOP → ⊥) → join_of l w ≡ join-none
@@ -173,11 +181,15 @@ module _ (ws : List ℕ) where
   bit_at : (i : ℕ) → is_bit (word ws i) ≡ true → leaf_at ws i ≡ ok (constant (bit_word (word ws i))) (i + 1)
   bit_at i h = rw (bit-signal (word ws i) h, h)
 
+  earlier-at : (i : ℕ) → is_earlier (word ws i) ≡ true → leaf_at ws i ≡ ok (earlier (earlier_word (word ws i))) (i + 1)
+  earlier-at i h = rw (earlier-signal (word ws i) h, earlier-bit (word ws i) h, h)
+
   velocity-at : (i : ℕ) →
       word ws i ≡ VEL → is_op (word ws (i + 1)) ≡ true → is_velocity (word ws (i + 2)) ≡ true →
       leaf_at ws i ≡ ok (velocity (op_word (word ws (i + 1))) (velocity_word (word ws (i + 2)))) (i + 3)
   velocity-at i e h n =
-      simp (vel-signal (word ws i) e, vel-bit (word ws i) e, eq-eqb (word ws i) VEL e, h, n)
+      let w = word ws i in
+      simp (vel-signal w e, vel-bit w e, vel-earlier w e, eq-eqb w VEL e, h, n)
 
   -- ---- completeness
 
@@ -215,8 +227,12 @@ module _ (ws : List ℕ) where
       U-at l i unit-round (ap (unit_of l) e)
       ∙ then-on _ (complete r (ends_at _ ROUND-END f refl))
       ∙ closed_at ROUND-END t j f
-  complete (u-constant {i} h) = U-at true i unit-leaf (bit-leaf (word ws i) h) ∙ bit_at i h
-  complete (u-signal {i} h) = U-at true i unit-leaf (signal-leaf (word ws i) h) ∙ signal-at i h
+  complete (u-constant {i} h) =
+      U-at true i unit-leaf (unit-of-leaf (word ws i) (omega (arith, bit-pos (word ws i) h))) ∙ bit_at i h
+  complete (u-signal {i} h) =
+      U-at true i unit-leaf (unit-of-leaf (word ws i) (omega (arith, signal-pos (word ws i) h))) ∙ signal-at i h
+  complete (u-earlier {i} h) =
+      U-at true i unit-leaf (unit-of-leaf (word ws i) (omega (arith, earlier-pos (word ws i) h))) ∙ earlier-at i h
   complete (u-velocity {i} e h n) = U-at true i unit-leaf (ap (unit_of true) e) ∙ velocity-at i e h n
   complete (u-test {i} {j} {p} h r) =
       U-at false i unit-atom (test-unit (word ws i) h)

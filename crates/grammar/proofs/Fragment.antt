@@ -9,19 +9,20 @@ use lib.Dec.{eqb}
 use borrow.Author.Tests.{ne_eqb}
 use Rattle.formulas.specs.Formula.{Prop, Formula}
 use Rattle.formulas.specs.Tree.{Tree, map, map₂, prop_of, formula_of}
-use Rattle.formulas.specs.Tree.Tree.{constant, signal, velocity, neg, and, or, then, chop, exists, test, len, count}
-use Rattle.formulas.specs.Tree.Tree.{lag}
+use Rattle.formulas.specs.Tree.Tree.{constant, signal, velocity, earlier, neg, and, or, then, chop, exists, test}
+use Rattle.formulas.specs.Tree.Tree.{len, count, lag}
 use Rattle.words.specs.Word.{ROUND-END, AND, OR}
 use Rattle.words.specs.Word.{THEN, CHOP, EXISTS}
-use Rattle.words.specs.Word.{is_num}
+use Rattle.words.specs.Word.{is_signal, is_earlier, is_num}
 use Rattle.grammar.specs.Grammar.{Symbol, Derives, Rule}
-use Rattle.grammar.specs.Grammar.{bit_word, signal_word, velocity_word, op_word, num_word, test_word, count_word}
+use Rattle.grammar.specs.Grammar.{bit_word, signal_word, earlier_word, velocity_word, op_word, num_word, test_word}
+use Rattle.grammar.specs.Grammar.{count_word}
 use Rattle.grammar.specs.Grammar.Symbol.{F, D, C, U, B}
 use Rattle.grammar.specs.Grammar.Derives.{F-one, F-then, F-chop, D-one, D-or, C-one, C-and}
-use Rattle.grammar.specs.Grammar.Derives.{U-not, U-exists, U-round, U-constant, U-signal, U-velocity}
+use Rattle.grammar.specs.Grammar.Derives.{U-not, U-exists, U-round, U-constant, U-signal, U-earlier, U-velocity}
 use Rattle.grammar.specs.Grammar.Derives.{U-test, U-len, U-count, U-lag, B-between}
 use Rattle.grammar.specs.Fragment.{has_word, beyond}
-use Rattle.grammar.proofs.Position.{num_pos}
+use Rattle.grammar.proofs.Position.{num_pos, signal-pos, earlier-pos}
 use Rattle.grammar.proofs.Hits.{hits, hits-append, own, Clear, clear}
 
 -- ---- words
@@ -58,6 +59,12 @@ none-hit = clear hit low (λ w h. high w (omega arith))
 num-hit : (w : ℕ) → is_num w ≡ true → hit w ≡ false
 num-hit w h = high w (omega (arith, num_pos w h))
 
+signal-hit : (w : ℕ) → is_signal w ≡ true → hit w ≡ false
+signal-hit w h = high w (omega (arith, signal-pos w h))
+
+earlier-hit : (w : ℕ) → is_earlier w ≡ true → hit w ≡ false
+earlier-hit w h = high w (omega (arith, earlier-pos w h))
+
 -- ---- trees
 
 -- A tree with `chop` or `exists` in it.
@@ -65,6 +72,7 @@ abbrev outside : Tree → Bool
 outside (constant c) = false
 outside (signal j) = false
 outside (velocity o n) = false
+outside (earlier j) = false
 outside (neg t) = outside t
 outside (and a b) = outside a || outside b
 outside (or a b) = outside a || outside b
@@ -89,7 +97,8 @@ hits-outside (U-not g) = hits-outside g
 hits-outside (U-exists h g) = refl
 hits-outside (U-round {s = s} g) = hits-append hit s (ROUND-END ∷ []) ∙ or-false (hits hit s) ∙ hits-outside g
 hits-outside (U-constant {w} h) = or-false (hit w) ∙ none-hit.bit w h
-hits-outside (U-signal {w} h) = or-false (hit w) ∙ none-hit.signal w h
+hits-outside (U-signal {w} h) = or-false (hit w) ∙ signal-hit w h
+hits-outside (U-earlier {w} h) = or-false (hit w) ∙ earlier-hit w h
 hits-outside (U-velocity {o} {n} h m) = ap₂ ◌||◌ (none-hit.op o h) (or-false (hit n) ∙ none-hit.velocity n m)
 hits-outside (U-test {k} {s} h g) = ap₂ ◌||◌ (none-hit.test k h) (hits-outside g)
 hits-outside (U-len {o} {n} h m) = ap₂ ◌||◌ (none-hit.op o h) (or-false (hit n) ∙ num-hit n m)
@@ -154,6 +163,7 @@ means (U-exists h g) e = absurd (true≢false e)
 means (U-round g) e = means g e
 means (U-constant {w} h) e = (Prop.constant (bit_word w), refl)
 means (U-signal {w} h) e = (Prop.signal (signal_word w), refl)
+means (U-earlier {w} h) e = (Prop.earlier (earlier_word w), refl)
 means (U-velocity {o} {n} h m) e = (Prop.velocity (op_word o) (velocity_word n), refl)
 means (U-test {k} h g) e =
     let x = means g e in
@@ -188,6 +198,7 @@ no-prop : (t : Tree) → outside t ≡ true → prop_of t ≡ none
 no-prop (constant c) e = absurd (false≢true e)
 no-prop (signal j) e = absurd (false≢true e)
 no-prop (velocity o n) e = absurd (false≢true e)
+no-prop (earlier j) e = absurd (false≢true e)
 no-prop (neg t) e = one_none Prop.neg_p (prop_of t) (no-prop t e)
 no-prop (and a b) e = both-none Prop.and_p (prop_of a) (prop_of b) (outside a) (outside b) (no-prop a) (no-prop b) e
 no-prop (or a b) e = both-none Prop.or_p (prop_of a) (prop_of b) (outside a) (outside b) (no-prop a) (no-prop b) e
@@ -204,6 +215,7 @@ no-formula : (t : Tree) → outside t ≡ true → formula_of t ≡ none
 no-formula (constant c) e = refl
 no-formula (signal j) e = refl
 no-formula (velocity o n) e = refl
+no-formula (earlier j) e = refl
 no-formula (neg t) e = one_none Formula.neg (formula_of t) (no-formula t e)
 no-formula (and a b) e =
     both-none Formula.and (formula_of a) (formula_of b) (outside a) (outside b) (no-formula a) (no-formula b) e

@@ -5,11 +5,11 @@ use mathlib.Core.Bool.{Bool, true, false, ◌||◌, or_assoc}
 use mathlib.Core.List.{List, [], ◌∷◌, ◌++◌}
 use Prim.Native.Nat.{ℕ, ◌≤◌, ◌<◌}
 use native.Mathlib.Omega.{arith}
-use Rattle.words.specs.Word.{LE, GE, BEGIN, KEPT, SUM, AGE, CHOP, SIGNAL}
-use Rattle.words.specs.Word.{is_op, is_signal, is_velocity, is_bit, is_test, is_count}
+use Rattle.words.specs.Word.{LE, GE, BEGIN, KEPT, SUM, AGE, CHOP, VELOCITY}
+use Rattle.words.specs.Word.{is_op, is_velocity, is_bit, is_test, is_count}
 use Rattle.grammar.specs.Grammar.{Symbol}
 use Rattle.grammar.specs.Grammar.Symbol.{F, D, C, U, B}
-use Rattle.grammar.proofs.Position.{within-high, bit-pos, signal-pos, velocity-pos}
+use Rattle.grammar.proofs.Position.{within-high, bit-pos, velocity-pos}
 
 module _ (hit : ℕ → Bool) where
   -- A word passes.
@@ -35,19 +35,17 @@ module _ (hit : ℕ → Bool) where
     pub op : (w : ℕ) → is_op w ≡ true → hit w ≡ false
     pub test : (w : ℕ) → is_test w ≡ true → hit w ≡ false
     pub count : (w : ℕ) → is_count w ≡ true → hit w ≡ false
-    pub signal : (w : ℕ) → is_signal w ≡ true → hit w ≡ false
     pub velocity : (w : ℕ) → is_velocity w ≡ true → hit w ≡ false
     pub bit : (w : ℕ) → is_bit w ≡ true → hit w ≡ false
 
-  -- So where none below `chop` does and none from the signals on.
-  pub clear : ((w : ℕ) → w < CHOP → hit w ≡ false) → ((w : ℕ) → SIGNAL ≤ w → hit w ≡ false) → Clear
+  -- So where none below `chop` does and none from the literals of velocity tests on.
+  pub clear : ((w : ℕ) → w < CHOP → hit w ≡ false) → ((w : ℕ) → VELOCITY ≤ w → hit w ≡ false) → Clear
   unfolding is_op is_test is_count
   clear low high =
       record {
         op = λ w h. low w (omega (arith, within-high LE GE w h));
         test = λ w h. low w (omega (arith, within-high BEGIN KEPT w h));
         count = λ w h. low w (omega (arith, within-high SUM AGE w h));
-        signal = λ w h. high w (signal-pos w h);
-        velocity = λ w h. high w (omega (arith, velocity-pos w h));
+        velocity = λ w h. high w (velocity-pos w h);
         bit = λ w h. high w (omega (arith, bit-pos w h));
       }

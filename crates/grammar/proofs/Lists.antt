@@ -9,17 +9,18 @@ use lib.ListN.{length, take, drop, length-append, take-append-drop}
 use lib.Seq.{slice, slice-cons, slice_empty, take-take, drop-append-le, length-take-le, get_or_at, take-length}
 use Rattle.formulas.specs.Tree.{Tree}
 use Rattle.words.specs.Word.{ROUND-END, AND, OR, THEN, CHOP}
-use Rattle.words.specs.Word.{is_op, is_signal, is_num, is_velocity, is_bit, is_test, is_count}
+use Rattle.words.specs.Word.{is_op, is_signal, is_earlier, is_num, is_velocity, is_bit, is_test, is_count}
 use Rattle.grammar.specs.Grammar.{Symbol, Derives}
 use Rattle.grammar.specs.Grammar.Symbol.{F}
 use Rattle.grammar.specs.Grammar.Derives.{F-one, F-then, F-chop, D-one, D-or, C-one, C-and}
-use Rattle.grammar.specs.Grammar.Derives.{U-not, U-exists, U-round, U-constant, U-signal, U-velocity}
+use Rattle.grammar.specs.Grammar.Derives.{U-not, U-exists, U-round, U-constant, U-signal, U-earlier, U-velocity}
 use Rattle.grammar.specs.Grammar.Derives.{U-test, U-len, U-count, U-lag, B-between}
 use Rattle.grammar.specs.Parse.{word}
-use Rattle.grammar.proofs.Position.{DerivesAt, span, inside, num_pos, signal-pos, velocity-pos, bit-pos}
+use Rattle.grammar.proofs.Position.{DerivesAt, span, inside, num_pos, signal-pos, earlier-pos, velocity-pos}
+use Rattle.grammar.proofs.Position.{bit-pos}
 use Rattle.grammar.proofs.Position.DerivesAt.{f-one, f-then, f-chop, d-one, d-or, c-one, c-and}
-use Rattle.grammar.proofs.Position.DerivesAt.{u-not, u-exists, u-round, u-constant, u-signal, u-velocity}
-use Rattle.grammar.proofs.Position.DerivesAt.{u-test, u-len, u-count, u-lag, b-between}
+use Rattle.grammar.proofs.Position.DerivesAt.{u-not, u-exists, u-round, u-constant, u-signal, u-earlier}
+use Rattle.grammar.proofs.Position.DerivesAt.{u-velocity, u-test, u-len, u-count, u-lag, b-between}
 
 -- ---- from positions to lists: the words from i up to j are `slice i j ws`
 
@@ -107,6 +108,7 @@ to-list {ws} (u-round {l} {i} {j} e r f) =
     rw (bracketed ws i j (span r).moves (inside ws j (omega arith)), e, f) (U-round (to-list r))
 to-list {ws} (u-constant {i} h) = rw (one ws i (inside ws i (omega (arith, bit-pos (word ws i) h)))) (U-constant h)
 to-list {ws} (u-signal {i} h) = rw (one ws i (inside ws i (omega (arith, signal-pos (word ws i) h)))) (U-signal h)
+to-list {ws} (u-earlier {i} h) = rw (one ws i (inside ws i (omega (arith, earlier-pos (word ws i) h)))) (U-earlier h)
 to-list {ws} (u-velocity {i} e h n) =
     let k = inside ws (i + 2) (omega (arith, velocity-pos (word ws (i + 2)) n)) in
     rw (triple ws i k, e) (U-velocity h n)
@@ -215,6 +217,7 @@ to-position (U-round {s = s} g) x =
     rw (next z) (u-round (head x) (to-position g (left s (ROUND-END ∷ []) y)) (head z))
 to-position (U-constant h) x = let e = head x in rw (next x, ← e) (u-constant (ap is_bit e ∙ h))
 to-position (U-signal h) x = let e = head x in rw (next x, ← e) (u-signal (ap is_signal e ∙ h))
+to-position (U-earlier h) x = let e = head x in rw (next x, ← e) (u-earlier (ap is_earlier e ∙ h))
 to-position {i = i} {j = j} (U-velocity h n) x =
     let y = tail x in
     let e = head y in

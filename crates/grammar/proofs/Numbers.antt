@@ -5,23 +5,31 @@ use mathlib.Core.List.{List}
 use Prim.Native.Nat.{ℕ, ◌+◌, ◌-◌, ◌≤◌, ◌<◌}
 use native.Mathlib.Omega.{arith}
 use lib.Dec.{leb}
-use borrow.Author.Tests.{leb-true, lt-ltb}
-use Rattle.limits.specs.Limits.{signal_count, literal_count, parameter_count}
+use borrow.Author.Tests.{leb-true, le-leb, lt-ltb}
+use Rattle.limits.specs.Limits.{signal_count, literal_count, parameter_count, place_count}
 use Rattle.formulas.specs.Formula.Num.{literal, parameter}
 use Rattle.formulas.specs.Tree.{Tree}
-use Rattle.formulas.specs.Bounds.{signal_bound, num_bound, bounded}
-use Rattle.words.specs.Word.{PARAMETER, SIGNAL, VELOCITY, LITERAL, last_word, is_signal, is_num, is_velocity}
-use Rattle.grammar.specs.Grammar.{Symbol, signal_word, velocity_word, num_word}
+use Rattle.formulas.specs.Bounds.{signal_bound, place_bound, num_bound, bounded}
+use Rattle.words.specs.Word.{PARAMETER, EARLIER, SIGNAL, VELOCITY, LITERAL, last_word, is_signal, is_earlier, is_num}
+use Rattle.words.specs.Word.{is_velocity}
+use Rattle.grammar.specs.Grammar.{Symbol, signal_word, earlier_word, velocity_word, num_word}
 use Rattle.grammar.specs.Parse.{word}
-use Rattle.grammar.proofs.Position.{DerivesAt, within-high, is_parameter}
+use Rattle.grammar.proofs.Position.{DerivesAt, within-high, earlier-pos, earlier-high, is_parameter}
 use Rattle.grammar.proofs.Position.DerivesAt.{f-one, f-then, f-chop, d-one, d-or, c-one, c-and}
-use Rattle.grammar.proofs.Position.DerivesAt.{u-not, u-exists, u-round, u-constant, u-signal, u-velocity}
-use Rattle.grammar.proofs.Position.DerivesAt.{u-test, u-len, u-count, u-lag, b-between}
+use Rattle.grammar.proofs.Position.DerivesAt.{u-not, u-exists, u-round, u-constant, u-signal, u-earlier}
+use Rattle.grammar.proofs.Position.DerivesAt.{u-velocity, u-test, u-len, u-count, u-lag, b-between}
 
 -- A signal's word,
 signal-bound : (w : ℕ) → is_signal w ≡ true → signal_bound (signal_word w) ≡ true
 unfolding is_signal
 signal-bound w h = lt-ltb (w - SIGNAL) signal_count (omega (arith, within-high SIGNAL _ w h))
+
+-- a verdict's,
+place-bound : (w : ℕ) → is_earlier w ≡ true → place_bound (earlier_word w) ≡ true
+place-bound w h =
+    let low = le-leb 1 (w - EARLIER) (omega (arith, earlier-pos w h)) in
+    let high = le-leb (w - EARLIER) place_count (omega (arith, earlier-high w h)) in
+    simp (low, high)
 
 module _ (velocities : ℕ) where
   -- and the word of a literal or a parameter.
@@ -53,6 +61,7 @@ module _ (velocities : ℕ) where
     numbers (u-round e r f) = numbers r
     numbers (u-constant h) = refl
     numbers (u-signal {i} h) = signal-bound (word ws i) h
+    numbers (u-earlier {i} h) = place-bound (word ws i) h
     numbers (u-velocity {i} e h n) = lt-ltb (velocity_word (word ws (i + 2))) velocities (v (i + 2) n)
     numbers (u-test h r) = numbers r
     numbers (u-len {i} e h n) = num-bound (word ws (i + 1 + 1)) n (k (i + 1 + 1))

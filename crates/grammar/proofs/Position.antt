@@ -10,16 +10,16 @@ use native.Mathlib.Decide.{dec_lt}
 use lib.Dec.{leb}
 use lib.ListN.{length, length-append, get_or-eq_default}
 use borrow.Author.Tests.{leb-true}
-use Rattle.limits.specs.Limits.{parameter_count}
+use Rattle.limits.specs.Limits.{parameter_count, place_count}
 use Rattle.formulas.specs.Tree.{Tree, nodes}
-use Rattle.formulas.specs.Tree.Tree.{constant, signal, velocity, neg, and, or, then, chop, exists, test, len, count}
-use Rattle.formulas.specs.Tree.Tree.{lag}
+use Rattle.formulas.specs.Tree.Tree.{constant, signal, velocity, earlier, neg, and, or, then, chop, exists, test}
+use Rattle.formulas.specs.Tree.Tree.{len, count, lag}
 use Rattle.formulas.specs.Arena.{flat}
 use Rattle.words.specs.Word.{ROUND, ROUND-END, SQUARE, SQUARE-END, NOT, AND, OR, LE, GE, COMMA, BEGIN, KEPT, LEN}
-use Rattle.words.specs.Word.{SUM, AGE, LAG, THEN, CHOP, EXISTS, VEL, PARAMETER, SIGNAL, VELOCITY, LITERAL}
-use Rattle.words.specs.Word.{within, is_op, is_signal, is_num, is_velocity, is_bit, is_test, is_count}
-use Rattle.grammar.specs.Grammar.{Symbol, Square, bit_word, signal_word, velocity_word, op_word, num_word, test_word}
-use Rattle.grammar.specs.Grammar.{count_word}
+use Rattle.words.specs.Word.{SUM, AGE, LAG, THEN, CHOP, EXISTS, VEL, PARAMETER, EARLIER, SIGNAL, VELOCITY, LITERAL}
+use Rattle.words.specs.Word.{within, is_op, is_signal, is_earlier, is_num, is_velocity, is_bit, is_test, is_count}
+use Rattle.grammar.specs.Grammar.{Symbol, Square, bit_word, signal_word, earlier_word, velocity_word, op_word}
+use Rattle.grammar.specs.Grammar.{num_word, test_word, count_word}
 use Rattle.grammar.specs.Grammar.Symbol.{F, D, C, U, B}
 use Rattle.grammar.specs.Parse.{word}
 
@@ -48,6 +48,8 @@ pub data DerivesAt (ws : List ℕ) : Bool → Symbol → ℕ → Tree → ℕ �
       word ws i ≡ ROUND → DerivesAt ws l F (i + 1) t j → word ws j ≡ ROUND-END → DerivesAt ws l U i t (j + 1)
   u-constant : {i : ℕ} → is_bit (word ws i) ≡ true → DerivesAt ws true U i (constant (bit_word (word ws i))) (i + 1)
   u-signal : {i : ℕ} → is_signal (word ws i) ≡ true → DerivesAt ws true U i (signal (signal_word (word ws i))) (i + 1)
+  u-earlier : {i : ℕ} →
+      is_earlier (word ws i) ≡ true → DerivesAt ws true U i (earlier (earlier_word (word ws i))) (i + 1)
   u-velocity : {i : ℕ} →
       word ws i ≡ VEL → is_op (word ws (i + 1)) ≡ true → is_velocity (word ws (i + 2)) ≡ true →
       DerivesAt ws true U i (velocity (op_word (word ws (i + 1))) (velocity_word (word ws (i + 2)))) (i + 3)
@@ -91,6 +93,14 @@ op-pos w e = within_low LE GE w e
 pub signal-pos : (w : ℕ) → is_signal w ≡ true → SIGNAL ≤ w
 unfolding is_signal
 signal-pos w e = within_low SIGNAL _ w e
+
+pub earlier-pos : (w : ℕ) → is_earlier w ≡ true → EARLIER + 1 ≤ w
+unfolding is_earlier
+earlier-pos w e = within_low (EARLIER + 1) (EARLIER + place_count) w e
+
+pub earlier-high : (w : ℕ) → is_earlier w ≡ true → w ≤ EARLIER + place_count
+unfolding is_earlier
+earlier-high w e = within-high (EARLIER + 1) (EARLIER + place_count) w e
 
 pub velocity-pos : (w : ℕ) → is_velocity w ≡ true → VELOCITY ≤ w
 unfolding is_velocity
@@ -144,6 +154,7 @@ sized (u-exists e h r) = simp length-append (omega (arith, sized r))
 sized (u-round e r f) = omega (arith, sized r)
 sized (u-constant h) = omega arith
 sized (u-signal h) = omega arith
+sized (u-earlier h) = omega arith
 sized (u-velocity e h n) = omega arith
 sized (u-test h r) = simp length-append (omega (arith, sized r))
 sized (u-len e h n) = omega arith
@@ -189,6 +200,9 @@ steps {ws} (u-constant {i} h) =
     record { moves = omega arith; within = omega arith; few = omega arith }
 steps {ws} (u-signal {i} h) =
     let k = inside ws i (omega (arith, signal-pos (word ws i) h)) in
+    record { moves = omega arith; within = omega arith; few = omega arith }
+steps {ws} (u-earlier {i} h) =
+    let k = inside ws i (omega (arith, earlier-pos (word ws i) h)) in
     record { moves = omega arith; within = omega arith; few = omega arith }
 steps {ws} (u-velocity {i} e h n) =
     let k = inside ws (i + 2) (omega (arith, velocity-pos (word ws (i + 2)) n)) in

@@ -13,13 +13,14 @@ use borrow.Author.Tests.{eqb-true}
 use Rattle.traces.specs.declared.Op.{Op}
 use Rattle.formulas.specs.Formula.{Num}
 use Rattle.formulas.specs.Tree.{Tree}
-use Rattle.formulas.specs.Tree.Tree.{constant, signal, velocity, and, or, len, count}
+use Rattle.formulas.specs.Tree.Tree.{constant, signal, velocity, earlier, and, or, len, count}
 use Rattle.words.specs.Word.{ROUND, ROUND-END, SQUARE, SQUARE-END, NOT, AND, OR, COMMA, LEN, LAG, THEN, CHOP, EXISTS}
-use Rattle.words.specs.Word.{VEL, is_op, is_signal, is_num, is_velocity, is_bit, is_test, is_count}
-use Rattle.grammar.specs.Grammar.{Symbol, bit_word, signal_word, velocity_word, op_word, num_word, count_word}
+use Rattle.words.specs.Word.{VEL, is_op, is_signal, is_earlier, is_num, is_velocity, is_bit, is_test, is_count}
+use Rattle.grammar.specs.Grammar.{Symbol, bit_word, signal_word, earlier_word, velocity_word, op_word, num_word}
+use Rattle.grammar.specs.Grammar.{count_word}
 use Rattle.grammar.specs.Grammar.Symbol.{F, D, C, U, B}
 use Rattle.grammar.specs.Parse.{Result, Goal, Join, Unit as First, Atom, word, bind, join_of, unit_of, atom_of}
-use Rattle.grammar.specs.Parse.{go_square, velocity_at, leaf_at, with_comparison, closed}
+use Rattle.grammar.specs.Parse.{go_square, velocity_at, earlier_at, leaf_at, with_comparison, closed}
 use Rattle.grammar.specs.Parse.{step_f, step_d, step_c, step_exists, step_u, step_lag, step_a, step_b}
 use Rattle.grammar.specs.Parse.{step, parse, rank, depth, read}
 use Rattle.grammar.specs.Parse.Result.{no-rule, ok}
@@ -29,8 +30,8 @@ use Rattle.grammar.specs.Parse.Unit.{unit-not, unit-round, unit-leaf, unit-exist
 use Rattle.grammar.specs.Parse.Atom.{atom-test, atom-len, atom-count, atom-lag, atom-none}
 use Rattle.grammar.proofs.Position.{DerivesAt, span, inside, signal-pos, num_pos, test-pos, count-pos}
 use Rattle.grammar.proofs.Position.DerivesAt.{f-one, f-then, f-chop, d-one, d-or, c-one, c-and}
-use Rattle.grammar.proofs.Position.DerivesAt.{u-not, u-exists, u-round, u-constant, u-signal, u-velocity}
-use Rattle.grammar.proofs.Position.DerivesAt.{u-test, u-len, u-count, u-lag, b-between}
+use Rattle.grammar.proofs.Position.DerivesAt.{u-not, u-exists, u-round, u-constant, u-signal, u-earlier}
+use Rattle.grammar.proofs.Position.DerivesAt.{u-velocity, u-test, u-len, u-count, u-lag, b-between}
 
 -- ---- results
 
@@ -177,6 +178,16 @@ module _ (ws : List ℕ) where
       go true false z p q r = fails
       go false y z p q r = fails
 
+  -- a verdict or such a test,
+  sound-earlier : (i : ℕ) → All (λ t j. DerivesAt ws true U i t j) (earlier_at ws i)
+  sound-earlier i = go (is_earlier (word ws i)) refl
+    where
+      go : (x : Bool) → is_earlier (word ws i) ≡ x →
+          All (λ t j. DerivesAt ws true U i t j)
+          (cond x (ok (earlier (earlier_word (word ws i))) (i + 1)) (velocity_at ws i))
+      go true p = gives (u-earlier p)
+      go false p = sound-velocity i
+
   -- a leaf,
   sound-leaf : (i : ℕ) → All (λ t j. DerivesAt ws true U i t j) (leaf_at ws i)
   sound-leaf i = go (is_signal (word ws i)) (is_bit (word ws i)) refl refl
@@ -184,10 +195,10 @@ module _ (ws : List ℕ) where
       go : (x y : Bool) → is_signal (word ws i) ≡ x → is_bit (word ws i) ≡ y →
           All (λ t j. DerivesAt ws true U i t j)
           (cond x (ok (signal (signal_word (word ws i))) (i + 1))
-          (cond y (ok (constant (bit_word (word ws i))) (i + 1)) (velocity_at ws i)))
+          (cond y (ok (constant (bit_word (word ws i))) (i + 1)) (earlier_at ws i)))
       go true y p q = gives (u-signal p)
       go false true p q = gives (u-constant q)
-      go false false p q = sound-velocity i
+      go false false p q = sound-earlier i
 
   -- and one step over sound readings are sound.
   module _ (rec : Goal → ℕ → Result) (snd : Sound rec) where

@@ -1,7 +1,7 @@
 -- What is shown of the grammar. `Rule ws t` (specs/Grammar.antt) is that of SPEC 3.1: the words ws are a rule with the
 -- tree t. `tree_of` (specs/Parse.antt) is what the parse functions compute. They are the same; and it is shown that
--- words have one tree at most, how large it is, when it has a meaning, and which numbers and parameters it names.
--- Assumes nothing.
+-- words have one tree at most, how large it is, when it has a meaning, and which numbers, parameters, signals, velocity
+-- and earlier rules it names. Assumes nothing.
 use mathlib.Core.Path.{◌≡◌, refl, sym, ap, ◌∙◌}
 use mathlib.Core.Bool.{Bool, true, false, cond}
 use mathlib.Core.List.{List}
@@ -11,13 +11,13 @@ use native.Mathlib.Omega.{arith}
 use lib.Dec.{eqb}
 use lib.ListN.{length}
 use borrow.Author.Tests.{eqb-true, eq-eqb}
-use Rattle.limits.specs.Limits.{literal_count, parameter_count}
+use Rattle.limits.specs.Limits.{signal_count, literal_count, parameter_count, place_count}
 use Rattle.formulas.specs.Formula.{Formula}
 use Rattle.formulas.specs.Tree.{Tree, nodes, formula_of}
 use Rattle.formulas.specs.Arena.{flat}
 use Rattle.formulas.specs.Bounds.{bounded}
-use Rattle.formulas.specs.Names.{names_parameter}
-use Rattle.words.specs.Word.{PARAMETER, VELOCITY, last_word, is_velocity}
+use Rattle.formulas.specs.Names.{names_parameter, names_signal, names_velocity, names_earlier}
+use Rattle.words.specs.Word.{VEL, PARAMETER, EARLIER, SIGNAL, VELOCITY, last_word, is_velocity}
 use Rattle.grammar.specs.Grammar.{Rule}
 use Rattle.grammar.specs.Fragment.{has_word, beyond}
 use Rattle.grammar.specs.Parse.{Result, word, ended, read, tree_of}
@@ -28,7 +28,7 @@ use Rattle.grammar.proofs.Complete.{finds, found, one-tree}
 use Rattle.grammar.proofs.Lists.{derived, placed}
 use Rattle.grammar.proofs.Fragment
 use Rattle.grammar.proofs.Numbers.{numbers}
-use Rattle.grammar.proofs.Names.{names-words}
+use Rattle.grammar.proofs.Names.{names-words, signal-words, velocity-words, earlier-words, earlier-bound}
 
 module _ (ws : List ℕ) (t : Tree) where
   -- The tree that the parser gives is one that the grammar has,
@@ -67,8 +67,9 @@ module _ (ws : List ℕ) (t : Tree) where
   pub rule-none : Rule ws t → beyond ws ≡ true → formula_of t ≡ none
   rule-none g e = Fragment.rule-none ws t g e
 
-  -- A rule names signals, parameters (SPEC 2.6), literals (SPEC 2.7) and literals of velocity tests (SPEC 2.11) in
-  -- their ranges, where its words are words and no literal of a velocity test is that many velocities or more.
+  -- A rule names signals, parameters (SPEC 2.6), literals (SPEC 2.7), literals of velocity tests (SPEC 2.11) and places
+  -- (SPEC 2.12) in their ranges, where its words are words and no literal of a velocity test is that many velocities or
+  -- more.
   pub rule-numbers : (velocities : ℕ) → Rule ws t → ((i : ℕ) → word ws i ≤ last_word) →
       ((i : ℕ) → is_velocity (word ws i) ≡ true → word ws i - VELOCITY < velocities) →
       bounded literal_count velocities t ≡ true
@@ -77,6 +78,22 @@ module _ (ws : List ℕ) (t : Tree) where
   -- Its tree names a parameter (SPEC 3.11) exactly if the parameter's word (SPEC 2.6) stands among its words.
   pub rule-names : Rule ws t → (j : ℕ) → j < parameter_count → names_parameter t j ≡ has_word (PARAMETER + j) ws
   rule-names g j known = names-words j known ws t g
+
+  -- It names a signal (SPEC 3.12) exactly if the signal's word (SPEC 2.6) stands there,
+  pub rule-signals : Rule ws t → (j : ℕ) → j < signal_count → names_signal t j ≡ has_word (SIGNAL + j) ws
+  rule-signals g j known = signal-words j known ws t g
+
+  -- and the velocity exactly if the word `v` does.
+  pub rule-velocity : Rule ws t → names_velocity t ≡ has_word VEL ws
+  rule-velocity g = velocity-words ws t g
+
+  -- It names the verdict of the rule at a place (SPEC 3.12) exactly if that verdict's word (SPEC 2.12) stands there.
+  pub rule-earlier : Rule ws t → (j : ℕ) → j ≤ place_count → names_earlier t j ≡ has_word (EARLIER + j) ws
+  rule-earlier g j known = earlier-words j known ws t g
+
+  -- It names no other number as a place.
+  pub rule-places : Rule ws t → (j : ℕ) → names_earlier t j ≡ true → (1 ≤ j) × (j ≤ place_count)
+  rule-places g j e = earlier-bound j g e
 
 -- Where the parser gives no tree, the words are no rule.
 pub no-tree : (ws : List ℕ) → tree_of ws ≡ none → (t : Tree) → Rule ws t → ⊥

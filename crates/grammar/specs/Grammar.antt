@@ -8,19 +8,22 @@ use Rattle.formulas.specs.Formula.Num.{literal, parameter}
 use Rattle.formulas.specs.Formula.Test.{begin, end, point, held, kept}
 use Rattle.formulas.specs.Formula.Count.{sum, age}
 use Rattle.formulas.specs.Tree.{Tree}
-use Rattle.formulas.specs.Tree.Tree.{constant, signal, velocity, neg, and, or, then, chop, exists, test, len, count}
-use Rattle.formulas.specs.Tree.Tree.{lag}
+use Rattle.formulas.specs.Tree.Tree.{constant, signal, velocity, earlier, neg, and, or, then, chop, exists, test}
+use Rattle.formulas.specs.Tree.Tree.{len, count, lag}
 use Rattle.words.specs.Word.{ROUND, ROUND-END, SQUARE, SQUARE-END, NOT, AND, OR, LE, COMMA, BEGIN, LEN, SUM, LAG}
-use Rattle.words.specs.Word.{THEN, CHOP, EXISTS, VEL, PARAMETER, SIGNAL, VELOCITY, LITERAL}
-use Rattle.words.specs.Word.{is_op, is_signal, is_num, is_velocity, is_bit, is_test, is_count}
+use Rattle.words.specs.Word.{THEN, CHOP, EXISTS, VEL, PARAMETER, EARLIER, SIGNAL, VELOCITY, LITERAL}
+use Rattle.words.specs.Word.{is_op, is_signal, is_earlier, is_num, is_velocity, is_bit, is_test, is_count}
 
--- What a word stands for in a tree: the constants `0` and `1`, a signal's number, the literal of a velocity test, a
--- comparison, n, a test, a count.
+-- What a word stands for in a tree: the constants `0` and `1`, a signal's number, the place of an earlier rule, the
+-- literal of a velocity test, a comparison, n, a test, a count.
 abbrev pub bit_word : ℕ → Bool
 bit_word w = nonzero (w - LITERAL)
 
 abbrev pub signal_word : ℕ → ℕ
 signal_word w = w - SIGNAL
+
+abbrev pub earlier_word : ℕ → ℕ
+earlier_word w = w - EARLIER
 
 abbrev pub velocity_word : ℕ → ℕ
 velocity_word w = w - VELOCITY
@@ -73,6 +76,7 @@ pub data Derives : Bool → Symbol → List ℕ → Tree → Type 0 where
   -- SPEC 3.6: what P has in place of atoms
   U-constant : {w : ℕ} → is_bit w ≡ true → Derives true U (w ∷ []) (constant (bit_word w))
   U-signal : {w : ℕ} → is_signal w ≡ true → Derives true U (w ∷ []) (signal (signal_word w))
+  U-earlier : {w : ℕ} → is_earlier w ≡ true → Derives true U (w ∷ []) (earlier (earlier_word w))
   U-velocity : {o n : ℕ}
       → is_op o ≡ true → is_velocity n ≡ true
       → Derives true U (VEL ∷ o ∷ n ∷ []) (velocity (op_word o) (velocity_word n))

@@ -7,11 +7,12 @@ use Rattle.lists.specs.Number.{number_at}
 use Rattle.traces.specs.declared.Op.{Op}
 use Rattle.formulas.specs.Formula.{Num}
 use Rattle.formulas.specs.Tree.{Tree}
-use Rattle.formulas.specs.Tree.Tree.{constant, signal, velocity, neg, and, or, then, chop, exists, test, len, count}
-use Rattle.formulas.specs.Tree.Tree.{lag}
+use Rattle.formulas.specs.Tree.Tree.{constant, signal, velocity, earlier, neg, and, or, then, chop, exists, test}
+use Rattle.formulas.specs.Tree.Tree.{len, count, lag}
 use Rattle.words.specs.Word.{ROUND, ROUND-END, SQUARE, SQUARE-END, NOT, AND, OR, COMMA, LEN, LAG, THEN, CHOP, EXISTS}
-use Rattle.words.specs.Word.{VEL, is_op, is_signal, is_num, is_velocity, is_bit, is_test, is_count}
-use Rattle.grammar.specs.Grammar.{bit_word, signal_word, velocity_word, op_word, num_word, test_word, count_word}
+use Rattle.words.specs.Word.{VEL, is_op, is_signal, is_earlier, is_num, is_velocity, is_bit, is_test, is_count}
+use Rattle.grammar.specs.Grammar.{bit_word, signal_word, earlier_word, velocity_word, op_word, num_word, test_word}
+use Rattle.grammar.specs.Grammar.{count_word}
 
 -- The word at a position.
 abbrev pub word : List ℕ → ℕ → ℕ
@@ -75,11 +76,15 @@ module _ (ws : List ℕ) where
       cond (eqb (word ws i) VEL && (is_op (word ws (i + 1)) && is_velocity (word ws (i + 2))))
       (ok (velocity (op_word (word ws (i + 1))) (velocity_word (word ws (i + 2)))) (i + 3)) no-rule
 
-  -- `0`, `1`, a signal or a velocity test at i
+  -- a verdict or a velocity test at i
+  abbrev pub earlier_at : ℕ → Result
+  earlier_at i = cond (is_earlier (word ws i)) (ok (earlier (earlier_word (word ws i))) (i + 1)) (velocity_at i)
+
+  -- `0`, `1`, a signal, a verdict or a velocity test at i
   abbrev pub leaf_at : ℕ → Result
   leaf_at i =
       cond (is_signal (word ws i)) (ok (signal (signal_word (word ws i))) (i + 1))
-      (cond (is_bit (word ws i)) (ok (constant (bit_word (word ws i))) (i + 1)) (velocity_at i))
+      (cond (is_bit (word ws i)) (ok (constant (bit_word (word ws i))) (i + 1)) (earlier_at i))
 
   -- a comparison and n at j
   abbrev pub comparison_at : ℕ → Bool

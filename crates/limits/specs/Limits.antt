@@ -45,6 +45,10 @@ velocity_count = 128
 abbrev pub parameter_count : ℕ
 parameter_count = 8
 
+-- SPEC 17.1: how many places a set has, numbered from 1; a tick has a verdict for each (SPEC 1.1).
+abbrev pub place_count : ℕ
+place_count = 8
+
 -- SPEC 5.2: the cap of counts; the definitions of a step take any.
 abbrev pub standard_cap : ℕ
 standard_cap = 1000000

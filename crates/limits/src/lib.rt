@@ -3,7 +3,7 @@
 #![tactic(auto)]
 
 ghost use Rattle.std.specs.Prelude.{◌≡◌};
-ghost use Rattle.limits.specs.Context.{standard_context};
+ghost use Rattle.limits.specs.Context.{context_at, standard_context};
 
 // The bytes that a rule text can have.
 pub const TEXT: usize = 2048;
@@ -31,6 +31,11 @@ pub const PARAMETERS: usize = 8;
 // specification.
 pub const VELOCITIES: u32 = 128;
 
+// How many places a set has, numbered from 1, and the place of a text that stands alone (SPEC 17.1).
+pub const PLACES: usize = 8;
+
+pub const LONE: u32 = 1;
+
 // The highest literal, and the highest number of a card.
 pub const LAST_LITERAL: u32 = LITERALS - 1;
 
@@ -49,17 +54,27 @@ pub const TABLE: usize = 4 * EQUATIONS;
 // The bytes that a line of a card can have, its byte 10 included.
 pub const LINE: usize = 4096;
 
-// What a text is read in, and the tick lines and steps of a card go by: how many velocities there are.
+// What a text is read in, and the tick lines and steps of a card go by: how many velocities there are, and the place of
+// the text in its set.
 #[derive(Clone, Copy)]
 pub struct Context {
     pub velocities: u32,
+    pub place: u32,
 }
 
-// The context of the specification.
-pub fn standard() -> Context
-    ensures { result ≡ standard_context }
+// The context of the specification for a text at a place.
+pub fn context_at(place: u32) -> Context
+    ensures { result ≡ context_at place }
 {
     Context {
         velocities: VELOCITIES,
+        place: place,
     }
+}
+
+// The same for a text that stands alone.
+pub fn standard() -> Context
+    ensures { result ≡ standard_context }
+{
+    context_at(LONE)
 }

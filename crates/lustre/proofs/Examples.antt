@@ -32,6 +32,7 @@ record Column : Type 0 where
   kind10 : end_of 10 9 0 12 ≡ bytes "f9<=12"
   kind11 : end_of 11 9 0 3 ≡ bytes "f9<=k3"
   kind12 : end_of 12 4 90 0 ≡ bytes "v>=90"
+  kind13 : end_of 13 2 0 0 ≡ bytes "r2"
 
 column : Column
 unfolding value_text kind_of digits number_text
@@ -50,6 +51,7 @@ column =
       kind10 = refl;
       kind11 = refl;
       kind12 = refl;
+      kind13 = refl;
     }
 
 -- SPEC 9.4: the five comparisons by number, of kinds 10, 11 and 12.

@@ -15,11 +15,11 @@ use borrow.Author.Tests.{ltb-true, leb-true, eqb-true, ne_eqb}
 use Rattle.lists.specs.Decimal.{is_digit}
 use Rattle.lists.proofs.Choice.{false-true}
 use Rattle.tables.specs.Kind.{SIGNAL, START, CONSTANT, NOT, AND, OR, BOOLEAN-PRE, COUNT-PRE, CAPPED, IF}
-use Rattle.tables.specs.Kind.{COMPARE-LITERAL, COMPARE-PARAMETER, VELOCITY, kind_count}
-use Rattle.tables.specs.Table.{all, Equation, kind_of, shape_of, is_flow, operand_fits, shape_fits}
-use Rattle.limits.specs.Limits.{equation_limit, literal_count, last_literal, truth_count, comparison_count}
+use Rattle.tables.specs.Kind.{COMPARE-LITERAL, COMPARE-PARAMETER, VELOCITY, EARLIER, kind_count}
+use Rattle.tables.specs.Table.{all, Equation, kinds, kind_of, shape_of, is_flow, operand_fits, shape_fits}
+use Rattle.limits.specs.Limits.{equation_limit, literal_count, last_literal, truth_count, comparison_count, place_count}
 use Rattle.tables.specs.declared.Operand.{Operand}
-use Rattle.tables.specs.declared.Operand.TheVariants.{Unused, Earlier, Anywhere, Below, Velocity}
+use Rattle.tables.specs.declared.Operand.TheVariants.{Unused, Earlier, Anywhere, Below, Velocity, Place}
 use Rattle.tables.proofs.Tests.{and-true, all-at}
 use Rattle.tables.proofs.Numbers.{kind-beyond}
 use Rattle.lustre.specs.Text.{value_text, line_rest}
@@ -157,6 +157,7 @@ each-gives =
     also of-form 24 (λ e w. rw (w.kinds, a-settled w refl) (record { form = refl; text = refl }))
     also of-form 25 (λ e w. rw (w.kinds, a-settled w refl) (record { form = refl; text = refl }))
     also of-form 26 (λ e w. rw (w.kinds, a-settled w refl) (record { form = refl; text = refl }))
+    also of-form 27 (λ e w. rw w.kinds (record { form = refl; text = refl }))
     also end
 
 gives : (f : ℕ) → f < form_count → Gives f
@@ -183,6 +184,7 @@ Admits (Earlier s) x = x < equation_limit
 Admits (Anywhere s) x = x < equation_limit
 Admits (Below m) x = x < m
 Admits Velocity x = x < literal_count
+Admits Place x = (1 ≤ x) × (x ≤ place_count)
 
 flow-admitted : (t : List ℕ) (m x : ℕ) (b : Bool) → m ≤ equation_limit → (ltb x m && b) ≡ true → x < equation_limit
 flow-admitted t m x b h e = omega (arith, ltb-true x m (and-true (ltb x m) b e).0)
@@ -196,6 +198,9 @@ admitted velocities t n i (Earlier s) x hv hn hi e = flow-admitted t i x _ hi e
 admitted velocities t n i (Anywhere s) x hv hn hi e = flow-admitted t n x _ hn e
 admitted velocities t n i (Below m) x hv hn hi e = ltb-true x m e
 admitted velocities t n i Velocity x hv hn hi e = omega (arith, ltb-true x velocities e)
+admitted velocities t n i Place x hv hn hi e =
+    let p = and-true (leb 1 x) _ e in
+    (leb-true 1 x p.0, leb-true x place_count p.1)
 
 -- Where a letter stands nowhere in the form, the equation has the number that the form settles.
 abbrev Keeps : Bool → ℕ → ℕ → Type 0
@@ -321,6 +326,7 @@ each-formed =
     also of-kind COMPARE-LITERAL (compared COMPARE-LITERAL literals)
     also of-kind COMPARE-PARAMETER (λ a b c p q r. compared COMPARE-PARAMETER parameters a b c p q (omega arith))
     also of-kind VELOCITY (λ a b c p q r. each (tests b c q r) a (omega arith) p)
+    also of-kind EARLIER (λ a b c p q r. having EARLIER 0 a b c refl tt q r (omega arith))
     also end
 
 no_kind : (k a : ℕ) → kind_count ≤ k → Admits (shape_of (kind_of k)).a a → ⊥

@@ -13,7 +13,8 @@ use Rattle.traces.specs.declared.Op.TheVariants.{AtMost as le, Below as lt, Equa
 use Rattle.traces.specs.Trace.{nonzero}
 use Rattle.tables.specs.Table.{Equation, equation_at, Kind, kind_of, started_of, verdict_of}
 use Rattle.tables.specs.Table.Kind.{signal, start, constant, negation, conjunction, disjunction, boolean_pre}
-use Rattle.tables.specs.Table.Kind.{count_pre, capped, if_else, compare_literal, compare_parameter, velocity, unknown}
+use Rattle.tables.specs.Table.Kind.{count_pre, capped, if_else, compare_literal, compare_parameter, velocity, earlier}
+use Rattle.tables.specs.Table.Kind.{unknown}
 use Rattle.tables.proofs.Checks.{checked-fitting}
 use Rattle.tables.specs.declared.Checked.{Checked}
 use Rattle.tables.specs.declared.Checked.TheVariants.{Passed, Refused as Failed}
@@ -60,6 +61,7 @@ value-few compare_literal e w =
 value-few compare_parameter e w =
     simp length-append (omega (arith, digits-short e.a w.a, op-few (op_of e.b), digits-short e.c w.c))
 value-few velocity e w = simp length-append (omega (arith, op-few (op_of e.a), digits-short e.b w.b))
+value-few earlier e w = simp length-append (omega (arith, digits-short e.a w.a))
 value-few unknown e w = omega arith
 
 module _ (t : List ℕ) (small : (i : ℕ) → number_at t i < 4294967296) where

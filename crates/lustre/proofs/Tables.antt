@@ -20,7 +20,7 @@ use Rattle.limits.specs.Limits.{equation_limit, literal_count, last_literal}
 use Rattle.tables.specs.declared.Sort.{Sort}
 use Rattle.tables.specs.declared.Shape.{Shape}
 use Rattle.tables.specs.declared.Operand.{Operand}
-use Rattle.tables.specs.declared.Operand.TheVariants.{Unused, Earlier, Anywhere, Below, Velocity}
+use Rattle.tables.specs.declared.Operand.TheVariants.{Unused, Earlier, Anywhere, Below, Velocity, Place}
 use Rattle.tables.specs.declared.Checked.TheVariants.{Passed}
 use Rattle.tables.proofs.Tests.{and-true, all-at, all_of}
 use Rattle.tables.proofs.Checks.{checked-fitting, passed-both, long-enough}
@@ -186,6 +186,7 @@ module _ (velocities : ℕ) (t u : List ℕ) (n : ℕ) (same : (j : ℕ) → j <
   operand_same i (Anywhere s) x h e = flow-same t u n same n s x (omega arith) e
   operand_same i (Below m) x h e = e
   operand_same i Velocity x h e = e
+  operand_same i Place x h e = e
 
   shape_same : (i : ℕ) (s : Shape) (e : Equation) → i ≤ n → shape_fits velocities t n i s e ≡ true
       → shape_fits velocities u n i s e ≡ true

@@ -9,10 +9,11 @@ use Rattle.traces.specs.Compare.{op_number}
 use Rattle.traces.specs.declared.Op.TheVariants.{AtMost as le, Below as lt, Equal as eq, Above as gt, AtLeast as ge}
 use Rattle.limits.specs.Limits.{equation_limit, last_literal}
 use Rattle.tables.specs.Kind.{SIGNAL, START, CONSTANT, NOT, AND, OR, BOOLEAN-PRE, COUNT-PRE, CAPPED, IF}
-use Rattle.tables.specs.Kind.{COMPARE-LITERAL, COMPARE-PARAMETER, VELOCITY}
+use Rattle.tables.specs.Kind.{COMPARE-LITERAL, COMPARE-PARAMETER, VELOCITY, EARLIER}
 use Rattle.tables.specs.Table.{Equation, equation, equation_at, Kind, kind_of, closing_count, started_of, verdict_of}
 use Rattle.tables.specs.Table.Kind.{signal, start, constant, negation, conjunction, disjunction, boolean_pre}
-use Rattle.tables.specs.Table.Kind.{count_pre, capped, if_else, compare_literal, compare_parameter, velocity, unknown}
+use Rattle.tables.specs.Table.Kind.{count_pre, capped, if_else, compare_literal, compare_parameter, velocity, earlier}
+use Rattle.tables.specs.Table.Kind.{unknown}
 use Rattle.lustre.specs.Numerals.{number_text}
 use Rattle.lustre.specs.Text.{line_text}
 use Rattle.lustre.specs.declared.Numbers.{Numbers}
@@ -128,10 +129,11 @@ forms =
     ∷ form (numbers VELOCITY (op_number eq) 0 0) "v=B;\n"
     ∷ form (numbers VELOCITY (op_number gt) 0 0) "v>B;\n"
     ∷ form (numbers VELOCITY (op_number ge) 0 0) "v>=B;\n"
+    ∷ form (numbers EARLIER 0 0 0) "rA;\n"
     ∷ []
 
 abbrev pub form_count : ℕ
-form_count = 27
+form_count = 28
 
 abbrev pub no_form : Form
 no_form = record { settled = numbers 0 0 0 0; len = 0; text = [] }
@@ -171,6 +173,7 @@ form_number if_else e = first_form IF
 form_number compare_literal e = first_form COMPARE-LITERAL + e.b
 form_number compare_parameter e = first_form COMPARE-PARAMETER + e.b
 form_number velocity e = first_form VELOCITY + e.a
+form_number earlier e = first_form EARLIER
 form_number unknown e = 0
 
 abbrev pub form_of : Equation → ℕ

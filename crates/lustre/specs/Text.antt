@@ -7,7 +7,8 @@ use Rattle.traces.specs.declared.Op.{Op}
 use Rattle.traces.specs.declared.Op.TheVariants.{AtMost as le, Below as lt, Equal as eq, Above as gt, AtLeast as ge}
 use Rattle.tables.specs.Table.{Equation, equation_at, Kind, kind_of, started_of, verdict_of}
 use Rattle.tables.specs.Table.Kind.{signal, start, constant, negation, conjunction, disjunction, boolean_pre}
-use Rattle.tables.specs.Table.Kind.{count_pre, capped, if_else, compare_literal, compare_parameter, velocity, unknown}
+use Rattle.tables.specs.Table.Kind.{count_pre, capped, if_else, compare_literal, compare_parameter, velocity, earlier}
+use Rattle.tables.specs.Table.Kind.{unknown}
 use Rattle.lustre.specs.Numerals.{number_text}
 
 -- The name of the flow of equation x (SPEC 9.2).
@@ -43,6 +44,7 @@ value_text if_else e = bytes "if " ++ flow e.a ++ bytes " then " ++ flow e.b ++ 
 value_text compare_literal e = flow e.a ++ op_text (op_of e.b) ++ number_text e.c
 value_text compare_parameter e = flow e.a ++ op_text (op_of e.b) ++ bytes "k" ++ number_text e.c
 value_text velocity e = bytes "v" ++ op_text (op_of e.a) ++ number_text e.b
+value_text earlier e = bytes "r" ++ number_text e.a
 value_text unknown e = []
 
 -- What follows `fN=` in the line of an equation, up to its end: `;` and, as in every line, byte 10 (SPEC 9.1).

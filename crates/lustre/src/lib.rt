@@ -67,8 +67,10 @@ pub const PARAMETER_FORM: usize = LITERAL_FORM + COMPARISON_FORMS;
 
 pub const VELOCITY_FORM: usize = PARAMETER_FORM + COMPARISON_FORMS;
 
+pub const EARLIER_FORM: usize = VELOCITY_FORM + COMPARISON_FORMS;
+
 // How many forms there are.
-pub const FORM_COUNT: usize = VELOCITY_FORM + COMPARISON_FORMS;
+pub const FORM_COUNT: usize = EARLIER_FORM + 1;
 
 // A form: a text that can follow `fN=` in a line, with the letters A, B and C where numbers stand, and the kind and the
 // numbers that it settles. The first len bytes of its text count.
@@ -363,6 +365,17 @@ const FORMS: [Form; FORM_COUNT] = [
         },
         len: 6,
         text: *b"v>=B;\n                ",
+    },
+    // 13: the verdict of an earlier rule.
+    Form {
+        settled: Numbers {
+            kind: tables::EARLIER,
+            a: 0,
+            b: 0,
+            c: 0,
+        },
+        len: 4,
+        text: *b"rA;\n                  ",
     },
 ];
 

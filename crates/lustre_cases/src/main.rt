@@ -306,6 +306,24 @@ fn velocities(rt: &impl Print) {
     );
 }
 
+// Kind 13, with each place.
+fn verdicts(rt: &impl Print) {
+    writes(
+        rt,
+        b"verdicts, places 1 to 4",
+        &[13, 1, 0, 0, 13, 2, 0, 0, 13, 3, 0, 0, 13, 4, 0, 0],
+        4,
+        b"let\nf0=r1;\nf1=r2;\nf2=r3;\nf3=r4;\nw=f2;\na=f3;\ntel\n",
+    );
+    writes(
+        rt,
+        b"verdicts, places 5 to 8",
+        &[13, 5, 0, 0, 13, 6, 0, 0, 13, 7, 0, 0, 13, 8, 0, 0],
+        4,
+        b"let\nf0=r5;\nf1=r6;\nf2=r7;\nf3=r8;\nw=f2;\na=f3;\ntel\n",
+    );
+}
+
 // Writing refused by 10 (SPEC 7.10),
 fn write_sizes(rt: &impl Print) {
     writes(rt, b"no equation", &[1, 0, 0, 0], 0, b"");
@@ -319,7 +337,7 @@ fn write_rules(rt: &impl Print) {
     writes(
         rt,
         b"unknown kind",
-        &[13, 0, 0, 0, 1, 0, 0, 0, 1, 0, 0, 0],
+        &[14, 0, 0, 0, 1, 0, 0, 0, 1, 0, 0, 0],
         3,
         b"",
     );
@@ -344,6 +362,14 @@ fn write_velocities(rt: &impl Print) {
         2,
         b"",
     );
+}
+
+// and that kind 13 does not have,
+fn write_places(rt: &impl Print) {
+    writes(rt, b"place 0", &[13, 0, 0, 0, 1, 0, 0, 0], 2, b"");
+    writes(rt, b"place 9", &[13, 9, 0, 0, 1, 0, 0, 0], 2, b"");
+    writes(rt, b"place, B not 0", &[13, 1, 1, 0, 1, 0, 0, 0], 2, b"");
+    writes(rt, b"place, C not 0", &[13, 1, 0, 1, 1, 0, 0, 0], 2, b"");
 }
 
 // SPEC 5.5 broken,
@@ -576,6 +602,22 @@ fn wrong_velocities(rt: &impl Print) {
     );
 }
 
+// a verdict of no place, or its place in another spelling,
+fn wrong_places(rt: &impl Print) {
+    reads(rt, b"place 0", b"let\nf0=r0;\nf1=b;\nw=f0;\na=f1;\ntel\n");
+    reads(rt, b"place 9", b"let\nf0=r9;\nf1=b;\nw=f0;\na=f1;\ntel\n");
+    reads(
+        rt,
+        b"needless 0 in a place",
+        b"let\nf0=r02;\nf1=b;\nw=f0;\na=f1;\ntel\n",
+    );
+    reads(
+        rt,
+        b"verdict and no place",
+        b"let\nf0=r;\nf1=b;\nw=f0;\na=f1;\ntel\n",
+    );
+}
+
 // numbers above the ranges of SPEC 5.3.
 fn wrong_ranges(rt: &impl Print) {
     reads(
@@ -608,9 +650,11 @@ fn main(rt: HostRuntime) {
     literals(&rt);
     parameters(&rt);
     velocities(&rt);
+    verdicts(&rt);
     write_sizes(&rt);
     write_rules(&rt);
     write_velocities(&rt);
+    write_places(&rt);
     write_closing(&rt);
     write_room(&rt);
     read_room(&rt);
@@ -623,5 +667,6 @@ fn main(rt: HostRuntime) {
     wrong_operands(&rt);
     wrong_closing(&rt);
     wrong_velocities(&rt);
+    wrong_places(&rt);
     wrong_ranges(&rt);
 }

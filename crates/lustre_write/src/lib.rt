@@ -107,6 +107,7 @@ fn form_of(e: Numbers) -> usize
         tables::COMPARE_LITERAL => lustre::LITERAL_FORM + e.b as usize,
         tables::COMPARE_PARAMETER => lustre::PARAMETER_FORM + e.b as usize,
         tables::VELOCITY => lustre::VELOCITY_FORM + e.a as usize,
+        tables::EARLIER => lustre::EARLIER_FORM,
         _ => 0,
     }
 }

@@ -345,8 +345,8 @@ const THEN_NODE: Node = Node {
     negated: PREVIOUS,
 };
 
-// A velocity test.
-const VELOCITY_NODE: Node = Node {
+// A velocity test, and the verdict of an earlier rule: their equations stand in the table's head.
+const HEAD_NODE: Node = Node {
     count: 0,
     rows: [NO_ROW; WIDEST],
     takes: 0,
@@ -406,7 +406,8 @@ const NODES: [Node; PLACES] = [
     ALWAYS_NODE,
     LEAD_END_NODE,
     THEN_NODE,
-    VELOCITY_NODE,
+    HEAD_NODE,
+    HEAD_NODE,
     WHOLE_NODE,
     NO_NODE,
 ];

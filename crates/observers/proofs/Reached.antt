@@ -16,11 +16,12 @@ use Rattle.formulas.specs.Formula.Prop.{constant}
 use Rattle.formulas.specs.Formula.Formula.{len, lag, and, then}
 use Rattle.formulas.specs.Raw.{raw}
 use Rattle.words.specs.Split.{class_of, run, keyword_among, keyword_of, number_of, run_of, word_of, words, split_of}
-use Rattle.words.specs.Word.{is_op, is_signal, is_num, is_bit, is_test, is_count}
+use Rattle.words.specs.Word.{is_op, is_signal, is_earlier, is_num, is_bit, is_test, is_count}
 use Rattle.grammar.specs.Fragment.{has_word}
 use Rattle.grammar.specs.Parse.{parse, read, tree_of}
 use Rattle.scheme.specs.Emit.{observer}
 use Rattle.rules.specs.Limits.{deep, counted, operator_count}
+use Rattle.rules.specs.Place.{some_not_before}
 use Rattle.rules.specs.Reading.Outcome.{rule}
 use Rattle.rules.specs.Computed.{rule_of}
 use Rattle.observers.specs.Compile.{AfterCompile, compiled}
@@ -53,7 +54,8 @@ formula = thens 21 long (thens 11 short (and short short))
 is_read : rule_of standard_context widest_text ≡ rule (raw formula)
 unfolding rule_of split_of words word_of run_of run class_of keyword_of keyword_among number_of is_digit digits_after
     numeral
-    tree_of read parse is_op is_signal is_num is_bit is_test is_count has_word deep counted operator_count
+    tree_of read parse is_op is_signal is_earlier is_num is_bit is_test is_count has_word deep counted operator_count
+    some_not_before
 is_read = refl
 
 -- Compiled into a table that is long enough, it has as many equations.

@@ -1,7 +1,7 @@
 -- No rule's observer has more equations than `rule_equations`.
 --
--- The equations of a tree are counted with one for each signal and each velocity test that stands in it
--- (`equation_count`, crate scheme).
+-- The equations of a tree are counted with one for each signal, each velocity test and each verdict of an earlier rule
+-- that stands in it (`equation_count`, crate scheme).
 -- Inside square brackets they are at most the words. Outside, a formula is measured by its parts: l atoms that are a
 -- `lag`, t words `then`, j words `&` or `|`, which make t + j + 1 atoms together, and x words over. The other atoms
 -- have 4 equations for 3 words, as `len` has, or one equation more for each word more; a `lag` has 13 for 8, or
@@ -31,8 +31,8 @@ use Rattle.words.proofs.Bounds.{words-few}
 use Rattle.grammar.specs.Grammar.{Symbol, Derives, num_word, test_word, count_word}
 use Rattle.grammar.specs.Grammar.Symbol.{F, D, C, U, B}
 use Rattle.grammar.specs.Grammar.Derives.{F-one, F-then, F-chop, D-one, D-or, C-one, C-and}
-use Rattle.grammar.specs.Grammar.Derives.{U-not, U-exists, U-round, U-constant, U-signal, U-velocity}
-use Rattle.grammar.specs.Grammar.Derives.{U-test, U-len, U-count, U-lag, B-between}
+use Rattle.grammar.specs.Grammar.Derives.{U-not, U-exists, U-round, U-constant, U-signal, U-earlier}
+use Rattle.grammar.specs.Grammar.Derives.{U-velocity, U-test, U-len, U-count, U-lag, B-between}
 use Rattle.scheme.specs.Scheme.{whole_node}
 use Rattle.scheme.specs.Emit.{observer, header_count}
 use Rattle.scheme.proofs.Counts.{row_count, test_node, count_node, equation_count, observer-count}
@@ -204,6 +204,7 @@ few-equations (U-exists h g) = atom 0 (omega (arith, (few-equations g).words)) (
 few-equations (U-round {inside = l} {s = s} {t = t} g) = few-round l s t (few-equations g)
 few-equations (U-constant h) = (omega arith, omega arith)
 few-equations (U-signal h) = (omega arith, omega arith)
+few-equations (U-earlier h) = (omega arith, omega arith)
 few-equations (U-velocity h n) = (omega arith, omega arith)
 few-equations (U-test {k} {s} h g) =
     let few = few-equations g in

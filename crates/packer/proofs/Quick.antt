@@ -11,7 +11,7 @@ use native.Mathlib.Nat.{le_antisymm}
 use native.Mathlib.Decide.{dec_le, ℕ_discrete}
 use Rattle.tables.specs.Table.{all, Equation, equation, equation_at, equation_fits, operand_fits}
 use Rattle.tables.specs.declared.Operand.{Operand}
-use Rattle.tables.specs.declared.Operand.TheVariants.{Unused, Earlier, Anywhere, Below, Velocity}
+use Rattle.tables.specs.declared.Operand.TheVariants.{Unused, Earlier, Anywhere, Below, Velocity, Place}
 use Rattle.tables.specs.declared.Shape.{Shape}
 use Rattle.tables.proofs.Tests.{all-at}
 use Rattle.flows.proofs.Ranges.{flow-below}
@@ -41,6 +41,7 @@ mixed_one f (Earlier s) x = refl
 mixed_one f (Anywhere s) x = refl
 mixed_one f (Below m) x = refl
 mixed_one f Velocity x = refl
+mixed_one f Place x = refl
 
 pub mixed-renamed : (f : ℕ → ℕ) (e : Equation) → mixed f f e ≡ renamed f e
 unfolding mixed renamed
@@ -113,6 +114,7 @@ module _ (velocities : ℕ) (t : List ℕ) (n : ℕ) (fit : all (equation_fits v
     number-finer i j below (Anywhere s) x y f e = finer x y (flow-below t n s x f.0) (flow-below t n s y f.1) e
     number-finer i j below (Below m) x y f e = e
     number-finer i j below Velocity x y f e = e
+    number-finer i j below Place x y f e = e
 
     key-finer : (i j : ℕ) → i < n → j < n → FinerBelow i j → quick_key t c p i ≡ quick_key t c p j
         → quick_key t c' p' i ≡ quick_key t c' p' j
@@ -170,6 +172,7 @@ module _ (velocities : ℕ) (t : List ℕ) (n : ℕ) (fit : all (equation_fits v
     number-agree j u (Anywhere s) x f = before x (flow-below t n s x f)
     number-agree j u (Below m) x f = refl
     number-agree j u Velocity x f = refl
+    number-agree j u Place x f = refl
 
     -- Where these are the same, so are the keys of equations up to i,
     pub key-agree : (j : ℕ) → j ≤ i → j < n → quick_key t c p j ≡ quick_key t c' p' j

@@ -17,7 +17,7 @@ use Rattle.lists.proofs.Choice.{chosen}
 use Rattle.traces.specs.Trace.{truth}
 use Rattle.tables.specs.Table.{Equation, equation_at, all, operand_fits, equation_fits, closing_count}
 use Rattle.tables.specs.declared.Operand.{Operand}
-use Rattle.tables.specs.declared.Operand.TheVariants.{Unused, Earlier, Anywhere, Below, Velocity}
+use Rattle.tables.specs.declared.Operand.TheVariants.{Unused, Earlier, Anywhere, Below, Velocity, Place}
 use Rattle.tables.proofs.Tests.{all-at}
 use Rattle.flows.proofs.Ranges.{flow-below}
 use Rattle.packing.specs.Search.{count}
@@ -282,6 +282,7 @@ module _ (t : List ℕ) (n : ℕ) (l m f : List ℕ) (G : Markable t n l m) wher
         (class-room w S y v q, class-marked w S y v q _ (λ z p. eqb-true (c y) z p))
     visit-fits w S (Below b) y f k = (tt, none-marked w S _ (λ z p. not-both false p refl))
     visit-fits w S Velocity y f k = (tt, none-marked w S _ (λ z p. not-both false p refl))
+    visit-fits w S Place y f k = (tt, none-marked w S _ (λ z p. not-both false p refl))
 
     -- All operands of equation j, which is kept, are visited in turn.
     module _ (w : Marking) (S : Good w) (k : kept t n j ≡ true) where

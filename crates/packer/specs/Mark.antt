@@ -4,7 +4,7 @@ use Rattle.std.specs.Prelude.{Bool, true, cond, List, ◌≡◌, ℕ, ◌+◌, �
 use Rattle.lists.specs.Number.{number_at}
 use Rattle.tables.specs.Table.{Equation, equation_at, closing_count}
 use Rattle.tables.specs.declared.Operand.{Operand}
-use Rattle.tables.specs.declared.Operand.TheVariants.{Unused, Earlier, Anywhere, Below, Velocity}
+use Rattle.tables.specs.declared.Operand.TheVariants.{Unused, Earlier, Anywhere, Below, Velocity, Place}
 use Rattle.packing.specs.Operands.{shape_in}
 use Rattle.packing.specs.Pack.{classes}
 use Rattle.packer.specs.Round.{Fitted}
@@ -34,6 +34,7 @@ visited c w (Earlier s) x = pushed w (c x)
 visited c w (Anywhere s) x = pushed w (c x)
 visited c w (Below m) x = w
 visited c w Velocity x = w
+visited c w Place x = w
 
 -- Those of an equation's A, then B, then C are.
 abbrev pub visited_a : (ℕ → ℕ) → Marking → Equation → Marking
@@ -56,6 +57,7 @@ Visit l w (Earlier s) x = (x < length l) × Push w (number_at l x)
 Visit l w (Anywhere s) x = (x < length l) × Push w (number_at l x)
 Visit l w (Below m) x = Unit {0}
 Visit l w Velocity x = Unit {0}
+Visit l w Place x = Unit {0}
 
 -- What marking the classes of all operands of equation j needs: the same of each of the three.
 pub record Expand (t : List ℕ) (j : ℕ) (l : List ℕ) (w : Marking) : Type 0 where

@@ -6,7 +6,7 @@ use Rattle.lists.specs.Number.{number_at}
 use Rattle.limits.specs.Limits.{equation_limit}
 use Rattle.tables.specs.Table.{Equation, equation, equation_at, all, equation_fits}
 use Rattle.tables.specs.declared.Operand.{Operand}
-use Rattle.tables.specs.declared.Operand.TheVariants.{Unused, Earlier, Anywhere, Below, Velocity}
+use Rattle.tables.specs.declared.Operand.TheVariants.{Unused, Earlier, Anywhere, Below, Velocity, Place}
 use Rattle.packing.specs.Search.{first}
 use Rattle.packing.specs.Operands.{shape_in}
 use Rattle.packing.specs.Pack.{same_equation}
@@ -23,6 +23,7 @@ mixed_number now before (Earlier s) x = now x
 mixed_number now before (Anywhere s) x = before x
 mixed_number now before (Below m) x = x
 mixed_number now before Velocity x = x
+mixed_number now before Place x = x
 
 unfoldable pub mixed : (ℕ → ℕ) → (ℕ → ℕ) → Equation → Equation
 mixed now before e =

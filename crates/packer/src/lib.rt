@@ -40,6 +40,7 @@ fn named(names: &[u32], before: &[u32], o: Operand, x: u32) -> u32
         Operand::Anywhere(_) => lists::number_at(before, x as usize),
         Operand::Below(_) => x,
         Operand::Velocity => x,
+        Operand::Place => x,
     }
 }
 
@@ -263,6 +264,7 @@ fn visit(
         Operand::Anywhere(_) => push(marks, found, size, classes[x as usize]),
         Operand::Below(_) => size,
         Operand::Velocity => size,
+        Operand::Place => size,
     }
 }
 

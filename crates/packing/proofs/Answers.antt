@@ -84,7 +84,7 @@ module _ (cap velocities n n' : ℕ) where
 
 -- The trace of some ticks. Past the last of them, where no step looks, any tick does.
 abbrev trace_for : List Tick → Trace
-trace_for = trace_of (tick_of 0 0 0 [])
+trace_for = trace_of (tick_of 0 0 0 [] [])
 
 -- The flows that a table has on a trace solve its equations.
 solved : {cap velocities : ℕ} {t : List ℕ} {n : ℕ} (L : RunsAsLustre cap velocities t n) (trace : Trace)
@@ -103,7 +103,7 @@ answers-lustre cap velocities t n L old room calls =
     each-expected cap velocities n (said (admitted cap velocities n calls)) calls ss 0 decides
     (subst (λ (l : List Tick). EachTick (λ k s. s.left.answer ≡ Verdict (said l k)) 0 ss) ks
     (each_map (λ k s h. h.answer)
-    (L.leaves old room calls (tick_of 0 0 0 []) (L.flow (trace_for (ticks ss))) (solved L (trace_for (ticks ss))))))
+    (L.leaves old room calls (tick_of 0 0 0 [] []) (L.flow (trace_for (ticks ss))) (solved L (trace_for (ticks ss))))))
 
 -- Calls that n equations admit have values for no more equations, too.
 admitted-ticks : (cap velocities n n' : ℕ) → n' ≤ n → (xs : List Call) → Admitted cap velocities n xs

@@ -13,9 +13,10 @@ use Rattle.traces.specs.Trace.{Trace}
 use Rattle.tables.specs.Table.{all, Equation, equation_at, equation_fits, operand_fits, shape_fits}
 use Rattle.tables.specs.Table.{Kind, kind_at, shape_of, sort_of, is_memory}
 use Rattle.tables.specs.Table.Kind.{signal, start, constant, negation, conjunction, disjunction, boolean_pre}
-use Rattle.tables.specs.Table.Kind.{count_pre, capped, if_else, compare_literal, compare_parameter, velocity, unknown}
+use Rattle.tables.specs.Table.Kind.{count_pre, capped, if_else, compare_literal, compare_parameter, velocity, earlier}
+use Rattle.tables.specs.Table.Kind.{unknown}
 use Rattle.tables.specs.declared.Operand.{Operand}
-use Rattle.tables.specs.declared.Operand.TheVariants.{Unused, Earlier, Anywhere, Below, Velocity}
+use Rattle.tables.specs.declared.Operand.TheVariants.{Unused, Earlier, Anywhere, Below, Velocity, Place}
 use Rattle.tables.proofs.Tests.{all-at}
 use Rattle.flows.specs.Flow.{value_of, initial}
 use Rattle.flows.specs.Lustre.{remembered, Solves}
@@ -36,6 +37,7 @@ module _ (R S T : ℕ → ℕ → Type 0) (give : (x y z : ℕ) → R x y → S 
   agree-common (Anywhere s) x y z p q = give x y z p q
   agree-common (Below m) x y z p q = sym p ∙ q
   agree-common Velocity x y z p q = sym p ∙ q
+  agree-common Place x y z p q = sym p ∙ q
 
   pub alike-common : (d e f : Equation) → Alike R d e → Alike S d f → Alike T e f
   alike-common d e f p q =
@@ -54,6 +56,7 @@ agree-self (Earlier s) x = refl
 agree-self (Anywhere s) x = refl
 agree-self (Below m) x = refl
 agree-self Velocity x = refl
+agree-self Place x = refl
 
 pub alike_self : (e : Equation) → Alike (λ y z. y ≡ z) e e
 alike_self e = record { kind = refl; a = agree-self _ _; b = agree-self _ _; c = agree-self _ _ }
@@ -77,6 +80,7 @@ module _ (f : ℕ → ℕ) (R S : ℕ → ℕ → Type 0) (give : (x : ℕ) → 
   agree-renamed (Anywhere s) x h = give x h
   agree-renamed (Below m) x h = refl
   agree-renamed Velocity x h = refl
+  agree-renamed Place x h = refl
 
   pub renamed-alike : (e : Equation) → Alike R e e → Alike S (renamed f e) e
   unfolding renamed
@@ -96,6 +100,7 @@ agree-named f (Earlier s) x y h = h
 agree-named f (Anywhere s) x y h = h
 agree-named f (Below m) x y h = h
 agree-named f Velocity x y h = h
+agree-named f Place x y h = h
 
 pub alike-named : (f : ℕ → ℕ) (d e : Equation) → Alike (λ x y. x ≡ f y) d e → d ≡ renamed f e
 unfolding renamed
@@ -113,6 +118,7 @@ Match S T (Earlier s) x y = S x y
 Match S T (Anywhere s) x y = T x y
 Match S T (Below m) x y = x ≡ y
 Match S T Velocity x y = x ≡ y
+Match S T Place x y = x ≡ y
 
 -- Equation i of n and equation j of n' of another table that are alike by R match by what R gives of their operands.
 module _ (velocities : ℕ) (t t' : List ℕ) (n n' i j : ℕ) (R S T : ℕ → ℕ → Type 0)
@@ -126,6 +132,7 @@ module _ (velocities : ℕ) (t t' : List ℕ) (n n' i j : ℕ) (R S T : ℕ → 
   number-match (Anywhere s) x y f g h = past x y (flow-below t n s x f) (flow-below t' n' s y g) h
   number-match (Below m) x y f g h = h
   number-match Velocity x y f g h = h
+  number-match Place x y f g h = h
 
   alike-match : (d e : Equation) → shape_fits velocities t n i (shape_in d) d ≡ true
       → shape_fits velocities t' n' j (shape_in e) e ≡ true → Alike R d e → Three (Match S T) (shape_in d) d e
@@ -156,6 +163,7 @@ module _ (cap : ℕ) (k : Tick) (flow flow' : ℕ → ℕ) (cell cell' : ℕ) (T
   value-match compare_literal m h = rw (m.a, m.b, m.c)
   value-match compare_parameter m h = rw (m.a, m.b, m.c)
   value-match velocity m h = rw (m.a, m.b)
+  value-match earlier m h = rw m.a
   value-match unknown m h = refl
 
 -- Memories of one kind that match have operands related by T, and the same initial value.

@@ -11,7 +11,7 @@ use borrow.Author.Tests.{eqb-true, eq-eqb}
 use Rattle.lists.proofs.Choice.{false-true}
 use Rattle.tables.specs.Table.{Equation, operand_fits, shape_fits}
 use Rattle.tables.specs.declared.Operand.{Operand}
-use Rattle.tables.specs.declared.Operand.TheVariants.{Unused, Earlier, Anywhere, Below, Velocity}
+use Rattle.tables.specs.declared.Operand.TheVariants.{Unused, Earlier, Anywhere, Below, Velocity, Place}
 use Rattle.tables.specs.declared.Shape.{Shape}
 use Rattle.tables.proofs.Tests.{and-true}
 use Rattle.flows.proofs.Ranges.{flow-below}
@@ -80,6 +80,7 @@ module _ (f : ℕ → ℕ) where
   name_agree (Anywhere s) x y = refl
   name_agree (Below m) x y = refl
   name_agree Velocity x y = refl
+  name_agree Place x y = refl
 
   -- so two equations have the same key by f just if they are alike by that relation.
   pub key-alike : (d e : Equation) → renamed f d ≡ renamed f e → Alike SameName d e
@@ -110,6 +111,7 @@ module _ (velocities : ℕ) (t : List ℕ) (n i j : ℕ) (i≤n : i ≤ n) (j≤
   agree-below (Anywhere s) x y h e = give x y (flow-below t n s x h.0) (flow-below t n s y h.1) e
   agree-below (Below m) x y h e = e
   agree-below Velocity x y h e = e
+  agree-below Place x y h e = e
 
   pub alike-below : (d e : Equation) → shape_fits velocities t n i (shape_in d) d ≡ true
       → shape_fits velocities t n j (shape_in e) e ≡ true → Alike R d e → Alike S d e
@@ -157,6 +159,7 @@ module _ (velocities : ℕ) (t : List ℕ) (n i : ℕ) (i≤n : i ≤ n) (c : �
   refers-name (Anywhere s) y f e = (y, flow-below t n s y f, eqb-true (c y) x e)
   refers-name (Below m) y f e = absurd (false-true e)
   refers-name Velocity y f e = absurd (false-true e)
+  refers-name Place y f e = absurd (false-true e)
 
   pub uses-name : (d : Equation) → shape_fits velocities t n i (shape_in d) d ≡ true → uses (renamed c d) x ≡ true
       → NameBelow
@@ -179,6 +182,7 @@ module _ (c f : ℕ → ℕ) where
   refers-on (Anywhere s) y x e = eq-eqb (f (c y)) (f x) (ap f (eqb-true (c y) x e))
   refers-on (Below m) y x e = e
   refers-on Velocity y x e = e
+  refers-on Place y x e = e
 
   pub uses-on : (e : Equation) (x : ℕ) → uses (renamed c e) x ≡ true → uses (renamed (λ y. f (c y)) e) (f x) ≡ true
   unfolding renamed

@@ -21,7 +21,7 @@ use Rattle.lists.proofs.Buffers.{drop_more}
 use Rattle.lists.proofs.Choice.{false-true}
 use Rattle.tables.specs.Table.{Equation, equation_at, equation_fits, checked, started_of, verdict_of}
 use Rattle.tables.specs.declared.Operand.{Operand}
-use Rattle.tables.specs.declared.Operand.TheVariants.{Unused, Earlier, Anywhere, Below, Velocity}
+use Rattle.tables.specs.declared.Operand.TheVariants.{Unused, Earlier, Anywhere, Below, Velocity, Place}
 use Rattle.tables.specs.declared.Checked.TheVariants.{Passed}
 use Rattle.tables.proofs.Tests.{and-true, all-at}
 use Rattle.tables.proofs.Checks.{checked-fitting, failed-passed}
@@ -45,6 +45,7 @@ module _ (R : ℕ → ℕ → Type 0) (i : ℕ) where
   refers-related (Anywhere s) x y h e = (y, subst (λ w. R w y) (eqb-true x i e) h)
   refers-related (Below m) x y h e = absurd (false-true e)
   refers-related Velocity x y h e = absurd (false-true e)
+  refers-related Place x y h e = absurd (false-true e)
 
   uses-related : (d e : Equation) → Alike R d e → uses d i ≡ true → (z : ℕ) × R i z
   uses-related d e h =

@@ -22,7 +22,7 @@ use Rattle.tables.specs.Table.{closing_count, started_of, verdict_of, closes}
 use Rattle.tables.specs.Table.Kind.{compare_literal}
 use Rattle.tables.specs.declared.Sort.{Sort}
 use Rattle.tables.specs.declared.Operand.{Operand}
-use Rattle.tables.specs.declared.Operand.TheVariants.{Unused, Earlier, Anywhere, Below, Velocity}
+use Rattle.tables.specs.declared.Operand.TheVariants.{Unused, Earlier, Anywhere, Below, Velocity, Place}
 use Rattle.tables.specs.declared.Checked.TheVariants.{Passed}
 use Rattle.tables.proofs.Tests.{and-true, all-at, all_of}
 use Rattle.tables.proofs.Checks.{checked-fitting, passed-both, long-enough}
@@ -216,6 +216,7 @@ module _ {velocities : ℕ} {t : List ℕ} {n : ℕ} {c : ℕ → ℕ} {m : ℕ 
       (u, k (c x) (omega arith) (eq-eqb (c x) (c x) refl))
   operand-kept j l (Below q) x f k = refl
   operand-kept j l Velocity x f k = refl
+  operand-kept j l Place x f k = refl
 
   operands-kept : (j : ℕ) → j < n → m j ≡ true → Alike (λ y z. ClassKept n c m y) (equation_at t j) (equation_at t j)
   unfolding renamed
@@ -284,6 +285,7 @@ module _ {velocities : ℕ} {t : List ℕ} {n : ℕ} {c : ℕ → ℕ} {m : ℕ 
   number_fits x l (Anywhere s) y i h f = stands-flow n size y i s h h.below f
   number_fits x l (Below q) y i h f = rw h f
   number_fits x l Velocity y i h f = rw h f
+  number_fits x l Place y i h f = rw h f
 
   equation-fits : (x : ℕ) → x < size → equation_fits velocities result size x ≡ true
   unfolding shape_fits

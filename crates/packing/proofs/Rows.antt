@@ -138,10 +138,21 @@ strokes =
     (1 ∷ 0 ∷ 0 ∷ 0 ∷ 12 ∷ 1 ∷ 1 ∷ 0 ∷ 12 ∷ 0 ∷ 1 ∷ 0 ∷ 12 ∷ 1 ∷ 2 ∷ 0 ∷ 4 ∷ 0 ∷ 1 ∷ 0 ∷ 4 ∷ 2 ∷ 3 ∷ 0
     ∷ 5 ∷ 4 ∷ 5 ∷ 0 ∷ 4 ∷ 6 ∷ 1 ∷ 0 ∷ [])
 
+-- Verdicts of earlier rules: those for one place are merged, and those for two stay. The places stay, here 1 and 2,
+-- where equation 1 becomes equation 0 and equation 2 becomes equation 1.
+-- f0=b; f1=b; f2=r1; f3=r1; f4=r2; f5=f1 and f3; f6=f4 or f5; f7=f6 and f2;
+-- f0=b; f1=r1; f2=r2; f3=f0 and f1; f4=f2 or f3; f5=f4 and f1;
+abbrev verdicts : Row
+verdicts =
+    row
+    (1 ∷ 0 ∷ 0 ∷ 0 ∷ 1 ∷ 0 ∷ 0 ∷ 0 ∷ 13 ∷ 1 ∷ 0 ∷ 0 ∷ 13 ∷ 1 ∷ 0 ∷ 0 ∷ 13 ∷ 2 ∷ 0 ∷ 0 ∷ 4 ∷ 1 ∷ 3 ∷ 0
+    ∷ 5 ∷ 4 ∷ 5 ∷ 0 ∷ 4 ∷ 6 ∷ 2 ∷ 0 ∷ [])
+    (1 ∷ 0 ∷ 0 ∷ 0 ∷ 13 ∷ 1 ∷ 0 ∷ 0 ∷ 13 ∷ 2 ∷ 0 ∷ 0 ∷ 4 ∷ 0 ∷ 1 ∷ 0 ∷ 5 ∷ 2 ∷ 3 ∷ 0 ∷ 4 ∷ 4 ∷ 1 ∷ 0 ∷ [])
+
 abbrev rows : List Row
 rows =
     fetched_twice ∷ two_loops ∷ first_values ∷ other_numbers ∷ unreached ∷ repeated ∷ last_same ∷ literals ∷ orders
-    ∷ far_apart ∷ strokes ∷ []
+    ∷ far_apart ∷ strokes ∷ verdicts ∷ []
 
 -- The given tables pass the check.
 check-rows : map (λ (r : Row). checked velocity_count r.given (size r.given)) rows ≡ map (λ (r : Row). Passed) rows

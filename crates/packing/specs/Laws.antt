@@ -6,7 +6,7 @@ use Rattle.limits.specs.Limits.{table_room}
 use Rattle.tables.specs.Table.{Equation, equation_at, kind_at, memories, checked, closing_count, started_of, verdict_of}
 use Rattle.tables.specs.Table.Kind.{compare_literal}
 use Rattle.tables.specs.declared.Operand.{Operand}
-use Rattle.tables.specs.declared.Operand.TheVariants.{Unused, Earlier, Anywhere, Below, Velocity}
+use Rattle.tables.specs.declared.Operand.TheVariants.{Unused, Earlier, Anywhere, Below, Velocity, Place}
 use Rattle.tables.specs.declared.Checked.TheVariants.{Passed, Refused as Failed}
 use Rattle.traces.specs.Trace.{Trace}
 use Rattle.flows.specs.Flow.{answer_of}
@@ -25,6 +25,7 @@ Agree R (Earlier s) x y = R x y
 Agree R (Anywhere s) x y = R x y
 Agree R (Below m) x y = x ≡ y
 Agree R Velocity x y = x ≡ y
+Agree R Place x y = x ≡ y
 
 -- Two equations of one kind whose numbers agree.
 pub record Alike (R : ℕ → ℕ → Type 0) (d e : Equation) : Type 0 where
@@ -94,8 +95,8 @@ pub record Packs (t : List ℕ) (n : ℕ) (t' : List ℕ) (n' : ℕ) : Type 0 wh
   pub rising : (x y : ℕ) → x < y → y < n' → from x < from y
   pub shorter : n' ≤ n
   -- On every run from a fresh state in which the given table refuses no step, both answer alike, for every cap and
-  -- every number of velocities, and whatever parameters and velocities the ticks have: over the same calls, and where
-  -- the packed table has values of its own.
+  -- every number of velocities, and whatever parameters, velocities and verdicts the ticks have: over the same calls,
+  -- and where the packed table has values of its own.
   pub answers : (cap velocities : ℕ) (old old' : List ℕ) → n ≤ length old → n' ≤ length old' → (calls : List Call)
       → NoneRefused (answered (from_fresh cap velocities t n old calls))
       → answered (from_fresh cap velocities t' n' old' calls) ≡ answered (from_fresh cap velocities t n old calls)

@@ -2,7 +2,7 @@
 use Rattle.std.specs.Prelude.{Bool, false, ◌||◌, ℕ, eqb}
 use Rattle.tables.specs.Table.{Equation, kind_of, shape_of}
 use Rattle.tables.specs.declared.Operand.{Operand}
-use Rattle.tables.specs.declared.Operand.TheVariants.{Unused, Earlier, Anywhere, Below, Velocity}
+use Rattle.tables.specs.declared.Operand.TheVariants.{Unused, Earlier, Anywhere, Below, Velocity, Place}
 use Rattle.tables.specs.declared.Shape.{Shape}
 
 -- The row of an equation's kind (SPEC 5.3).
@@ -16,6 +16,7 @@ refers (Earlier s) y x = eqb y x
 refers (Anywhere s) y x = eqb y x
 refers (Below m) y x = false
 refers Velocity y x = false
+refers Place y x = false
 
 -- x is an operand of the equation.
 unfoldable pub uses : Equation → ℕ → Bool

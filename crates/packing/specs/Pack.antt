@@ -3,7 +3,7 @@
 use Rattle.std.specs.Prelude.{Bool, ◌&&◌, ◌||◌, cond, List, [], ◌∷◌, ◌++◌, ℕ, zero, suc, ◌+◌, ◌*◌, leb, eqb}
 use Rattle.tables.specs.Table.{Equation, equation_at, closing_count}
 use Rattle.tables.specs.declared.Operand.{Operand}
-use Rattle.tables.specs.declared.Operand.TheVariants.{Unused, Earlier, Anywhere, Below, Velocity}
+use Rattle.tables.specs.declared.Operand.TheVariants.{Unused, Earlier, Anywhere, Below, Velocity, Place}
 use Rattle.packing.specs.Operands.{shape_in, uses}
 use Rattle.packing.specs.Search.{first, some, count}
 
@@ -14,6 +14,7 @@ renamed_number f (Earlier s) x = f x
 renamed_number f (Anywhere s) x = f x
 renamed_number f (Below m) x = x
 renamed_number f Velocity x = x
+renamed_number f Place x = x
 
 -- The equation with each operand x as f x, those of memories too.
 unfoldable pub renamed : (ℕ → ℕ) → Equation → Equation

@@ -19,7 +19,7 @@ use Rattle.grammar.specs.Parse.Goal.{go_d, go_b}
 use Rattle.grammar.specs.Parse.Result.{no-rule, ok}
 use Rattle.grammar.proofs.Position.{DerivesAt, Span, sized, inside}
 use Rattle.grammar.proofs.Sound.{Holds, read-holds}
-use Rattle.facts.specs.Facts.{facts_of}
+use Rattle.facts.specs.Facts.{facts_of, leaf_facts}
 use Rattle.facts.specs.declared.Facts.{Facts}
 use Rattle.parser.specs.Contract.{parsed_of, Parses, ParsesBy, Room, Opening, Pushed}
 use Rattle.parser.specs.declared.Parsed.{Parsed}
@@ -160,9 +160,16 @@ module _ {x : Result} {before : List ℕ} {top : ℕ} {after : List ℕ} where
   to_same {r = r} q h = subst (λ (z : Result). ParsesTo z before top r after) (sym q) h
 
 -- In the terms of the contracts: of what a definition reads,
-pub reads-to : {reads : List ℕ → ℕ → Result} {ws : List ℕ} {i : ℕ} {before : List ℕ} {top : ℕ} {r : Parsed}
-    {after : List ℕ} → ParsesTo (reads ws i) before top r after → ParsesBy reads ws i before top r after
-reads-to h = record { result = h.result; filled = h.filled }
+module _ {reads : List ℕ → ℕ → Result} {ws : List ℕ} {i : ℕ} {before : List ℕ} {top : ℕ} {after : List ℕ} where
+  pub reads-to : {r : Parsed} → ParsesTo (reads ws i) before top r after → ParsesBy reads ws i before top r after
+  reads-to h = record { result = h.result; filled = h.filled }
+
+  -- such as a leaf of one word, whose record has one number,
+  pub one-record : (t : Tree) {k a e : ℕ} {f : Facts} → reads ws i ≡ ok t (i + 1) → facts_of t ≡ leaf_facts →
+      flat t ≡ row k a 0 0 → Pushed before top k a 0 0 e after → f ≡ leaf_facts →
+      ParsesBy reads ws i before top (At (i + 1) e f) after
+  one-record t is known records u facts =
+      reads-to (to-tree t is (stored-as (sym records) (pushed u)) (facts ∙ sym known))
 
 module _ {g : Goal} {ws : List ℕ} {i : ℕ} {before : List ℕ} {top : ℕ} {after : List ℕ} where
   -- and of a goal.

@@ -9,7 +9,7 @@ use Rattle.formulas.specs.Tree.{Tree, upper}
 use Rattle.formulas.specs.Arena
 use Rattle.formulas.specs.Arena.{row, flat, num_kind, num_value}
 use Rattle.grammar.specs.Grammar.{op_word, num_word}
-use Rattle.grammar.specs.Parse.{Result, Goal, read, word, velocity_at, leaf_at, comparison_at}
+use Rattle.grammar.specs.Parse.{Result, Goal, read, word, velocity_at, earlier_at, leaf_at, comparison_at}
 use Rattle.grammar.specs.Parse.Result.{no-rule, ok}
 use Rattle.grammar.specs.Parse.Goal.{go_f}
 use Rattle.facts.specs.Facts.{facts_of, atom_facts, then_facts, chop_facts}
@@ -80,7 +80,11 @@ pub record ParsesBy (reads : List ℕ → ℕ → Result) (ws : List ℕ) (i : �
 abbrev pub ParsesVelocity : List ℕ → ℕ → List ℕ → ℕ → Parsed → List ℕ → Type 0
 ParsesVelocity = ParsesBy velocity_at
 
--- `0`, `1`, a signal or a velocity test at position i.
+-- A verdict or a velocity test at position i.
+abbrev pub ParsesEarlier : List ℕ → ℕ → List ℕ → ℕ → Parsed → List ℕ → Type 0
+ParsesEarlier = ParsesBy earlier_at
+
+-- `0`, `1`, a signal, a verdict or a velocity test at position i.
 abbrev pub ParsesLeaf : List ℕ → ℕ → List ℕ → ℕ → Parsed → List ℕ → Type 0
 ParsesLeaf = ParsesBy leaf_at
 

@@ -7,7 +7,7 @@ ghost use Rattle.limits.specs.Limits.{word_limit};
 ghost use Rattle.words.specs.Word.{NOT, ROUND, LAG, THEN, CHOP, EXISTS};
 ghost use Rattle.grammar.specs.Parse.Goal.{go_f, go_d, go_c, go_u, go_a, go_b};
 ghost use Rattle.parser.specs.Contract.{Parses, ParsesThen, ParsesChop, Room, Begun, Opening};
-ghost use Rattle.parser.specs.Contract.{Pushed, ParsesVelocity, ParsesLeaf, ParsesComparison};
+ghost use Rattle.parser.specs.Contract.{Pushed, ParsesVelocity, ParsesEarlier, ParsesLeaf, ParsesComparison};
 
 use facts::Facts;
 
@@ -57,7 +57,20 @@ fn velocity(ws: &[u32], at: usize, arena: &mut [u32], top: usize) -> Parsed
     Parsed::At(at + 3, end, facts::leaf_facts())
 }
 
-// SPEC 3.6: `0`, `1`, a signal or a velocity test, at a position inside square brackets.
+// SPEC 3.6: a verdict, one word (SPEC 2.12) at a position inside square brackets, or else a velocity test.
+fn earlier(ws: &[u32], at: usize, arena: &mut [u32], top: usize) -> Parsed
+    requires { Room ws.now at arena.old top }
+    ensures { ParsesEarlier ws.now at arena.old top result arena.new }
+{
+    let w = lists::number_at(ws, at);
+    if words::is_earlier(w) {
+        let end = push(arena, top, formulas::EARLIER, w - words::EARLIER, 0, 0);
+        return Parsed::At(at + 1, end, facts::leaf_facts());
+    }
+    velocity(ws, at, arena, top)
+}
+
+// SPEC 3.6: `0`, `1`, a signal, a verdict or a velocity test, at a position inside square brackets.
 fn leaf(ws: &[u32], at: usize, arena: &mut [u32], top: usize) -> Parsed
     requires { Room ws.now at arena.old top }
     ensures { ParsesLeaf ws.now at arena.old top result arena.new }
@@ -71,7 +84,7 @@ fn leaf(ws: &[u32], at: usize, arena: &mut [u32], top: usize) -> Parsed
         let end = push(arena, top, formulas::CONSTANT, w - words::LITERAL, 0, 0);
         return Parsed::At(at + 1, end, facts::leaf_facts());
     }
-    velocity(ws, at, arena, top)
+    earlier(ws, at, arena, top)
 }
 
 // SPEC 3.5: a comparison and n at a position, the end of an atom, whose record of kind k is written.

@@ -14,8 +14,7 @@ use Rattle.cards.proofs.Lines.{append-nil, first_of}
 use Rattle.cards.proofs.Stages.{end-broken}
 use Rattle.player.specs.Card.{World, over_world, effect_of, lined}
 use Rattle.player.specs.Card.{last_output, broken_bytes, owed, prints}
-use Rattle.player.specs.Output.{output_bytes}
-use Rattle.player.specs.declared.Output.{Output}
+use Rattle.player.specs.Output.{Printed, output_bytes}
 use Rattle.player.proofs.Playing.{over-lined, long-lined}
 
 -- Nothing is printed once the card is over,
@@ -29,7 +28,7 @@ unfolding prints
 over-prints w s e = over-owed w (cut s).whole (cut s).tail e
 
 -- so a line that ends the card prints the last of it,
-pub last-owed : (w w' : World) (l : List ℕ) (ls : List (List ℕ)) (t : List ℕ) (o : Output)
+pub last-owed : (w w' : World) (l : List ℕ) (ls : List (List ℕ)) (t : List ℕ) (o : Printed)
     → lined w l ≡ effect_of o w' → w'.watch.stage.phase ≡ P.Over → owed w (l ∷ ls) t ≡ output_bytes o
 unfolding owed
 last-owed w w' l ls t o e p = rw (e, over-owed w' ls t p) (append-nil _)

@@ -8,14 +8,14 @@ use lib.ListN.{length}
 use Rattle.limits.specs.Limits.{line_limit}
 use Rattle.observers.specs.declared.Compiled.{Compiled}
 use Rattle.observers.specs.declared.Compiled.TheVariants as C
-use Rattle.flows.specs.declared.Stepped.{Stepped}
-use Rattle.flows.specs.declared.Stepped.TheVariants as S
+use Rattle.sets.specs.declared.Ticked.{Ticked}
+use Rattle.sets.specs.declared.Ticked.TheVariants as S
 use Rattle.cards.specs.Says.{Says, is_over, line_says, stage_after}
-use Rattle.cards.specs.Says.Says.{edition, parameters, rule, count, tick, refused, nothing}
+use Rattle.cards.specs.Says.Says.{cards, edition, parameters, rule, count, tick, refused, nothing}
 use Rattle.cards.specs.declared.Stage.{Stage}
 use Rattle.cards.proofs.Stages.{rank, near}
-use Rattle.player.specs.Card.{velocities_in, rule_made, ruled_world, step_of, stepped_world}
-use Rattle.player.specs.Card.{World, Effect, with_rule, with_step, played_to, played, lined}
+use Rattle.player.specs.Card.{velocities_in, rule_on, ruled_world, step_of, stepped_world}
+use Rattle.player.specs.Card.{World, Effect, with_rule, with_steps, played_to, played, lined}
 
 -- Where the card is not over after a line, its stage is the one that the line leads to.
 abbrev Reaches : Stage → Effect → Type 0
@@ -25,18 +25,19 @@ rule-reaches : (k : Stage) (r : Compiled) (w : World) → Reaches k (with_rule k
 rule-reaches k (C.Equations n) w o = refl
 rule-reaches k (C.Refused r) w o = absurd (false≢true (sym o))
 
-step-reaches : (k : Stage) (r : Stepped) (w : World) → Reaches k (with_step k r w)
-step-reaches k (S.Verdict v) w o = refl
-step-reaches k (S.Refused r) w o = absurd (false≢true (sym o))
+step-reaches : (k : Stage) (r : Ticked) (vs : List ℕ) (w : World) → Reaches k (with_steps k r vs w)
+step-reaches k S.Verdicts vs w o = refl
+step-reaches k (S.Refused r) vs w o = absurd (false≢true (sym o))
 
 played-reaches : (k : Stage) (s : Says) (w : World) → Reaches k (played_to k s w)
+played-reaches k (cards m) w o = refl
 played-reaches k (edition e) w o = refl
 played-reaches k (parameters ps) w o = refl
 played-reaches k (rule text) w o =
-    let r = rule_made w.context text w.table w.state in rule-reaches k r.answer (ruled_world r w) o
+    let r = rule_on text w in rule-reaches k r.answer (ruled_world r w) o
 played-reaches k (count m) w o = refl
 played-reaches k (tick start signals velocity) w o =
-    let a = step_of start signals velocity w in step-reaches k a.answer (stepped_world a w) o
+    let a = step_of start signals velocity w in step-reaches k a.answer a.verdicts (stepped_world a w) o
 played-reaches k (refused r) w o = absurd (false≢true (sym o))
 played-reaches k nothing w o = absurd (false≢true (sym o))
 

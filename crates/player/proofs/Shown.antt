@@ -1,169 +1,159 @@
 -- Every card shows what is printed for it (`shown`), and nothing else (`one-output`): what a card shows is what is
 -- printed, case by case (`lines-printed`), and every card shows something (Showing.antt). Assumes nothing.
-use mathlib.Core.Path.{◌≡◌, refl, ◌∙◌, sym, subst}
-use mathlib.Core.Bool.{false}
+use mathlib.Core.Path.{◌≡◌, refl, ◌∙◌, sym, ap, subst}
 use mathlib.Core.List.{List, ◌∷◌, ◌++◌}
-use Prim.Native.Nat.{ℕ, ◌+◌, ◌≤◌, ◌<◌}
+use Prim.Native.Nat.{ℕ, suc, ◌+◌, ◌*◌, ◌≤◌, ◌<◌}
 use native.Mathlib.Omega.{arith}
 use lib.ListN.{length, replicate, length-replicate}
-use borrow.Author.Tests.{ne_eqb, lt-leb}
-use Rattle.formulas.specs.Formula.{Formula}
-use Rattle.formulas.specs.Tree.{Tree}
-use Rattle.limits.specs.Limits.{parameter_count, text_limit, line_limit, equation_limit, table_room}
-use Rattle.limits.specs.Context.{standard_context}
+use borrow.Author.Tests.{lt-leb}
+use Rattle.lists.specs.Decimal.{is_digit, digits_after, numeral}
+use Rattle.lists.specs.Text.{line_end, bytes}
+use Rattle.formulas.specs.Sets.{Ruled}
+use Rattle.limits.specs.Limits.{velocity_count, place_count, parameter_count, line_limit, equation_limit, table_room}
+use Rattle.limits.specs.Context.{lone_place, context_of, standard_context}
 use Rattle.limits.specs.declared.Context.{Context}
 use Rattle.words.specs.Contract.{Ranged}
-use Rattle.words.proofs.Bounds.{standard-ranged}
-use Rattle.flows.specs.Step.{freshened}
-use Rattle.rules.specs.Reading.{HasOutcome}
-use Rattle.rules.specs.Computed.{rule_of}
-use Rattle.rules.specs.Reading.Outcome.{rule, refused}
-use Rattle.rules.proofs.Theorems.{computed, has-formula}
-use Rattle.observers.proofs.Demand.{refused-compiled}
-use Rattle.cards.specs.Heads.{IsEdition, edition_line, no_edition, rule_head}
-use Rattle.cards.specs.Numbers.{has_prefix, parameters_of, count_of}
-use Rattle.cards.specs.Numbers.Listed.{are}
-use Rattle.cards.specs.Lines.{over_long, cut}
+use Rattle.words.proofs.Bounds.{context-ranged}
+use Rattle.rules.proofs.Theorems.{computed}
+use Rattle.sets.specs.Steps.{Rules, rules_of}
+use Rattle.sets.specs.Windows.{with_part}
+use Rattle.cards.specs.Heads.{IsEdition, no_edition, rule_head}
+use Rattle.cards.specs.Numbers.{has_prefix, number, wholly, not_nought, cards_of, count_of}
+use Rattle.cards.specs.Lines.{cut}
 use Rattle.cards.specs.Says.{stage_at, first_stage, line_says}
 use Rattle.cards.specs.declared.Count.TheVariants as K
 use Rattle.cards.specs.declared.Phase.TheVariants as P
 use Rattle.cards.specs.declared.Stage.{Stage}
-use Rattle.cards.proofs.Editions.{edition-of, edition-known}
-use Rattle.cards.proofs.Sized.{parameters-low, parameters-short, count-short}
-use Rattle.player.specs.Card.{World, world_in, watch_of, Effect, effect_of, over_world, rule_made, played, lined}
-use Rattle.player.specs.Card.{owed, prints, printed}
-use Rattle.player.specs.Output.{output_bytes}
+use Rattle.cards.proofs.Sized.{count-short, CardsLow, cards-low, cards-short}
+use Rattle.player.specs.Card.{no_sizes, played, lined, owed, prints, printed}
+use Rattle.player.specs.Output.{Printed as O}
 use Rattle.player.specs.Meant.{Meant}
-use Rattle.player.specs.Shows.{LinesShow, Shows}
-use Rattle.player.specs.Shows.LinesShow.{edition-fails, parameters-fail, rule-fails, count-fails}
-use Rattle.player.specs.Shows.LinesShow.{rule-refused, verdicts}
-use Rattle.player.specs.declared.Output.TheVariants as O
+use Rattle.player.specs.Shows.{refusal_line, RuleLines, RuleFails, RulesShow, LinesShow, NoSet, Shows}
+use Rattle.player.specs.Shows.RuleFails.{edition-fails, parameters-fail, rule-fails, rule-refused}
+use Rattle.player.specs.Shows.RulesShow.{rule-fails as one-fails, count-fails, verdicts}
+use Rattle.player.specs.Shows.LinesShow.{alone, set}
 use Rattle.player.proofs.Printing.{last-owed}
-use Rattle.player.proofs.Closing.{fails-owed, edition-refuses, parameters-refuse, rule-refuses, count-refuses}
-use Rattle.player.proofs.Meant.{Compile, compile, rule-short, ticks-meant}
+use Rattle.player.proofs.Standing.{Stands, stands-last}
+use Rattle.player.proofs.Standing.Stands.{first, second}
+use Rattle.player.proofs.Closing.{fails-owed, LoneFirst, no-set, set-lone, edition-owed, parameters-refuse}
+use Rattle.player.proofs.Closing.{rule-refuses, count-refuses}
+use Rattle.player.proofs.Parts.{Roomy}
+use Rattle.player.proofs.Meant.{ticks-meant}
+use Rattle.player.proofs.Ruling.{silent, silent-owed, ruled_at, refused-lined, Made, after-edition}
+use Rattle.player.proofs.Ruling.{after-parameters, rules-made}
 use Rattle.player.proofs.Showing.{lines-show}
 
--- ---- the four first lines
+-- ---- the lines of the numbers
 
-abbrev silent : World → Effect
-silent w = effect_of O.Quiet w
+module _ (context : Context) (v : List ℕ) (r : Rules) (c : List ℕ) where
+  -- How many rules there are.
+  cards-lined : (l : List ℕ) (m : ℕ) → cards_of l ≡ K.Is m
+      → lined (ruled_at context v first_stage r c) l
+      ≡ silent (ruled_at context v (stage_at P.Edition no_edition lone_place m 0) r c)
+  unfolding lined played line_says
+  cards-lined l m q = rw (lt-leb line_limit (length l) (cards-short l m q), q)
 
--- A line that prints nothing.
-silent-owed : (w : World) {w' : World} (l : List ℕ) (ls : List (List ℕ)) (tail : List ℕ) → lined w l ≡ silent w'
-    → owed w (l ∷ ls) tail ≡ owed w' ls tail
-unfolding owed output_bytes
-silent-owed w l ls tail e = rw e
-
-module _ (context : Context) (table c v : List ℕ) where
-  -- Before the rule's line, with the lent arrays as they are,
-  abbrev early : Stage → List ℕ → World
-  early k ps = world_in context (watch_of k 0) ps table c v
-
-  -- After it, with the rule's table and its fresh state.
-  abbrev ruled : {text : List ℕ} {f : Formula} → Compile context text table f → Stage → List ℕ → World
-  ruled o k ps =
-      let fresh = (freshened context.velocities o.table o.n c).state in
-      world_in context (watch_of k o.n) ps o.table fresh v
-
-  module _ (e : ℕ) where
-    edition-lined : (ps : List ℕ) → IsEdition e
-        → lined (early first_stage ps) (edition_line e) ≡ silent (early (stage_at P.Parameters e 0) ps)
-    unfolding lined played line_says
-    edition-lined ps one = rw (edition-of one, ne_eqb e no_edition (edition-known one))
-
-    parameters-lined : (old ps l : List ℕ) → parameters_of l ≡ are ps
-        → lined (early (stage_at P.Parameters e 0) old) l ≡ silent (early (stage_at P.Rule e 0) ps)
-    unfolding lined played line_says
-    parameters-lined old ps l q = rw (lt-leb line_limit (length l) (parameters-short l ps q), q)
-
-    rule-lined : {text : List ℕ} {f : Formula} (o : Compile context text table f) (ps : List ℕ)
-        → length text ≤ text_limit → equation_limit ≤ length c
-        → lined (early (stage_at P.Rule e 0) ps) (rule_head ++ text) ≡ silent (ruled o (stage_at P.Count e 0) ps)
-    unfolding lined played line_says rule_made has_prefix
-    rule-lined {text} o ps h room =
-        let short : length (rule_head ++ text) < line_limit = omega arith in
-        rw (
-          lt-leb line_limit (length (rule_head ++ text)) short,
-          o.is,
-          o.observes.fresh c (omega (arith, o.few)),
-        )
-
-    refused-lined : (ps text : List ℕ) (k : ℕ) → over_long (rule_head ++ text) ≡ false
-        → rule_of context text ≡ refused k
-        → lined (early (stage_at P.Rule e 0) ps) (rule_head ++ text)
-        ≡ effect_of (O.Refused k) (over_world (early (stage_at P.Rule e 0) ps))
-    unfolding lined played line_says rule_made has_prefix
-    refused-lined ps text k h q = rw (h, ← (refused-compiled context text table k q))
-
-    count-lined : {text : List ℕ} {f : Formula} (o : Compile context text table f) (ps l : List ℕ) (k : ℕ)
-        → count_of l ≡ K.Is k
-        → lined (ruled o (stage_at P.Count e 0) ps) l ≡ silent (ruled o (stage_at P.Ticks e k) ps)
-    unfolding lined played line_says
-    count-lined o ps l k q = rw (lt-leb line_limit (length l) (count-short l k q), q)
+  -- How many ticks follow.
+  count-lined : (e m : ℕ) (l : List ℕ) (n : ℕ) → count_of l ≡ K.Is n
+      → lined (ruled_at context v (stage_at P.Count e m m 0) r c) l
+      ≡ silent (ruled_at context v (stage_at P.Ticks e m m n) r c)
+  unfolding lined played line_says
+  count-lined e m l n q = rw (lt-leb line_limit (length l) (count-short l n q), q)
 
 -- ---- what is shown is printed
 
--- From any lent arrays that are long enough: the lines after the first, after the second, and after a third that is a
--- rule.
-module _ {context : Context} (ranged : Ranged context) (old table c v : List ℕ)
-    (room : table_room ≤ length table) (room-c : equation_limit ≤ length c) (room-v : equation_limit ≤ length v)
-    (tail : List ℕ) where
-  module _ {e : ℕ} (one : IsEdition e) where
-    after_first : (ls : List (List ℕ)) → owed (early context table c v first_stage old) (edition_line e ∷ ls) tail
-        ≡ owed (early context table c v (stage_at P.Parameters e 0) old) ls tail
-    after_first ls = silent-owed _ (edition_line e) ls tail (edition-lined context table c v e old one)
+-- From any lent arrays that are long enough.
+module _ (context : Context) (ranged : (place : ℕ) → Ranged (context_of context.velocities place)) (v : List ℕ)
+    (room-v : equation_limit ≤ length v) (tail : List ℕ) where
+  abbrev velocities : ℕ
+  velocities = context.velocities
 
-    after-second : (second ps : List ℕ) (ls : List (List ℕ)) → parameters_of second ≡ are ps
-        → owed (early context table c v first_stage old) (edition_line e ∷ second ∷ ls) tail
-        ≡ owed (early context table c v (stage_at P.Rule e 0) ps) ls tail
-    after-second second ps ls q =
-        after_first (second ∷ ls) ∙ silent-owed _ second ls tail (parameters-lined context table c v e old ps second q)
+  -- A rule whose lines fail.
+  rule-failed : {e m : ℕ} → IsEdition e → m ≤ place_count → (rs : List Ruled) {k : Stage} → Stands e m (length rs) k
+      → length rs < m → (r : Rules) (c : List ℕ) {ls : List (List ℕ)} {n : ℕ} → LoneFirst k.phase ls
+      → RuleFails velocities e rs ls n → owed (ruled_at context v k r c) ls tail ≡ refusal_line n
+  rule-failed one few rs s h r c lone (edition-fails f) = edition-owed _ one rs s h lone f tail
+  rule-failed {e} {m} one few rs s h r c lone (parameters-fail {ls} f) =
+      after-edition context ranged v room-v one few tail s h r c ls
+      ∙ fails-owed _ (parameters-refuse velocities e (suc (length rs)) m) f tail
+  rule-failed {e} {m} one few rs s h r c lone (rule-fails {second} {ps} {ls} q f) =
+      after-parameters context ranged v room-v one few tail s h r c second ps ls q
+      ∙ fails-owed _ (rule-refuses velocities e (suc (length rs)) m) f tail
+  rule-failed {e} {m} one few rs s h r c lone (rule-refused {second} {ps} {text} {k = n} {ls} q short out) =
+      after-parameters context ranged v room-v one few tail s h r c second ps ((rule_head ++ text) ∷ ls) q
+      ∙ last-owed _ _ (rule_head ++ text) ls tail (O.refused n)
+      (refused-lined context v e m (length rs)
+      (rules_of r.sizes (with_part parameter_count (length rs) ps r.parameters) r.table) c (omega arith) text n
+      short (computed (context_of velocities (suc (length rs))) text out)) refl
 
-    after-third : (second ps text : List ℕ) {t : Tree} {f : Formula} (o : Compile context text table f)
-        (ls : List (List ℕ)) → parameters_of second ≡ are ps → HasOutcome context text (rule t)
-        → owed (early context table c v first_stage old) (edition_line e ∷ second ∷ (rule_head ++ text) ∷ ls) tail
-        ≡ owed (ruled context table c v o (stage_at P.Count e 0) ps) ls tail
-    after-third second ps text {t} o ls q r =
-        after-second second ps ((rule_head ++ text) ∷ ls) q
-        ∙ silent-owed _ (rule_head ++ text) ls tail
-        (rule-lined context table c v e o ps (rule-short context text t (computed context text r)) room-c)
+  module _ {m : ℕ} (some : 1 ≤ m) (few : m ≤ place_count) {k : Stage} (begins : (e : ℕ) → Stands e m 0 k)
+      (r : Rules) (c : List ℕ) (room : Roomy r c) where
+    -- What the rules' lines leave.
+    leaves : {e : ℕ} {front rest : List (List ℕ)} {rs : List Ruled} → IsEdition e → RuleLines velocities e 0 front rs
+        → length rs ≤ m → LoneFirst k.phase (front ++ rest)
+        → Made context v e m 0 k r c rs (front ++ rest) rest tail
+    leaves {e} {rest = rest} one lines h lone =
+        rules-made context ranged v room-v one few tail lines rest (begins e) (omega arith) lone r c room
+
+    stood : {e : ℕ} {ls rest : List (List ℕ)} {rs : List Ruled} (w : Made context v e m 0 k r c rs ls rest tail)
+        → Stands e m (length rs) w.stage
+    stood {e} {rs = rs} w =
+        let number : 0 + length rs ≡ length rs = omega arith in
+        subst (λ (x : ℕ). Stands e m x w.stage) number w.stands
+
+    -- After all rules.
+    counts : {e : ℕ} {ls rest : List (List ℕ)} {rs : List Ruled} (w : Made context v e m 0 k r c rs ls rest tail)
+        → length rs ≡ m
+        → owed (ruled_at context v k r c) ls tail
+        ≡ owed (ruled_at context v (stage_at P.Count e m m 0) w.rules w.state) rest tail
+    counts {rest = rest} w all =
+        w.goes_on
+        ∙ ap (λ (x : Stage). owed (ruled_at context v x w.rules w.state) rest tail)
+        (stands-last (stood w) all some)
+
+    rules-printed : {ls : List (List ℕ)} {out : List ℕ} → LoneFirst k.phase ls → RulesShow velocities m tail ls out
+        → owed (ruled_at context v k r c) ls tail ≡ out
+    rules-printed lone (one-fails {rs = rs} one lines h f) =
+        let w = leaves one lines (omega arith) lone in
+        w.goes_on ∙ rule-failed one few rs (stood w) h w.rules w.state w.lone f
+    rules-printed lone (count-fails {e} one lines all f) =
+        counts (leaves one lines (omega arith) lone) all ∙ fails-owed _ (count-refuses velocities e m m) f tail
+    rules-printed lone (verdicts {e} {ls = ls} {rest} {ks = ks} {left} l d one lines all count ticks closes) =
+        let w = leaves one lines (omega arith) lone in
+        counts w all
+        ∙ silent-owed _ l (ls ++ rest) tail
+        (count-lined context v w.rules w.state e m l (length ks + left) count)
+        ∙ ticks-meant context (ranged 0).some all few w.begun d ticks closes
 
   -- Each case of what is shown.
-  lines-printed : {ls : List (List ℕ)} {out : List ℕ} → LinesShow context tail ls out
-      → owed (early context table c v first_stage old) ls tail ≡ out
-  lines-printed (edition-fails h) = fails-owed _ (edition-refuses context.velocities) h tail
-  lines-printed (parameters-fail {e} {ls} one h) =
-      after_first one ls ∙ fails-owed _ (parameters-refuse context.velocities e) h tail
-  lines-printed (rule-fails {e} {second} {ps} {ls} one q h) =
-      after-second one second ps ls q ∙ fails-owed _ (rule-refuses context.velocities e) h tail
-  lines-printed (count-fails {e} {second} {ps} {text} {t} {ls} one q r h) =
-      let is = computed context text r in
-      let f = has-formula context text t is in
-      after-third one second ps text (compile ranged text table t is room f.0 f.1) ls q r
-      ∙ fails-owed _ (count-refuses context.velocities e) h tail
-  lines-printed (rule-refused {e} {second} {ps} {text} {k} {ls} one q short r) =
-      after-second one second ps ((rule_head ++ text) ∷ ls) q
-      ∙ last-owed _ _ (rule_head ++ text) ls tail (O.Refused k)
-      (refused-lined context table c v e ps text k short (computed context text r)) refl
-  lines-printed (
-      verdicts {e} {second} {ps} {text} {fourth} {t} {f} {ls} {rest} {ks} {left} one q r is count lines closes
-      ) =
-      let o = compile ranged text table t (computed context text r) room f is in
-      let fits-c : o.n ≤ length c = omega (arith, o.few) in
-      let fits-v : o.n ≤ length v = omega (arith, o.few) in
-      after-third one second ps text o (fourth ∷ (ls ++ rest)) q r
-      ∙ silent-owed _ fourth (ls ++ rest) tail (count-lined context table c v e o ps fourth (length ks + left) count)
-      ∙ ticks-meant ranged.some o.observes (parameters-low second ps q) lines closes c v fits-c fits-v
+  lines-printed : (r : Rules) (c : List ℕ) → Roomy r c → {ls : List (List ℕ)} {out : List ℕ}
+      → LinesShow velocities tail ls out → owed (ruled_at context v first_stage r c) ls tail ≡ out
+  lines-printed r c room (alone {ls} none h) =
+      rules-printed (omega arith) (omega arith) (λ e. first refl) r c room (no-set ls none) h
+  lines-printed r c room (set {l} {ls = ls} {m} q h) =
+      let low = subst CardsLow q (cards-low l) in
+      silent-owed _ l ls tail (cards-lined context v r c l m q)
+      ∙ rules-printed low.0 low.1 (λ e. second) r c room (set-lone ls) h
 
-long : (m : ℕ) → m ≤ length {A = ℕ} (replicate m 0)
-long m = omega (arith, length-replicate {A = ℕ} m 0)
+long : (n : ℕ) → n ≤ length {A = ℕ} (replicate n 0)
+long n = omega (arith, length-replicate {A = ℕ} n 0)
 
 -- A card prints what it shows, so what it shows is one.
 pub shown-printed : (card : List ℕ) {out : List ℕ} → Shows card out → printed card ≡ out
 unfolding printed prints
 shown-printed card h =
-    lines-printed standard-ranged (replicate parameter_count 0) (replicate table_room 0) (replicate equation_limit 0)
-    (replicate equation_limit 0) (long table_room) (long equation_limit) (long equation_limit) (cut card).tail h
+    let rules =
+    rules_of no_sizes (replicate (place_count * parameter_count) 0) (replicate (place_count * table_room) 0) in
+    lines-printed standard_context context-ranged (replicate equation_limit 0) (long equation_limit) (cut card).tail
+    rules
+    (replicate (place_count * equation_limit) 0)
+    (record {
+      sizes = long place_count;
+      parameters = long (place_count * parameter_count);
+      table = long (place_count * table_room);
+      state = long (place_count * equation_limit);
+    })
+    h
 
 pub one-output : (card out out' : List ℕ) → Shows card out → Shows card out' → out ≡ out'
 one-output card out out' h h' = sym (shown-printed card h) ∙ shown-printed card h'
@@ -171,9 +161,29 @@ one-output card out out' h h' = sym (shown-printed card h) ∙ shown-printed car
 -- Every card shows what is printed for it.
 pub shown : (card : List ℕ) → Shows card (printed card)
 shown card =
-    let h = lines-show standard_context (cut card).tail (cut card).whole in
+    let h = lines-show velocity_count (cut card).tail (cut card).whole in
     subst (λ (out : List ℕ). Shows card out) (sym (shown-printed card h.1)) h.1
 
 -- The statement of specs/Meant.antt.
 pub meant : (card : List ℕ) → Meant card
 meant card = record { shown = shown card; only = λ out h. sym (shown-printed card h) }
+
+-- ---- a set of one
+
+-- Lines with no number of rules show what they show as those of a set of one.
+lone-set : {velocities : ℕ} {tail : List ℕ} {ls : List (List ℕ)} {out : List ℕ} → NoSet ls
+    → LinesShow velocities tail ls out → RulesShow velocities 1 tail ls out
+lone-set none (alone _ h) = h
+lone-set none (set q h) = let z : ◌≡◌ {A = ℕ} 0 1 = cc in absurd (omega arith)
+
+-- SPEC 17.3: so a card of one rule shows the same with the line `cards=1` before it,
+pub set-shows : (card out : List ℕ) → NoSet (cut card).whole → Shows card out
+    → Shows (bytes "cards=1" ++ (line_end ∷ card)) out
+unfolding cut cards_of has_prefix not_nought wholly number numeral digits_after is_digit
+set-shows card out none h = set refl (lone-set none h)
+
+-- and prints the same.
+pub set-of-one : (card : List ℕ) → NoSet (cut card).whole
+    → printed (bytes "cards=1" ++ (line_end ∷ card)) ≡ printed card
+set-of-one card none =
+    shown-printed (bytes "cards=1" ++ (line_end ∷ card)) (set-shows card (printed card) none (shown card))

@@ -4,26 +4,32 @@ use mathlib.Core.List.{List, ◌++◌}
 use mathlib.Core.Logic.{◌↔◌}
 use mathlib.Core.Option.{Option, some}
 use mathlib.Core.Path.{◌≡◌, refl, sym, ap, subst, subst₂, ◌∙◌}
-use Prim.Native.Nat.{ℕ, ◌*◌, ◌≤◌, ◌<◌}
+use Prim.Native.Nat.{ℕ, suc, ◌*◌, ◌≤◌, ◌<◌}
 use native.Mathlib.Omega.{arith}
 use lib.ListN.{length, take}
+use borrow.Author.Tests.{eqb-true, eq-eqb}
 use Rattle.limits.specs.Limits.{standard_cap, table_room, rule_equations}
+use Rattle.limits.specs.Context.{context_of}
 use Rattle.limits.specs.declared.Context.{Context}
-use Rattle.traces.specs.Trace.{truth, parameter_at}
+use Rattle.traces.specs.Trace.{truth, parameter_at, verdict_for}
 use Rattle.traces.specs.Compare.{op_of}
 use Rattle.traces.specs.declared.Op.TheVariants.{AtMost, Below, Equal, Above, AtLeast}
 use Rattle.traces.proofs.Laws.{op-last, compared}
 use Rattle.formulas.specs.Formula.{Formula}
 use Rattle.formulas.specs.Tree.{Tree, formula_of}
+use Rattle.formulas.specs.Names.{names_earlier}
+use Rattle.formulas.proofs.Formulas.{formula-raw}
 use Rattle.formulas.proofs.Laws.{means}
+use Rattle.formulas.proofs.Sets.{set-means}
 use Rattle.formulas.proofs.Only.{only-verdict}
-use Rattle.grammar.proofs.Theorems.{rule-names}
-use Rattle.rules.specs.Reading.{HasOutcome}
+use Rattle.grammar.proofs.Theorems.{rule-names, rule-signals, rule-velocity}
+use Rattle.rules.specs.Reading.{Outcome, HasOutcome}
 use Rattle.rules.specs.Reading.Outcome.{rule, refused}
 use Rattle.rules.specs.Reading.HasOutcome.{is-rule}
 use Rattle.rules.specs.Computed.{rule_of}
 use Rattle.rules.specs.Contract.{answer_of}
-use Rattle.rules.proofs.Theorems.{has-outcome, computed, one-outcome, numbered, accepted, has-formula}
+use Rattle.rules.proofs.Theorems.{has-outcome, computed, one-outcome, numbered, accepted, has-formula, has-place}
+use Rattle.rules.proofs.Theorems.{names-earlier, names-before}
 use Rattle.rules.specs.Computed.{comparison}
 use Rattle.rules.specs.Same.{Within, SameValues, SameRule}
 use Rattle.rules.specs.Same.HasSide.{within}
@@ -37,7 +43,7 @@ use Rattle.tables.specs.declared.Checked.TheVariants.{Passed, Refused as Failed}
 use Rattle.tables.proofs.Checks.{failed-passed}
 use Rattle.flows.specs.Flow.{value_of}
 use Rattle.flows.proofs.Lists.{runs-as-lustre}
-use Rattle.agreement.specs.Agreement.{Closing, ExactMemories, FewMemories, Observes}
+use Rattle.agreement.specs.Agreement.{SameParameters, Closing, ExactMemories, FewMemories, Observes}
 use Rattle.agreement.proofs.Memories.{few-memories}
 use Rattle.observers.specs.Demand.{Compiles}
 use Rattle.observers.specs.Demand.Compiles.{not-read, no_room, observed}
@@ -51,10 +57,12 @@ use Rattle.packing.specs.declared.Packed.TheVariants.{Equations as PackedTo, Ref
 use Rattle.packing.proofs.One.{one_answer as one-packing}
 use Rattle.packing.proofs.Again.{refused-packed, again, behind}
 use Rattle.lustre.proofs.Theorems as lustre
+use Rattle.sets.specs.Runs.{Member, ticks_of, Joins}
+use Rattle.sets.proofs.Theorem.{set_agrees}
 use Rattle.player.specs.Card.{printed}
-use Rattle.player.proofs.Shown.{shown, one-output}
-use Rattle.promises.specs.Promises.{Reading, Whether, Comparing, SameRules}
-use Rattle.promises.specs.Promises.{Promises}
+use Rattle.player.proofs.Shown.{shown, one-output, set-shows}
+use Rattle.promises.specs.Promises.{Reading, Meaning, Whether, Comparing, Compiling, SameRules}
+use Rattle.promises.specs.Promises.{CompiledAt, RoundTrips, Promises}
 
 reading : (context : Context) → Reading context
 reading context =
@@ -65,6 +73,11 @@ reading context =
       numbered = numbered context;
       formula = λ text t h. has-formula context text t (computed context text h);
       names = λ text t a. rule-names a.ws t a.grammar;
+      place = λ text t a. has-place context a;
+      names-earlier = λ text t a. names-earlier context a;
+      names-signal = λ text t a. rule-signals a.ws t a.grammar;
+      names-velocity = λ text t a. rule-velocity a.ws t a.grammar;
+      earlier = λ text t a. names-before context a;
       one_answer = λ text r r' h k.
           h.answer
           ∙ ap answer_of (one-outcome context text h.outcome k.outcome h.has k.has)
@@ -96,7 +109,7 @@ same-rules context =
       transitive = transitive context;
       same-verdict = λ a ps b qs h t u e k f g is is' trace i.
           (same-meaning context a ps b qs h t u e k f g is is' trace 0 i).1;
-      same-answers = λ h c k. same-answers context _ _ _ _ h _ _ _ _ _ c k;
+      same-answers = λ h c k. same-answers context _ _ _ _ h _ _ _ _ _ _ _ c k;
     }
 
 -- A truth value as a number.
@@ -119,6 +132,7 @@ comparing =
       literal = λ cap k flow cell e. whether _ (compared (op_of e.b) (flow e.a) e.c);
       parameter = λ cap k flow cell e. whether _ (compared (op_of e.b) (flow e.a) (parameter_at k e.c));
       velocity = λ cap k flow cell e. whether _ (compared (op_of e.a) k.velocity e.b);
+      verdict = λ cap k flow cell e. whether _ (eqb-true (verdict_for k e.a) 1, eq-eqb (verdict_for k e.a) 1);
     }
 
 -- What compiling gives for a refused text, for a rule and too short a table,
@@ -230,6 +244,24 @@ packed-front {t = t} {after = after} {n} {n'} (packed {n' = m} e l long same p) 
     let number : m ≡ n' = cc in
     subst (λ (k : ℕ). Packs t n (take (4 * k) after ++ rest) k) number (p rest)
 
+-- A rule of a set that was compiled at its place can be stepped with the others: its table observes its formula, and
+-- its text names only verdicts of places before its own.
+joins-compiled : {velocities j : ℕ} {x : Member} → CompiledAt velocities j x → x.n ≤ length x.old
+    → SameParameters x.parameters (ticks_of standard_cap velocities x) → Joins standard_cap velocities j x
+joins-compiled {velocities} {j} {x} c room same =
+    let context = context_of velocities (suc j) in
+    let is = (accepted context c.text c.tree).0 (computed context c.text c.is-rule) in
+    let raw-tree = formula-raw c.tree x.formula c.is-formula in
+    record {
+      observes = subst (λ (t : List ℕ). Observes standard_cap velocities t x.n x.formula) (sym c.is-table)
+          (observed-rule c.compiles refl c.is-rule c.is-formula c.rest);
+      earlier = λ h e.
+          let before = names-before context is h (ap (λ (t : Tree). names_earlier t h) raw-tree ∙ e) in
+          (before.0, omega (arith, before.1));
+      cells = room;
+      same = same;
+    }
+
 pub kept : Promises
 kept =
     record {
@@ -246,6 +278,11 @@ kept =
         exact-memories = λ c h rest. remembering c refl h rest;
         few-memories = λ c h rest. remembering-few c h rest;
         observes = λ c h is rest. observed-rule c refl h is rest;
+      };
+      sets = λ velocities. record {
+        joins = λ j x c. joins-compiled c;
+        agrees = set_agrees standard_cap velocities;
+        means = set-means;
       };
       same-rules = same-rules;
       packing = λ velocities. record {
@@ -267,5 +304,6 @@ kept =
       cards = record {
         some-output = λ card. (printed card, shown card);
         one-output = λ card out out'. one-output card out out';
+        set-of-one = set-shows;
       };
     }

@@ -14,11 +14,16 @@
 --   write_lustre   write_effect    lustre/specs/Write.antt           all of it as one equation
 --   read_lustre    AfterRead      lustre/specs/Read.antt            a text, the answer, the table before and after
 --   towerwatch     Shows          player/specs/Shows.antt           a card and what is printed
-use Rattle.std.specs.Prelude.{true, List, [], ◌∷◌, ◌++◌, map, ◌↔◌, ◌⊎◌, ◌≡◌, ℕ, ◌+◌, ◌*◌, ◌≤◌, ◌<◌, length, take, drop}
+--
+-- Of rules that are stepped together, each given the earlier ones' answers, `SetAgrees` (sets/specs/Runs.antt) speaks.
+use Rattle.std.specs.Prelude.{true, List, [], ◌∷◌, ◌++◌, map, ◌↔◌, ◌⊎◌, ◌≡◌, ℕ, suc, ◌+◌, ◌*◌, ◌≤◌, ◌<◌, length, take}
+use Rattle.std.specs.Prelude.{drop}
 use Rattle.std.proofs.Math.Option.{some}
-use Rattle.limits.specs.Limits.{standard_cap, literal_count, parameter_count, table_room, rule_equations}
+use Rattle.limits.specs.Limits.{standard_cap, literal_count, signal_count, parameter_count, place_count, table_room}
+use Rattle.limits.specs.Limits.{rule_equations}
+use Rattle.limits.specs.Context.{context_of}
 use Rattle.limits.specs.declared.Context.{Context}
-use Rattle.traces.specs.Trace.{Trace, parameter_at}
+use Rattle.traces.specs.Trace.{Trace, parameter_at, verdict_for}
 use Rattle.traces.specs.Parameters.{run_with}
 use Rattle.traces.specs.Compare.{op_of, compares, Compared}
 use Rattle.traces.specs.declared.Op.TheVariants.{AtMost, Below, Equal, Above, AtLeast}
@@ -26,9 +31,10 @@ use Rattle.traces.specs.declared.Tick.{Tick}
 use Rattle.formulas.specs.Formula.{Formula, Prop}
 use Rattle.formulas.specs.Tree.{Tree, formula_of}
 use Rattle.formulas.specs.Meaning.{at, meaning, verdict}
-use Rattle.formulas.specs.Names.{names_parameter}
+use Rattle.formulas.specs.Names.{names_parameter, names_signal, names_velocity, names_earlier}
 use Rattle.formulas.specs.Laws.{Means}
-use Rattle.words.specs.Word.{PARAMETER}
+use Rattle.formulas.specs.Sets.{Ruled, SetMeans}
+use Rattle.words.specs.Word.{VEL, PARAMETER, EARLIER, SIGNAL}
 use Rattle.grammar.specs.Fragment.{has_word}
 use Rattle.rules.specs.Reading.{Admitted, Outcome, HasOutcome}
 use Rattle.rules.specs.Reading.Outcome.{rule, refused}
@@ -42,7 +48,7 @@ use Rattle.tables.specs.declared.Checked.TheVariants.{Passed, Refused as Failed}
 use Rattle.flows.specs.Flow.{value_of}
 use Rattle.flows.specs.Lustre.{RunsAsLustre}
 use Rattle.flows.specs.Run.{Call, call_with, from_fresh, answered}
-use Rattle.agreement.specs.Agreement.{Closing, ExactMemories, FewMemories, Observes}
+use Rattle.agreement.specs.Agreement.{SameParameters, Closing, ExactMemories, FewMemories, Observes}
 use Rattle.observers.specs.Demand.{Compiles}
 use Rattle.observers.specs.declared.Compiled.{Compiled}
 use Rattle.observers.specs.declared.Compiled.TheVariants.{Equations, Refused}
@@ -54,7 +60,10 @@ use Rattle.lustre.specs.Read.{AfterRead}
 use Rattle.lustre.specs.declared.Written.TheVariants.{Length}
 use Rattle.lustre.specs.declared.Loaded.{Loaded}
 use Rattle.lustre.specs.declared.Loaded.TheVariants.{Equations as Loads}
-use Rattle.player.specs.Shows.{Shows}
+use Rattle.sets.specs.Runs.{Member, ticks_of, Joins, SetAgrees}
+use Rattle.cards.specs.Lines.{cut}
+use Rattle.lists.specs.Text.{line_end, bytes}
+use Rattle.player.specs.Shows.{NoSet, Shows}
 
 -- SPEC 12.2 (demand 2), its part on texts: which of them are rules, and that each of these has one tree. It holds in
 -- every context.
@@ -64,13 +73,24 @@ pub record Reading (context : Context) : Type 0 where
   -- SPEC 12.1 (demand 1): every text is a rule or has a refusal, and one of them.
   pub some-outcome : (text : List ℕ) → (x : Outcome) × HasOutcome context text x
   pub one-outcome : (text : List ℕ) (x y : Outcome) → HasOutcome context text x → HasOutcome context text y → x ≡ y
-  -- A refusal is 1 to 8, so that 0 can stand for none.
-  pub numbered : (text : List ℕ) (k : ℕ) → HasOutcome context text (refused k) → (1 ≤ k) × (k ≤ 8)
+  -- A refusal is 1 to 8, or 20, so that 0 can stand for none.
+  pub numbered : (text : List ℕ) (k : ℕ) → HasOutcome context text (refused k) → ((1 ≤ k) × (k ≤ 8)) ⊎ (k ≡ 20)
   -- What is read has a formula, and so a meaning.
   pub formula : (text : List ℕ) (t : Tree) → HasOutcome context text (rule t) → (f : Formula) × (formula_of t ≡ some f)
   -- SPEC 3.11: its tree names the parameters whose words (SPEC 2.6) stand in the text, and no others.
   pub names : (text : List ℕ) (t : Tree) (a : Admitted context text t) (j : ℕ) → j < parameter_count
       → names_parameter t j ≡ has_word (PARAMETER + j) a.ws
+  -- SPEC 17.1: it has a place of a set. SPEC 3.12: it names the signals and the earlier rules whose words (SPEC 2.6,
+  -- SPEC 2.12) stand in the text, the velocity where `v` does; and all of these rules are before its place.
+  pub place : (text : List ℕ) (t : Tree) → Admitted context text t
+      → (1 ≤ context.place) × (context.place ≤ place_count)
+  pub names-earlier : (text : List ℕ) (t : Tree) (a : Admitted context text t) (j : ℕ) → j ≤ place_count
+      → names_earlier t j ≡ has_word (EARLIER + j) a.ws
+  pub names-signal : (text : List ℕ) (t : Tree) (a : Admitted context text t) (j : ℕ) → j < signal_count
+      → names_signal t j ≡ has_word (SIGNAL + j) a.ws
+  pub names-velocity : (text : List ℕ) (t : Tree) (a : Admitted context text t) → names_velocity t ≡ has_word VEL a.ws
+  pub earlier : (text : List ℕ) (t : Tree) → Admitted context text t → (j : ℕ) → names_earlier t j ≡ true
+      → (1 ≤ j) × (j < context.place)
   -- The contract of reading settles the answer (SPEC 12.4).
   pub one_answer : (text : List ℕ) (r r' : Read) → Told context text r → Told context text r' → r ≡ r'
 
@@ -105,6 +125,9 @@ pub record Comparing : Type 0 where
   -- One of kind 12 says whether the tick's velocity compares so with the literal.
   pub velocity : (cap : ℕ) (k : Tick) (flow : ℕ → ℕ) (cell : ℕ) (e : Equation)
       → Whether (Compared (op_of e.a) k.velocity e.b) (value_of cap k flow cell (kind_of 12) e)
+  -- And one of kind 13 whether the tick's number for its place is 1.
+  pub verdict : (cap : ℕ) (k : Tick) (flow : ℕ → ℕ) (cell : ℕ) (e : Equation)
+      → Whether (verdict_for k e.a ≡ 1) (value_of cap k flow cell (kind_of 13) e)
 
 -- SPEC 12.2 (demand 2), its part on runs of a table: SPEC 6.4, with counts up to the cap (SPEC 5.2).
 abbrev pub Running : ℕ → Type 0
@@ -134,15 +157,37 @@ pub record Compiling (context : Context) : Type 0 where
       → Compiles context text before (Equations n) after → HasOutcome context text (rule t) → formula_of t ≡ some f
       → (rest : List ℕ) → Observes standard_cap context.velocities (take (4 * n) after ++ rest) n f
 
+-- SPEC 17.5: a rule of a set, with j rules before it: its text was compiled at its place, and the n equations at the
+-- front of that table are run, whatever stands after them.
+pub record CompiledAt (velocities j : ℕ) (x : Member) : Type 0 where
+  pub text : List ℕ
+  pub before : List ℕ
+  pub after : List ℕ
+  pub rest : List ℕ
+  pub tree : Tree
+  pub compiles : Compiles (context_of velocities (suc j)) text before (Equations x.n) after
+  pub is-rule : HasOutcome (context_of velocities (suc j)) text (rule tree)
+  pub is-formula : formula_of tree ≡ some x.formula
+  pub is-table : x.table ≡ take (4 * x.n) after ++ rest
+
+-- Such a rule can be stepped with the others, from the fresh state over any cells, where its ticks have its parameters;
+-- and then each rule answers the set's verdicts, over every list of calls.
+pub record Sets (velocities : ℕ) : Type 0 where
+  pub joins : (j : ℕ) (x : Member) → CompiledAt velocities j x → x.n ≤ length x.old
+      → SameParameters x.parameters (ticks_of standard_cap velocities x) → Joins standard_cap velocities j x
+  pub agrees : SetAgrees standard_cap velocities
+  -- SPEC 17.2: what the set's verdicts are, for any trace and any rules, up to eight.
+  pub means : (shared : Trace) (rs : List Ruled) → length rs ≤ place_count → SetMeans shared rs
+
 -- SPEC 8.3: comparing two texts, each with its parameters.
 pub record SameRules (context : Context) : Type 0 where
   -- SPEC 12.1 (demand 1): any two have an answer, and one (SPEC 12.4).
   pub some-answer : (a ps b qs : List ℕ) → (r : Same) × SameAnswer context a ps b qs r
   pub one_answer : (a ps b qs : List ℕ) (r r' : Same) → SameAnswer context a ps b qs r → SameAnswer context a ps b qs r'
       → r ≡ r'
-  -- A refusal is 1 to 8, or 13, so that 0 can stand for none.
+  -- A refusal is 1 to 8, 20 or 13, so that 0 can stand for none.
   pub numbered : (a ps b qs : List ℕ) (k : ℕ) → SameAnswer context a ps b qs (NotCompared k)
-      → ((1 ≤ k) × (k ≤ 8)) ⊎ (k ≡ 13)
+      → (((1 ≤ k) × (k ≤ 8)) ⊎ (k ≡ 20)) ⊎ (k ≡ 13)
   -- It is yes exactly if both are rules with one tree, the parameters are admitted, and those that the tree names have
   -- the same values.
   pub exactly : (a ps b qs : List ℕ)
@@ -158,14 +203,16 @@ pub record SameRules (context : Context) : Type 0 where
   pub same-verdict : (a ps b qs : List ℕ) → SameRule context a ps b qs → (t u : Tree) → HasOutcome context a (rule t)
       → HasOutcome context b (rule u) → (f g : Formula) → formula_of t ≡ some f → formula_of u ≡ some g
       → (trace : Trace) (e : ℕ) → verdict (run_with ps trace) f e ≡ verdict (run_with qs trace) g e
-  -- Two tables of as many equations, compiled of the one and of the other: over every list of calls from the fresh
-  -- state, refused ones (by 12 or 19) included, the steps answer the same, each side with its own parameters. That
-  -- `compile_rule` leaves the same equations of both is `same_tables` (observers, proofs/SameRule.antt).
-  pub same-answers : {a ps b qs before before' t u : List ℕ} {n : ℕ} → SameRule context a ps b qs
-      → Compiles context a before (Equations n) t → Compiles context b before' (Equations n) u
-      → (rest rest' old old' : List ℕ) → n ≤ length old → n ≤ length old' → (calls : List Call)
+  -- Two tables of as many equations, compiled of the one and of the other, at whatever places: over every list of calls
+  -- from the fresh state, refused ones (by 12 or 19) included, the steps answer the same, each side with its own
+  -- parameters. That `compile_rule` leaves the same equations of both is `same_tables` (observers,
+  -- proofs/SameRule.antt).
+  pub same-answers : {a ps b qs before before' t u : List ℕ} {n p q : ℕ} → SameRule context a ps b qs
       → let velocities = context.velocities in
-      answered (from_fresh standard_cap velocities (take (4 * n) t ++ rest) n old (map (call_with ps) calls))
+      Compiles (context_of velocities p) a before (Equations n) t
+      → Compiles (context_of velocities q) b before' (Equations n) u
+      → (rest rest' old old' : List ℕ) → n ≤ length old → n ≤ length old' → (calls : List Call)
+      → answered (from_fresh standard_cap velocities (take (4 * n) t ++ rest) n old (map (call_with ps) calls))
       ≡ answered (from_fresh standard_cap velocities (take (4 * n) u ++ rest') n old' (map (call_with qs) calls))
 
 -- SPEC 16.1 (packing). A table with a refusal of 10 or 11 gets that, one that passes with too short a second table 9
@@ -213,6 +260,9 @@ pub record RoundTrips (velocities : ℕ) : Type 0 where
 pub record Cards : Type 0 where
   pub some-output : (card : List ℕ) → (out : List ℕ) × Shows card out
   pub one-output : (card out out' : List ℕ) → Shows card out → Shows card out' → out ≡ out'
+  -- SPEC 17.3: a card of one rule, or one whose first line fails, shows the same with the line `cards=1` before it.
+  pub set-of-one : (card out : List ℕ) → NoSet (cut card).whole → Shows card out
+      → Shows (bytes "cards=1" ++ (line_end ∷ card)) out
 
 -- All of it. SPEC 12.1 (demand 1): that each call gets its result or its first refusal, and with a refusal keeps what
 -- it was lent, is in the relations named above; that they settle the answer, in the parts here that say that it is one.
@@ -224,6 +274,7 @@ pub record Promises : Type 1 where
   pub comparing : Comparing
   pub running : (velocities : ℕ) → Running velocities
   pub compiling : (context : Context) → Compiling context
+  pub sets : (velocities : ℕ) → Sets velocities
   pub same-rules : (context : Context) → SameRules context
   pub packing : (velocities : ℕ) → Packing velocities
   pub round-trips : (velocities : ℕ) → velocities ≤ literal_count → RoundTrips velocities

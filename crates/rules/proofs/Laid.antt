@@ -7,10 +7,10 @@ use native.Mathlib.Omega.{arith}
 use lib.ListN.{length, take, drop}
 use lib.Seq.{sets-eq, take_at}
 use Rattle.limits.specs.Limits.{arena_limit}
-use Rattle.limits.specs.Context.{standard_context}
+use Rattle.limits.specs.Context.{context_at}
 use Rattle.limits.specs.declared.Context.{Context}
 use Rattle.words.specs.Contract.{Ranged}
-use Rattle.words.proofs.Bounds.{standard-ranged}
+use Rattle.words.proofs.Bounds.{context-ranged}
 use Rattle.formulas.specs.Tree.{Tree, nodes}
 use Rattle.formulas.specs.Arena.{flat}
 use Rattle.rules.specs.Reading.{Outcome}
@@ -32,20 +32,20 @@ laid-refused n e =
       small = λ t f. absurd (refused-rule (sym e ∙ f));
     }
 
--- In the context of the specification a tree can be read, and what is read there is read in that context.
-module _ {context : Context} (e : context ≡ standard_context) where
+-- In the context of the specification for a place a tree can be read, and what is read there is read in that context.
+module _ {context : Context} (place : ℕ) (e : context ≡ context_at place) where
   pub readable : {arena : List ℕ} → arena_limit ≤ length arena → Readable context arena
-  readable h = record { ranged = subst Ranged (sym e) standard-ranged; room = h }
+  readable h = record { ranged = subst Ranged (sym e) (context-ranged place); room = h }
 
-  pub standard-laid : (text : List ℕ) {before : List ℕ} {r : Records} {after : List ℕ}
-      → Laid (rule_of context text) before r after → Laid (rule_of standard_context text) before r after
-  standard-laid text {before} {r} {after} h =
+  pub laid-at : (text : List ℕ) {before : List ℕ} {r : Records} {after : List ℕ}
+      → Laid (rule_of context text) before r after → Laid (rule_of (context_at place) text) before r after
+  laid-at text {before} {r} {after} h =
       subst (λ (x : Context). Laid (rule_of x text) before r after) e h
 
-  pub standard-side : (ps text : List ℕ) {before : List ℕ} {r : Records} {after : List ℕ}
+  pub side-at : (ps text : List ℕ) {before : List ℕ} {r : Records} {after : List ℕ}
       → Laid (side_of ps (rule_of context text)) before r after
-      → Laid (side_of ps (rule_of standard_context text)) before r after
-  standard-side ps text {before} {r} {after} h =
+      → Laid (side_of ps (rule_of (context_at place) text)) before r after
+  side-at ps text {before} {r} {after} h =
       subst (λ (x : Context). Laid (side_of ps (rule_of x text)) before r after) e h
 
 -- An answer with records is not one with a refusal.

@@ -8,4 +8,5 @@ pub mod Sides
 mod Values
 mod Decided
 mod Passes
+mod Places
 mod Outcomes

@@ -16,7 +16,7 @@ use Rattle.words.specs.Split.Out.{made}
 use Rattle.words.specs.Contract.{split_answer, Splits}
 use Rattle.words.specs.declared.Split.{Split}
 use Rattle.words.specs.declared.Split.TheVariants.{Words, Refused as No-words}
-use Rattle.formulas.specs.Tree.{Tree}
+use Rattle.formulas.specs.Tree.{Tree, leads}
 use Rattle.formulas.specs.Arena.{flat}
 use Rattle.grammar.specs.Fragment.{beyond}
 use Rattle.grammar.specs.Parse.{Result, read, tree_of, ended}
@@ -26,6 +26,7 @@ use Rattle.grammar.proofs.Theorems.{tree-rule, rule-size}
 use Rattle.facts.specs.declared.Facts.{Facts}
 use Rattle.parser.proofs.Stored.{Took}
 use Rattle.rules.specs.Limits.{beyond_limits}
+use Rattle.rules.specs.Place.{misplaced}
 use Rattle.rules.specs.Computed.{rule_of, of_words}
 use Rattle.rules.specs.Reading.Outcome.{refused, rule}
 use Rattle.rules.specs.Laid.{Laid, records_of, split_refusal}
@@ -53,33 +54,37 @@ module _ {ws before : List ℕ} {next top : ℕ} {facts : Facts} {after : List �
   whole-tree : tree_of ws ≡ some h.part.tree
   whole-tree = tree_is ws h.is ∙ ap (λ (b : Bool). cond b (some h.part.tree) none) (eq-eqb _ _ whole)
 
-  pub beyond-words : beyond ws ≡ true → of_words (made ws) ≡ refused 7
-  beyond-words f = Decided.beyond-words ws in-limits whole-tree f
+  leads-of : {l : Bool} → facts.leads ≡ l → leads h.part.tree ≡ l
+  leads-of g = sym (ap (λ (x : Facts). x.leads) h.part.known) ∙ g
 
-  lead-words : {l : Bool} → beyond ws ≡ false → facts.leads ≡ l →
-      of_words (made ws) ≡ cond l (rule h.part.tree) (refused 8)
-  lead-words f g =
-      Decided.lead-words ws in-limits whole-tree f (sym (ap (λ (x : Facts). x.leads) h.part.known) ∙ g)
+  module _ (place : ℕ) where
+    pub beyond-words : beyond ws ≡ true → of_words place (made ws) ≡ refused 7
+    beyond-words f = Decided.beyond-words place ws in-limits whole-tree f
 
-  pub no-lead-words : beyond ws ≡ false → facts.leads ≡ false → of_words (made ws) ≡ refused 8
-  no-lead-words f g = lead-words f g
+    pub no-lead-words : beyond ws ≡ false → facts.leads ≡ false → of_words place (made ws) ≡ refused 8
+    no-lead-words f g = Decided.lead-words place ws in-limits whole-tree f (leads-of g)
 
-  pub laid-rule : beyond ws ≡ false → facts.leads ≡ true →
-      Laid (of_words (made ws)) before (Tree-records top facts.nodes) after
-  laid-rule f g =
-      let t = h.part.tree in
-      let stored = h.part.stored in
-      let is-rule : of_words (made ws) ≡ rule t = lead-words f g in
-      let size = rule-size ws t (tree-rule ws t whole-tree) in
-      record {
-        result =
-            ap₂ Tree-records (stored.end ∙ zero-add _) (ap (λ (x : Facts). x.nodes) h.part.known)
-            ∙ ap records_of (sym is-rule);
-        filled = λ u q. let same : t ≡ u = cc in stored.filled ∙ ap (λ (v : Tree). sets before 0 (flat v)) same;
-        small = λ u q.
-            let same : t ≡ u = cc in
-            subst (λ (v : Tree). length (flat v) ≤ arena_limit) same (omega arith);
-      }
+    pub misplaced-words : beyond ws ≡ false → facts.leads ≡ true → misplaced place ws ≡ true
+        → of_words place (made ws) ≡ refused 20
+    misplaced-words f g p = Decided.place-words place ws in-limits whole-tree f (leads-of g) p
+
+    pub laid-rule : beyond ws ≡ false → facts.leads ≡ true → misplaced place ws ≡ false →
+        Laid (of_words place (made ws)) before (Tree-records top facts.nodes) after
+    laid-rule f g p =
+        let t = h.part.tree in
+        let stored = h.part.stored in
+        let is-rule : of_words place (made ws) ≡ rule t =
+        Decided.place-words place ws in-limits whole-tree f (leads-of g) p in
+        let size = rule-size ws t (tree-rule ws t whole-tree) in
+        record {
+          result =
+              ap₂ Tree-records (stored.end ∙ zero-add _) (ap (λ (x : Facts). x.nodes) h.part.known)
+              ∙ ap records_of (sym is-rule);
+          filled = λ u q. let same : t ≡ u = cc in stored.filled ∙ ap (λ (v : Tree). sets before 0 (flat v)) same;
+          small = λ u q.
+              let same : t ≡ u = cc in
+              subst (λ (v : Tree). length (flat v) ≤ arena_limit) same (omega arith);
+        }
 
 -- ---- the splitter's answer
 
@@ -111,8 +116,9 @@ module _ {context : Context} {text before : List ℕ} {r : Split} {after : List 
   unfolding rule_of
   refused-of {m = m} q e = go (split_of context text) refl
     where
-      go : (x : Out) → split_of context text ≡ x → of_words (split_of context text) ≡ refused m
-      go (Out.refused n) p = ap of_words p ∙ ap refused (sym (e ∙ ap split_refusal (h.result ∙ ap split_answer p)))
+      go : (x : Out) → split_of context text ≡ x → of_words context.place (split_of context text) ≡ refused m
+      go (Out.refused n) p =
+          ap (of_words context.place) p ∙ ap refused (sym (e ∙ ap split_refusal (h.result ∙ ap split_answer p)))
       go (made ws) p = absurd (no_words (sym q ∙ h.result ∙ ap split_answer p))
 
 module _ {context : Context} {text before : List ℕ} {n : ℕ} {after : List ℕ} (h : Made context text before n after)
@@ -126,6 +132,7 @@ module _ {context : Context} {text before : List ℕ} {n : ℕ} {after : List �
       ap (take n) (h.filled ∙ sets-eq h.ws before 0 (omega (arith, h.few, h.count)))
       ∙ take_at h.ws (drop (0 + length h.ws) before) n (sym h.count)
 
-  pub of-front : of_words (made (take n after)) ≡ rule_of context text
+  pub of-front : of_words context.place (made (take n after)) ≡ rule_of context text
   unfolding rule_of
-  of-front = ap (λ (x : List ℕ). of_words (made x)) front ∙ ap of_words (sym h.is)
+  of-front =
+      ap (λ (x : List ℕ). of_words context.place (made x)) front ∙ ap (of_words context.place) (sym h.is)

@@ -5,7 +5,7 @@ use mathlib.Core.Logic.{◌⊎◌, inl, inr}
 use mathlib.Core.Path.{◌≡◌, refl, sym, ap, ◌∙◌, subst}
 use mathlib.Core.List.{List}
 use mathlib.Core.Option.{some}
-use Prim.Native.Nat.{ℕ, ◌≤◌}
+use Prim.Native.Nat.{ℕ}
 use native.Mathlib.Omega.{arith}
 use Rattle.limits.specs.declared.Context.{Context}
 use Rattle.traces.specs.Trace.{Trace}
@@ -25,7 +25,7 @@ use Rattle.rules.specs.Same.SameAnswer.{first-refused, second-refused, one-rule,
 use Rattle.rules.specs.declared.Same.{Same}
 use Rattle.rules.specs.declared.Same.TheVariants.{Yes, No, Refused}
 use Rattle.rules.proofs.Decided.{refused-rule}
-use Rattle.rules.proofs.Theorems.{one-outcome, numbered}
+use Rattle.rules.proofs.Theorems.{one-outcome, ReadRefusal, numbered}
 use Rattle.rules.proofs.Sides.{side-rule}
 use Rattle.rules.proofs.Sameness.{computed-answer}
 
@@ -70,9 +70,9 @@ module _ {context : Context} where
 
 -- ---- refusals
 
--- A refusal is 1 to 8, or 13, so that 0 can stand for none.
+-- A refusal is one of reading, or 13, so that 0 can stand for none.
 abbrev Numbered : ℕ → Type 0
-Numbered k = ((1 ≤ k) × (k ≤ 8)) ⊎ (k ≡ 13)
+Numbered k = ReadRefusal k ⊎ (k ≡ 13)
 
 module _ (context : Context) where
   side-numbered : {a ps : List ℕ} {x : Outcome} {k : ℕ} → HasSide context a ps x → x ≡ refused k → Numbered k
@@ -138,8 +138,8 @@ module _ (context : Context) where
         let named = named-values f p trace in
         let own : Trace = run_with ps trace in
         let other : Trace = run_with qs trace in (
-          meaning-alike own other (λ k. refl) (λ k. refl) f named i j
+          meaning-alike own other (λ k. refl) (λ k. refl) (λ k. refl) f named i j
               ∙ ap (λ (x : Formula). meaning other x i j) same,
-          verdict-alike own other (λ k. refl) (λ k. refl) (λ k. refl) f named j
+          verdict-alike own other (λ k. refl) (λ k. refl) (λ k. refl) (λ k. refl) f named j
               ∙ ap (λ (x : Formula). verdict other x j) same,
         )

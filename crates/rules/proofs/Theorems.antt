@@ -4,58 +4,73 @@
 use mathlib.Core.Bool.{Bool, true, false, cond}
 use mathlib.Core.Path.{◌≡◌, refl, sym, ap, ◌∙◌, subst}
 use mathlib.Core.List.{List}
-use mathlib.Core.Logic.{◌↔◌}
+use mathlib.Core.Logic.{◌↔◌, ◌⊎◌, inl, inr}
 use mathlib.Core.Option.{Option, none, some}
-use Prim.Native.Nat.{ℕ, ◌≤◌}
+use Prim.Native.Nat.{ℕ, ◌+◌, ◌≤◌, ◌<◌}
 use native.Mathlib.Omega.{arith}
-use Rattle.limits.specs.Limits.{literal_count}
+use Rattle.limits.specs.Limits.{literal_count, place_count}
 use Rattle.limits.specs.declared.Context.{Context}
 use Rattle.words.specs.Split.{Out, split_of}
 use Rattle.words.specs.Split.Out.{made}
 use Rattle.words.specs.Contract.{Ranged}
+use Rattle.words.specs.Word.{EARLIER}
 use Rattle.words.proofs.Bounds.{refusal-numbered, word_bound, velocity-bound}
 use Rattle.formulas.specs.Formula.{Formula}
 use Rattle.formulas.specs.Tree.{Tree, leads, formula_of}
 use Rattle.formulas.specs.Bounds.{bounded}
+use Rattle.formulas.specs.Names.{names_earlier}
 use Rattle.grammar.specs.Grammar.{Rule}
-use Rattle.grammar.specs.Fragment.{beyond}
+use Rattle.grammar.specs.Fragment.{has_word, beyond}
 use Rattle.grammar.specs.Parse.{tree_of}
-use Rattle.grammar.proofs.Theorems.{tree-rule, rule-tree, no-tree, rule-formula, rule-numbers}
+use Rattle.grammar.proofs.Theorems.{tree-rule, rule-tree, no-tree, rule-formula, rule-numbers, rule-earlier}
+use Rattle.grammar.proofs.Theorems.{rule-places}
 use Rattle.rules.specs.Limits.{beyond_limits}
+use Rattle.rules.specs.Place.{misplaced}
 use Rattle.rules.specs.Reading.{Admitted, Outcome, HasOutcome}
-use Rattle.rules.specs.Computed.{rule_of, of_words, of_tree}
+use Rattle.rules.specs.Computed.{rule_of, at_place, of_words, of_tree}
 use Rattle.rules.specs.Reading.Outcome.{refused, rule}
-use Rattle.rules.specs.Reading.HasOutcome.{no_words, over-limits, no-grammar, outside, no_lead, is-rule}
+use Rattle.rules.specs.Reading.HasOutcome.{no_words, over-limits, no-grammar, outside, no_lead, not_earlier}
+use Rattle.rules.specs.Reading.HasOutcome.{is-rule}
 use Rattle.rules.specs.Contract.{Told, answer_of}
 use Rattle.rules.specs.declared.Read.{Read}
 use Rattle.rules.proofs.Decided.{refused-rule, limits-words, tree-words, beyond-words, lead-words}
+use Rattle.rules.proofs.Decided.{place-words}
+use Rattle.rules.proofs.Places.{place_of, before_of}
 
 -- ---- every text has the outcome that is computed
 
 module _ {context : Context} {text : List ℕ} where
+  of-place : {ws : List ℕ} {t : Tree} → split_of context text ≡ made ws → beyond_limits ws ≡ false → Rule ws t
+      → beyond ws ≡ false → leads t ≡ true → (b : Bool) → misplaced context.place ws ≡ b
+      → HasOutcome context text (cond b (refused 20) (rule t))
+  of-place e o r f l true p = not_earlier e o r f l p
+  of-place {ws} e o r f l false p =
+      is-rule (record { ws = ws; words = e; limits = o; grammar = r; fragment = f; lead = l; placed = p })
+
   of-lead : {ws : List ℕ} {t : Tree} → split_of context text ≡ made ws → beyond_limits ws ≡ false → Rule ws t
-      → beyond ws ≡ false → (b : Bool) → leads t ≡ b → HasOutcome context text (cond b (rule t) (refused 8))
-  of-lead {ws} e o r f true l =
-      is-rule (record { ws = ws; words = e; limits = o; grammar = r; fragment = f; lead = l })
+      → beyond ws ≡ false → (b : Bool) → leads t ≡ b
+      → HasOutcome context text (cond b (at_place context.place ws t) (refused 8))
+  of-lead {ws} e o r f true l = of-place e o r f l (misplaced context.place ws) refl
   of-lead e o r f false l = no_lead e o r f l
 
   of-fragment : {ws : List ℕ} {t : Tree} → split_of context text ≡ made ws → beyond_limits ws ≡ false → Rule ws t
-      → (b : Bool) → beyond ws ≡ b → HasOutcome context text (cond b (refused 7) (cond (leads t) (rule t) (refused 8)))
+      → (b : Bool) → beyond ws ≡ b
+      → HasOutcome context text (cond b (refused 7) (cond (leads t) (at_place context.place ws t) (refused 8)))
   of-fragment e o r true f = outside e o r f
   of-fragment {t = t} e o r false f = of-lead e o r f (leads t) refl
 
   of_tree_lem : {ws : List ℕ} → split_of context text ≡ made ws → beyond_limits ws ≡ false → (x : Option Tree)
       → tree_of ws ≡ x
-      → HasOutcome context text (of_tree ws x)
+      → HasOutcome context text (of_tree context.place ws x)
   of_tree_lem {ws} e o none g = no-grammar e o (no-tree ws g)
   of_tree_lem {ws} e o (some t) g = of-fragment e o (tree-rule ws t g) (beyond ws) refl
 
   of-limits : {ws : List ℕ} → split_of context text ≡ made ws → (b : Bool) → beyond_limits ws ≡ b
-      → HasOutcome context text (cond b (refused 5) (of_tree ws (tree_of ws)))
+      → HasOutcome context text (cond b (refused 5) (of_tree context.place ws (tree_of ws)))
   of-limits e true o = over-limits e o
   of-limits {ws} e false o = of_tree_lem e o (tree_of ws) refl
 
-  of_words_lem : (x : Out) → split_of context text ≡ x → HasOutcome context text (of_words x)
+  of_words_lem : (x : Out) → split_of context text ≡ x → HasOutcome context text (of_words context.place x)
   of_words_lem (Out.refused n) e = no_words e
   of_words_lem (made ws) e = of-limits e (beyond_limits ws) refl
 
@@ -73,18 +88,29 @@ none_of ws h = go (tree_of ws) refl
     go none g = g
     go (some t) g = absurd (h t (tree-rule ws t g))
 
+-- Which numbers refusals of reading have.
+abbrev pub ReadRefusal : ℕ → Type 0
+ReadRefusal k = ((1 ≤ k) × (k ≤ 8)) ⊎ (k ≡ 20)
+
 module _ (context : Context) where
   module _ (text : List ℕ) where
     pub computed : {x : Outcome} → HasOutcome context text x → rule_of context text ≡ x
     unfolding rule_of
-    computed (no_words e) = ap of_words e
-    computed (over-limits {ws} e o) = ap of_words e ∙ limits-words ws o
-    computed (no-grammar {ws} e o h) = ap of_words e ∙ tree-words ws o (none_of ws h)
-    computed (outside {ws} {t} e o r f) = ap of_words e ∙ beyond-words ws o (rule-tree ws t r) f
-    computed (no_lead {ws} {t} e o r f l) = ap of_words e ∙ lead-words ws o (rule-tree ws t r) f l
+    computed (no_words e) = ap (of_words context.place) e
+    computed (over-limits {ws} e o) = ap (of_words context.place) e ∙ limits-words context.place ws o
+    computed (no-grammar {ws} e o h) =
+        ap (of_words context.place) e ∙ tree-words context.place ws o (none_of ws h)
+    computed (outside {ws} {t} e o r f) =
+        ap (of_words context.place) e ∙ beyond-words context.place ws o (rule-tree ws t r) f
+    computed (no_lead {ws} {t} e o r f l) =
+        ap (of_words context.place) e ∙ lead-words context.place ws o (rule-tree ws t r) f l
+    computed (not_earlier {ws} {t} e o r f l p) =
+        ap (of_words context.place) e ∙ place-words context.place ws o (rule-tree ws t r) f l p
     computed (is-rule {t} a) =
         let ws = a.ws in
-        ap of_words a.words ∙ lead-words ws a.limits (rule-tree ws t a.grammar) a.fragment a.lead
+        let tree = rule-tree ws t a.grammar in
+        ap (of_words context.place) a.words
+        ∙ place-words context.place ws a.limits tree a.fragment a.lead a.placed
 
   -- A text has one outcome.
   pub one-outcome : (text : List ℕ) (x y : Outcome) → HasOutcome context text x → HasOutcome context text y → x ≡ y
@@ -94,19 +120,20 @@ module _ (context : Context) where
   pub told : (text : List ℕ) (r : Read) → r ≡ answer_of (rule_of context text) → Told context text r
   told text r e = record { outcome = rule_of context text; has = has-outcome context text; answer = e }
 
-  -- A refusal of reading is 1 to 8.
-  numbered-as : (text : List ℕ) (x : Outcome) (k : ℕ) → HasOutcome context text x → x ≡ refused k → (1 ≤ k) × (k ≤ 8)
+  -- A refusal of reading is 1 to 8, or 20.
+  numbered-as : (text : List ℕ) (x : Outcome) (k : ℕ) → HasOutcome context text x → x ≡ refused k → ReadRefusal k
   numbered-as text x k (no_words {n} e) q =
       let same : n ≡ k = cc in
       let low = refusal-numbered context text n e in
-      (omega (arith, low.0), omega (arith, low.1))
-  numbered-as text x k (over-limits e o) q = let same : ◌≡◌ {A = ℕ} 5 k = cc in (omega arith, omega arith)
-  numbered-as text x k (no-grammar e o h) q = let same : ◌≡◌ {A = ℕ} 6 k = cc in (omega arith, omega arith)
-  numbered-as text x k (outside e o r f) q = let same : ◌≡◌ {A = ℕ} 7 k = cc in (omega arith, omega arith)
-  numbered-as text x k (no_lead e o r f l) q = let same : ◌≡◌ {A = ℕ} 8 k = cc in (omega arith, omega arith)
+      inl (omega (arith, low.0), omega (arith, low.1))
+  numbered-as text x k (over-limits e o) q = let same : ◌≡◌ {A = ℕ} 5 k = cc in inl (omega arith, omega arith)
+  numbered-as text x k (no-grammar e o h) q = let same : ◌≡◌ {A = ℕ} 6 k = cc in inl (omega arith, omega arith)
+  numbered-as text x k (outside e o r f) q = let same : ◌≡◌ {A = ℕ} 7 k = cc in inl (omega arith, omega arith)
+  numbered-as text x k (no_lead e o r f l) q = let same : ◌≡◌ {A = ℕ} 8 k = cc in inl (omega arith, omega arith)
+  numbered-as text x k (not_earlier e o r f l p) q = inr (cc)
   numbered-as text x k (is-rule a) q = absurd (refused-rule (sym q))
 
-  pub numbered : (text : List ℕ) (k : ℕ) → HasOutcome context text (refused k) → (1 ≤ k) × (k ≤ 8)
+  pub numbered : (text : List ℕ) (k : ℕ) → HasOutcome context text (refused k) → ReadRefusal k
   numbered text k h = numbered-as text (refused k) k h refl
 
   -- ---- SPEC 12.2, demand 2
@@ -119,6 +146,7 @@ module _ (context : Context) where
   rule-parts text x t (no-grammar e o h) q = absurd (refused-rule q)
   rule-parts text x t (outside e o r f) q = absurd (refused-rule q)
   rule-parts text x t (no_lead e o r f l) q = absurd (refused-rule q)
+  rule-parts text x t (not_earlier e o r f l p) q = absurd (refused-rule q)
   rule-parts text x t (is-rule {t = u} a) q = let same : u ≡ t = cc in subst (Admitted context text) same a
 
   pub accepted : (text : List ℕ) (t : Tree) → (rule_of context text ≡ rule t) ↔ Admitted context text t
@@ -142,3 +170,20 @@ module _ (context : Context) where
       let a = (accepted text t).0 e in
       rule-numbers a.ws t context.velocities a.grammar (word_bound context text a.ws a.words r)
       (velocity-bound context text a.ws a.words r)
+
+  -- ---- SPEC 17.1
+
+  module _ {text : List ℕ} {t : Tree} (a : Admitted context text t) where
+    -- A rule has a place of the set.
+    pub has-place : (1 ≤ context.place) × (context.place ≤ place_count)
+    has-place = place_of context.place a.ws a.placed
+
+    -- It names the verdicts of earlier rules whose words stand in its text (SPEC 3.12),
+    pub names-earlier : (j : ℕ) → j ≤ place_count → names_earlier t j ≡ has_word (EARLIER + j) a.ws
+    names-earlier j known = rule-earlier a.ws t a.grammar j known
+
+    -- and their places are before its own.
+    pub names-before : (j : ℕ) → names_earlier t j ≡ true → (1 ≤ j) × (j < context.place)
+    names-before j e =
+        let known = rule-places a.ws t a.grammar j e in
+        (known.0, before_of context.place a.ws a.placed j known (sym (names-earlier j known.1) ∙ e))

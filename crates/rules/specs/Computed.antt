@@ -14,22 +14,27 @@ use Rattle.formulas.specs.Arena.{record_names, flat}
 use Rattle.grammar.specs.Fragment.{beyond}
 use Rattle.grammar.specs.Parse.{tree_of}
 use Rattle.rules.specs.Limits.{beyond_limits}
+use Rattle.rules.specs.Place.{misplaced}
 use Rattle.rules.specs.Reading.{Outcome}
 use Rattle.rules.specs.Reading.Outcome.{refused, rule}
 use Rattle.rules.specs.declared.Same.{Same}
 use Rattle.rules.specs.declared.Same.TheVariants.{Yes, No, Refused}
 
-abbrev pub of_tree : List ℕ → Option Tree → Outcome
-of_tree ws none = refused 6
-of_tree ws (some t) = cond (beyond ws) (refused 7) (cond (leads t) (rule t) (refused 8))
+-- What the words of a rule are at a place, what they are with a tree or none, and what splitting gives.
+abbrev pub at_place : ℕ → List ℕ → Tree → Outcome
+at_place place ws t = cond (misplaced place ws) (refused 20) (rule t)
 
-abbrev pub of_words : Out → Outcome
-of_words (Out.refused n) = refused n
-of_words (made ws) = cond (beyond_limits ws) (refused 5) (of_tree ws (tree_of ws))
+abbrev pub of_tree : ℕ → List ℕ → Option Tree → Outcome
+of_tree place ws none = refused 6
+of_tree place ws (some t) = cond (beyond ws) (refused 7) (cond (leads t) (at_place place ws t) (refused 8))
+
+abbrev pub of_words : ℕ → Out → Outcome
+of_words place (Out.refused n) = refused n
+of_words place (made ws) = cond (beyond_limits ws) (refused 5) (of_tree place ws (tree_of ws))
 
 -- The outcome of a text.
 unfoldable pub rule_of : Context → List ℕ → Outcome
-rule_of context text = of_words (split_of context text)
+rule_of context text = of_words context.place (split_of context text)
 
 -- The outcome of a text with its parameters.
 abbrev pub side_of : List ℕ → Outcome → Outcome

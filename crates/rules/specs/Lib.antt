@@ -1,5 +1,6 @@
 -- Reading a rule: which texts are admitted and which are refused.
 pub mod Limits
+pub mod Place
 pub mod Reading
 pub mod Contract
 pub mod Same

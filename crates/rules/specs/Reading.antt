@@ -8,6 +8,7 @@ use Rattle.formulas.specs.Tree.{Tree, leads}
 use Rattle.grammar.specs.Grammar.{Rule}
 use Rattle.grammar.specs.Fragment.{beyond}
 use Rattle.rules.specs.Limits.{beyond_limits}
+use Rattle.rules.specs.Place.{misplaced}
 
 -- SPEC 12.2 (demand 2): in a context the text is a rule with that tree. Each field rules out the refusals that it
 -- names.
@@ -22,6 +23,8 @@ pub record Admitted (context : Context) (text : List ℕ) (t : Tree) : Type 0 wh
   -- refusals 7 and 8: of the fragment (SPEC 3.10)
   pub fragment : beyond ws ≡ false
   pub lead : leads t ≡ true
+  -- refusal 20: at its place in the set (SPEC 17.1)
+  pub placed : misplaced context.place ws ≡ false
 
 -- A refusal's number, or the rule's tree.
 pub data Outcome : Type 0 where
@@ -44,5 +47,9 @@ pub data HasOutcome (context : Context) (text : List ℕ) : Outcome → Type 0 w
   -- SPEC 7.8: a `then` has no lead on its left
   no_lead : {ws : List ℕ} {t : Tree} → split_of context text ≡ made ws
       → beyond_limits ws ≡ false → Rule ws t → beyond ws ≡ false → leads t ≡ false → HasOutcome context text (refused 8)
+  -- SPEC 7.20: a set has no such place, or the text has a verdict whose place is not before it
+  not_earlier : {ws : List ℕ} {t : Tree} → split_of context text ≡ made ws
+      → beyond_limits ws ≡ false → Rule ws t → beyond ws ≡ false → leads t ≡ true → misplaced context.place ws ≡ true
+      → HasOutcome context text (refused 20)
   -- else it is a rule
   is-rule : {t : Tree} → Admitted context text t → HasOutcome context text (rule t)

@@ -1,14 +1,16 @@
-// Reading a rule (SPEC 8.1): its words, limits, grammar and fragment. Same rule (SPEC 8.3).
+// Reading a rule (SPEC 8.1): its words, limits, grammar, fragment and place. Same rule (SPEC 8.3).
 #![tactic(auto)]
 
 ghost use Rattle.std.specs.Prelude.{not, ◌&&◌, ◌||◌, ◌≡◌, ◌≤◌, eqb, length};
-ghost use Rattle.limits.specs.Limits.{word_limit, arena_limit};
-ghost use Rattle.limits.specs.Context.{standard_context};
+ghost use Rattle.limits.specs.Limits.{word_limit, place_count, arena_limit};
+ghost use Rattle.limits.specs.Context.{context_at};
 ghost use Rattle.formulas.specs.Arena.{record_names};
+ghost use Rattle.formulas.specs.Bounds.{place_bound};
 ghost use Rattle.grammar.specs.Fragment.{beyond};
 ghost use Rattle.words.specs.Word.{CHOP, EXISTS};
 ghost use Rattle.words.specs.Split.Out.{made};
 ghost use Rattle.rules.specs.Limits.{bracket_limit, opened, deep, counted, beyond_limits};
+ghost use Rattle.rules.specs.Place.{not_before, misplaced};
 ghost use Rattle.rules.specs.Computed.{rule_of, of_words, side_of, value_agrees, values_agree, comparison};
 ghost use Rattle.rules.specs.Same.{SameAnswer};
 ghost use Rattle.rules.specs.Contract.{answer_of, Told};
@@ -128,6 +130,43 @@ fn limits_of(ws: &[u32]) -> Limits
     }
 }
 
+// Whether a set has this place (SPEC 17.1).
+fn place_known(place: u32) -> bool
+    ensures { result ≡ place_bound place }
+{
+    if place == 0 {
+        return false;
+    }
+    place <= words::LAST_PLACE
+}
+
+// Whether a word is the verdict of a rule whose place is not before this one.
+fn not_before(place: u32, w: u32) -> bool
+    ensures { result ≡ not_before place w }
+{
+    if !words::is_earlier(w) {
+        return false;
+    }
+    place <= w - words::EARLIER
+}
+
+// Refusal 20 (SPEC 7.20): a set has no such place, or one of the words is the verdict of a rule that is not before it.
+fn misplaced(place: u32, ws: &[u32]) -> bool
+    ensures { result ≡ misplaced place ws.now }
+{
+    if !place_known(place) {
+        return true;
+    }
+    let mut i: usize = 0;
+    while i < ws.len() {
+        if not_before(place, ws[i]) {
+            return true;
+        }
+        i += 1;
+    }
+    false
+}
+
 // The words' refusal, where there is one.
 fn split_refusal(s: Split) -> u32
     ensures { result ≡ split_refusal s }
@@ -138,10 +177,10 @@ fn split_refusal(s: Split) -> u32
     }
 }
 
-// The tree of a rule's words: refusals 5 to 8, or its records in the arena.
-fn read_words(ws: &[u32], arena: &mut [u32]) -> Records
+// The tree of a rule's words at a place: refusals 5 to 8 and 20, or its records in the arena.
+fn read_words(place: u32, ws: &[u32], arena: &mut [u32]) -> Records
     requires { (length ws.now ≤ word_limit) × (arena_limit ≤ length arena.old) }
-    ensures { Laid (of_words (made ws.now)) arena.old result arena.new }
+    ensures { Laid (of_words place (made ws.now)) arena.old result arena.new }
 {
     let limits = limits_of(ws);
     let over = limits.over;
@@ -162,10 +201,13 @@ fn read_words(ws: &[u32], arena: &mut [u32]) -> Records
     if !leads {
         return Records::Refused(8);
     }
+    if misplaced(place, ws) {
+        return Records::Refused(20);
+    }
     Records::Rule(top, facts.nodes)
 }
 
-// The tree of a rule text, for the operations that go on with it: refusals 1 to 8, or its records in the arena.
+// The tree of a rule text, for the operations that go on with it: refusals 1 to 8 and 20, or its records in the arena.
 pub fn read_tree(context: Context, text: &[u8], arena: &mut [u32]) -> Records
     requires { Readable context arena.old }
     ensures { Laid (rule_of context text.now) arena.old result arena.new }
@@ -175,7 +217,7 @@ pub fn read_tree(context: Context, text: &[u8], arena: &mut [u32]) -> Records
     let Split::Words(n) = split else {
         return Records::Refused(split_refusal(split));
     };
-    read_words(&ws[..n], arena)
+    read_words(context.place, &ws[..n], arena)
 }
 
 // The refusal in an answer that is one, 0 in another.
@@ -188,20 +230,21 @@ pub fn records_refusal(r: Records) -> u32
     }
 }
 
-// Read a rule (SPEC 8.1): its node count, or the first of refusals 1 to 8 that the text has.
-pub fn read_rule(text: &[u8]) -> Read
-    ensures value { result ≡ answer_of (rule_of standard_context text.now) }
-    ensures told { Told standard_context text.now result }
+// Read a rule (SPEC 8.1) at a place: its node count, or the first of refusals 1 to 8 and 20 that the text has there.
+pub fn read_rule(text: &[u8], place: u32) -> Read
+    ensures value { result ≡ answer_of (rule_of (context_at place) text.now) }
+    ensures told { Told (context_at place) text.now result }
 {
     let mut arena = [0u32; limits::ARENA];
-    let records = read_tree(limits::standard(), text, &mut arena);
+    let records = read_tree(limits::context_at(place), text, &mut arena);
     let Records::Rule(_, nodes) = records else {
         return Read::Refused(records_refusal(records));
     };
     Read::Rule(nodes)
 }
 
-// One side of a comparison: refusals 1 to 8 of the text, then 13 of its parameters, or the tree's records in the arena.
+// One side of a comparison: refusals 1 to 8 and 20 of the text, then 13 of its parameters, or the tree's records in the
+// arena.
 fn read_side(
     context: Context,
     text: &[u8],
@@ -270,20 +313,20 @@ fn values_agree(
     true
 }
 
-// Same rule (SPEC 8.3): the refusal of the first text or else 13 of its parameters, or else the second's; or else
-// whether the texts have one tree and the parameters that it names the same values.
+// Same rule (SPEC 8.3): the refusal of the first text at the last place or else 13 of its parameters, or else the
+// second's; or else whether the texts have one tree and the parameters that it names the same values.
 pub fn same_rule(
     first: &[u8],
     ps: &[u32; limits::PARAMETERS],
     second: &[u8],
     qs: &[u32; limits::PARAMETERS],
 ) -> Same
-    ensures value { result ≡ comparison standard_context first.now ps.now
+    ensures value { result ≡ comparison (context_at place_count) first.now ps.now
         second.now qs.now }
-    ensures same_answer { SameAnswer standard_context first.now ps.now
+    ensures same_answer { SameAnswer (context_at place_count) first.now ps.now
         second.now qs.now result }
 {
-    let context = limits::standard();
+    let context = limits::context_at(words::LAST_PLACE);
     let mut arena = [0u32; limits::ARENA];
     let records = read_side(context, first, ps, &mut arena);
     let Records::Rule(n, _) = records else {

@@ -6,14 +6,14 @@ use Prim.Native.Nat.{ℕ, ◌≤◌}
 use native.Mathlib.Omega.{arith}
 use borrow.Author.Tests.{eq-eqb}
 use Rattle.formulas.specs.Formula.{Num, Prop, Formula}
-use Rattle.formulas.specs.Formula.Prop.{constant, signal, velocity, neg_p, and_p, or_p}
+use Rattle.formulas.specs.Formula.Prop.{constant, signal, velocity, earlier, neg_p, and_p, or_p}
 use Rattle.formulas.specs.Formula.Test.{begin, end, point, held, kept}
 use Rattle.formulas.specs.Formula.Count.{sum, age}
 use Rattle.formulas.specs.Formula.Formula.{test, len, count, lag, neg, and, or, then}
 use Rattle.formulas.specs.Bounds.{bounded, num_bound}
 use Rattle.formulas.specs.Raw.{raw_p, raw}
-use Rattle.tables.specs.Table.{Equation, equation, kind_of, shape_of, same_sort}
-use Rattle.tables.specs.Kind.{VELOCITY}
+use Rattle.tables.specs.Table.{Equation, equation, kind_of, shape_of, sort_of, same_sort}
+use Rattle.tables.specs.Kind.{VELOCITY, EARLIER}
 use Rattle.limits.specs.Limits.{literal_count}
 use Rattle.tables.specs.declared.Sort.TheVariants.{Boolean}
 use Rattle.scheme.specs.Scheme.{◌⊕◌, Node, and_node, or_node}
@@ -133,10 +133,9 @@ module _ (velocities : ℕ) (t : List ℕ) (N : ℕ) where
         }
 
     -- The test of one leaf.
-    test-fine : {names : ℕ → Bool} {a b u o : ℕ} → Leaves names (equation VELOCITY a b 0 ∷ []) u o
-        → Before t o Boolean u
-    unfolding kind_of shape_of same_sort
-    test-fine {u = u} {o} h = later (here velocities t N o u VELOCITY h.kinds.0 refl) h.early
+    test-fine : (x : ℕ) → same_sort (sort_of (kind_of x)) Boolean ≡ true → {names : ℕ → Bool} {a b u o : ℕ}
+        → Leaves names (equation x a b 0 ∷ []) u o → Before t o Boolean u
+    test-fine x sorted {u = u} {o} h = later (here velocities t N o u x h.kinds.0 sorted) h.early
 
     -- The equations of a proposition from place o on fit.
     abbrev PropFine : Prop → ℕ → ℕ → Type 0
@@ -165,9 +164,11 @@ module _ (velocities : ℕ) (t : List ℕ) (N : ℕ) where
         (left y.es _ o' (right x.es _ o kinds)))
 
     prop-fine : (p : Prop) (u o : ℕ) → PropFine p u o
+    unfolding kind_of shape_of same_sort
     prop-fine (constant c) u o leaves room kinds = constant-fine velocities t N o c room kinds
     prop-fine (signal j) u o leaves room kinds = (tt, leaves.named j (eq-eqb j j refl))
-    prop-fine (velocity op n) u o leaves room kinds = (tt, test-fine leaves)
+    prop-fine (velocity op n) u o leaves room kinds = (tt, test-fine VELOCITY refl leaves)
+    prop-fine (earlier j) u o leaves room kinds = (tt, test-fine EARLIER refl leaves)
     prop-fine (neg_p p) u o leaves room kinds =
         let x : Block = emit_p flow_of p u o in
         negated-fine o x room kinds (prop-fine p u o leaves (room-left x.es _ o room) (left x.es _ o kinds))

@@ -1,5 +1,5 @@
 -- How many equations an observer has, counted over the formula's tree: the rows of its nodes, and one more for each
--- signal and for each velocity test that stands in it. The header has one for each named signal, however often it
+-- signal and for each test that stands in it. The header has one for each named signal, however often it
 -- stands there, so it is a bound; Sizes.antt has a coarser one that needs only the number of records. Assumes nothing.
 use mathlib.Core.Bool.{Bool, true, false, ◌||◌, cond}
 use mathlib.Core.List.{List, ◌∷◌, ◌++◌}
@@ -10,7 +10,7 @@ use lib.Dec.{eqb}
 use lib.ListN.{length, length-append}
 use borrow.Author.Tests.{eqb-true, ne_eqb}
 use Rattle.formulas.specs.Formula.{Prop, Formula, Test, Count}
-use Rattle.formulas.specs.Formula.Prop.{constant, signal, velocity, neg_p, and_p, or_p}
+use Rattle.formulas.specs.Formula.Prop.{constant, signal, velocity, earlier, neg_p, and_p, or_p}
 use Rattle.formulas.specs.Formula.Test.{begin, end, point, held, kept}
 use Rattle.formulas.specs.Formula.Count.{sum, age}
 use Rattle.formulas.specs.Formula.Formula.{test, len, count, lag, neg, and, or, then}
@@ -21,7 +21,7 @@ use Rattle.tables.specs.Table.{Equation, equation}
 use Rattle.limits.specs.Limits.{signal_count}
 use Rattle.scheme.specs.Scheme.{Node, constant_node, signal_node, not_node, and_node, or_node, begin_node}
 use Rattle.scheme.specs.Scheme.{end_node, point_node, held_node, kept_node, len_node, sum_node, age_node, run_node}
-use Rattle.scheme.specs.Scheme.{fine_node, always_node, lead_end_node, then_node, velocity_node, whole_node}
+use Rattle.scheme.specs.Scheme.{fine_node, always_node, lead_end_node, then_node, head_node, whole_node}
 use Rattle.scheme.specs.Emit.{place_after, emit_p, emit, named_by_p, named_by, flow_in, signals-es, body}
 use Rattle.scheme.specs.Emit.{observer, start_flow, negated_flow, header_count, start-es, whole-es}
 use Rattle.scheme.specs.Emit.{after_run, second_start, second_negated, second_place}
@@ -48,7 +48,8 @@ count_node age = age_node
 abbrev pub equation_count : Tree → ℕ
 equation_count (Tree.constant c) = row_count constant_node
 equation_count (Tree.signal j) = row_count signal_node + 1
-equation_count (Tree.velocity o n) = row_count velocity_node + velocity_node.tests
+equation_count (Tree.velocity o n) = row_count head_node + head_node.tests
+equation_count (Tree.earlier j) = row_count head_node + head_node.tests
 equation_count (Tree.neg t) = equation_count t + row_count not_node
 equation_count (Tree.and a b) = equation_count a + equation_count b + row_count and_node
 equation_count (Tree.or a b) = equation_count a + equation_count b + row_count or_node
@@ -114,6 +115,7 @@ module _ (flow_of : ℕ → ℕ) (m j : ℕ) where
   prop-count (constant c) u o = omega (arith, none_named m j)
   prop-count (signal i) u o = omega (arith, one-named i m j)
   prop-count (velocity op n) u o = omega (arith, none_named m j)
+  prop-count (earlier i) u o = omega (arith, none_named m j)
   prop-count (neg_p p) u o = simp length-append (omega (arith, prop-count p u o))
   prop-count (and_p p q) u o =
       simp length-append (omega (

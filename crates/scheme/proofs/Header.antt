@@ -1,5 +1,5 @@
 -- The header of an observer: the named signals stand by rising number, each where the formula's equations look for it,
--- and the velocity tests after them fit. Assumes nothing.
+-- and the tests after them fit. Assumes nothing.
 use mathlib.Core.Bool.{Bool, true, false, ◌||◌, cond, and-eq-true_iff, false≢true}
 use mathlib.Core.List.{List, ◌∷◌, ◌++◌}
 use mathlib.Core.Path.{◌≡◌, refl, sym, subst}
@@ -10,7 +10,7 @@ use borrow.Author.Tests.{eqb-true, ltb-true, lt-ltb}
 use Rattle.lists.specs.Number.{number_at}
 use Rattle.traces.specs.Compare.{op_number}
 use Rattle.formulas.specs.Formula.{Prop, Formula}
-use Rattle.formulas.specs.Formula.Prop.{constant, signal, velocity, neg_p, and_p, or_p}
+use Rattle.formulas.specs.Formula.Prop.{constant, signal, velocity, earlier, neg_p, and_p, or_p}
 use Rattle.formulas.specs.Formula.Formula.{test, len, count, lag, neg, and, or, then}
 use Rattle.formulas.specs.Bounds.{bounded, num_bound}
 use Rattle.formulas.specs.Raw.{raw_p, raw}
@@ -100,6 +100,7 @@ module _ (cap velocities j : ℕ) where
   prop-names (constant c) b e = absurd (false≢true e)
   prop-names (signal i) b e = rw (eqb-true i j e) at (ltb-true i signal_count b)
   prop-names (velocity o n) b e = absurd (false≢true e)
+  prop-names (earlier i) b e = absurd (false≢true e)
   prop-names (neg_p p) b e = prop-names p b e
   prop-names (and_p p q) b e =
       let h = (and-eq-true_iff (bounded cap velocities (raw_p p)) (bounded cap velocities (raw_p q))).0 b in
@@ -143,6 +144,7 @@ module _ (cap velocities : ℕ) (t : List ℕ) (N : ℕ) where
   prop-tests-fit (signal j) b o = tt
   prop-tests-fit (velocity op n) b o =
       (record { fits = rw (lt-ltb (op_number op) comparison_count (op-below op), b) }, tt)
+  prop-tests-fit (earlier j) b o = (record { fits = rw b }, tt)
   prop-tests-fit (neg_p p) b o = prop-tests-fit p b o
   prop-tests-fit (and_p p q) b o =
       let h = (and-eq-true_iff (bounded cap velocities (raw_p p)) (bounded cap velocities (raw_p q))).0 b in

@@ -5,12 +5,13 @@ use mathlib.Core.Path.{◌≡◌, sym}
 use Prim.Native.Nat.{ℕ, suc, ◌<◌}
 use lib.ListN.{length}
 use native.Mathlib.Omega.{arith}
-use Rattle.traces.specs.Trace.{Trace, truth, nonzero, signal_at, parameter_at, starts}
+use Rattle.traces.specs.Trace.{Trace, truth, nonzero, signal_at, parameter_at, verdict_at, starts}
 use Rattle.traces.specs.Compare.{op_of, compares}
 use Rattle.traces.proofs.Laws.{nonzero-truth, truth-nonzero}
 use Rattle.tables.specs.Table.{Equation, equation_at, Kind, kind_of, kind_at, shape_of, sort_of, same_sort}
 use Rattle.tables.specs.Table.Kind.{signal, start, constant, negation, conjunction, disjunction, boolean_pre}
-use Rattle.tables.specs.Table.Kind.{count_pre, capped, if_else, compare_literal, compare_parameter, velocity, unknown}
+use Rattle.tables.specs.Table.Kind.{count_pre, capped, if_else, compare_literal, compare_parameter, velocity, earlier}
+use Rattle.tables.specs.Table.Kind.{unknown}
 use Rattle.flows.specs.Flow.{increased, value_of, initial}
 use Rattle.tables.specs.declared.Sort.TheVariants.{Boolean}
 use Rattle.flows.specs.Lustre.{arrow_pre, Lustre}
@@ -40,6 +41,7 @@ module _ (cap : ℕ) (trace : Trace) (flow : ℕ → ℕ → ℕ) where
   Local compare_parameter i e =
       (k : ℕ) → on flow i k ≡ compares (op_of e.b) (flow k e.a) (parameter_at (trace k) e.c)
   Local velocity i e = (k : ℕ) → on flow i k ≡ compares (op_of e.a) (trace k).velocity e.b
+  Local earlier i e = (k : ℕ) → on flow i k ≡ verdict_at (trace k) e.a
   Local unknown i e = Unit {0}
 
   -- A flow that satisfies its equation is so.
@@ -62,6 +64,7 @@ module _ (cap : ℕ) (trace : Trace) (flow : ℕ → ℕ → ℕ) where
   local compare_parameter i e h = λ k.
       rw (h k) (nonzero-truth (compares (op_of e.b) (flow k e.a) (parameter_at (trace k) e.c)))
   local velocity i e h = λ k. rw (h k) (nonzero-truth (compares (op_of e.a) (trace k).velocity e.b))
+  local earlier i e h = λ k. rw (h k) (nonzero-truth (verdict_at (trace k) e.a))
   local unknown i e h = tt
 
   -- The same of an equation with its own kind number, at place i,

@@ -9,7 +9,7 @@ use lib.ListN.{length}
 use Rattle.traces.specs.Trace.{truth}
 use Rattle.formulas.specs.Formula.{Num, Prop, Formula}
 use Rattle.formulas.specs.Formula.Num.{literal, parameter}
-use Rattle.formulas.specs.Formula.Prop.{constant, signal, velocity, neg_p, and_p, or_p}
+use Rattle.formulas.specs.Formula.Prop.{constant, signal, velocity, earlier, neg_p, and_p, or_p}
 use Rattle.formulas.specs.Formula.Test.{begin, end, point, held, kept}
 use Rattle.formulas.specs.Formula.Count.{sum, age}
 use Rattle.formulas.specs.Formula.Formula.{test, len, count, lag, neg, and, or, then}
@@ -66,6 +66,7 @@ unfolding kind_of is_memory
 counted-tests_p (constant c) = refl
 counted-tests_p (signal j) = refl
 counted-tests_p (velocity op n) = refl
+counted-tests_p (earlier j) = refl
 counted-tests_p (neg_p p) = counted-tests_p p
 counted-tests_p (and_p p q) = counted-both (tests_p p) (tests_p q) (counted-tests_p p) (counted-tests_p q)
 counted-tests_p (or_p p q) = counted-both (tests_p p) (tests_p q) (counted-tests_p p) (counted-tests_p q)
@@ -86,6 +87,7 @@ module _ (flow_of : ℕ → ℕ) where
   counted-prop (constant c) u o = refl
   counted-prop (signal j) u o = refl
   counted-prop (velocity op n) u o = refl
+  counted-prop (earlier j) u o = refl
   counted-prop (neg_p p) u o = simp (counted-append, counted-prop p u o)
   counted-prop (and_p p q) u o = simp
       (counted-append, counted-prop p u o, counted-prop q (next_test_p u p) (place_after o (emit_p flow_of p u o).es))

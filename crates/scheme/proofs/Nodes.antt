@@ -1,6 +1,6 @@
 -- The equations of a proposition give what it says at each tick; those of a formula give, from the latest start of
 -- their start flow on, the formula's meaning, if each parameter that it names has one value at all ticks, below the
--- cap. The equations of the velocity tests stand at a place of their own. Assumes nothing.
+-- cap. The equations of the tests stand at a place of their own. Assumes nothing.
 use mathlib.Core.Bool.{Bool, true, not, ◌&&◌, ◌||◌, and-eq-true_iff}
 use mathlib.Core.List.{List, ◌++◌}
 use mathlib.Core.Path.{◌≡◌, refl, ap, ap₂, ◌∙◌}
@@ -11,7 +11,7 @@ use Rattle.traces.specs.Trace.{Trace, signal_at}
 use Rattle.traces.specs.declared.Op.{Op}
 use Rattle.traces.proofs.Laws.{nonzero-truth, op-number}
 use Rattle.formulas.specs.Formula.{Num, Count, Prop, Formula}
-use Rattle.formulas.specs.Formula.Prop.{constant, signal, velocity, neg_p, and_p, or_p}
+use Rattle.formulas.specs.Formula.Prop.{constant, signal, velocity, earlier, neg_p, and_p, or_p}
 use Rattle.formulas.specs.Formula.Test.{begin, end, point, held, kept}
 use Rattle.formulas.specs.Formula.Count.{sum, age}
 use Rattle.formulas.specs.Formula.Formula.{test, len, count, lag, neg, and, or, then}
@@ -94,6 +94,7 @@ module _ (cap velocities : ℕ) (trace : Trace) (flow : ℕ → ℕ → ℕ) whe
     prop-is (constant c) t o signals tests h k = rw (h.0 k) (nonzero-truth c)
     prop-is (signal j) t o signals tests h k = signals j (eq-eqb j j refl) k
     prop-is (velocity op n) t o signals tests h k = rw (tests.0 k, op-number)
+    prop-is (earlier j) t o signals tests h k = tests.0 k
     prop-is (neg_p p) t o signals tests h k =
         let x : Block = emit_p flow_of p t o in
         (right x.es _ o h).0 k ∙ ap not (prop-is p t o signals tests (left x.es _ o h) k)

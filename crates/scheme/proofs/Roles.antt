@@ -14,7 +14,7 @@ use Rattle.tables.specs.Table.{shape_fits}
 use Rattle.tables.specs.declared.Sort.{Sort}
 use Rattle.tables.specs.declared.Sort.TheVariants.{Boolean, Count}
 use Rattle.tables.specs.declared.Operand.{Operand}
-use Rattle.tables.specs.declared.Operand.TheVariants.{Unused, Earlier, Anywhere, Below, Velocity}
+use Rattle.tables.specs.declared.Operand.TheVariants.{Unused, Earlier, Anywhere, Below, Velocity, Place}
 use Rattle.tables.specs.declared.Shape.{Shape}
 use Rattle.tables.proofs.Tests.{all-at}
 use Rattle.scheme.specs.Scheme.{◌⊕◌, row_at, value_named, kind_for, resolved, filled}
@@ -80,13 +80,14 @@ module _ (v : Values) (roles : Name → Role) (rows : List Row) where
   is_flow_of k s (below b) = false
   is_flow_of k s (own j) = ltb j k && same_sort (sort_of (kind_in v (row_at rows j))) s
 
-  -- The name x can be such an operand in row i. No row has a velocity: the tests stand before all rows.
+  -- The name x can be such an operand in row i. No row has a velocity or a place: the tests stand before all rows.
   abbrev pub operand_ok : ℕ → Operand → Name → Bool
   operand_ok i Unused x = is_nought (roles x)
   operand_ok i (Below k) x = is_below k (roles x)
   operand_ok i (Earlier s) x = is_flow_of i s (roles x)
   operand_ok i (Anywhere s) x = is_flow_of (length rows) s (roles x)
   operand_ok i Velocity x = false
+  operand_ok i Place x = false
 
   abbrev pub shape_ok : ℕ → Shape → Row → Bool
   shape_ok i s r = operand_ok i s.a r.a && (operand_ok i s.b r.b && operand_ok i s.c r.c)
@@ -197,6 +198,7 @@ module _ (velocities : ℕ) (t : List ℕ) (N o : ℕ) where
         flow-fits (length rows) N (omega arith) room s (roles x) (value_named v x) (play x) e
     operand-fits i h (Below k) x e = lt-ltb (value_named v x) k (below-fits k (roles x) (value_named v x) (play x) e)
     operand-fits i h Velocity x e = absurd (false≢true e)
+    operand-fits i h Place x e = absurd (false≢true e)
 
     row_fits : (i : ℕ) → i < length rows → row_ok v roles rows i ≡ true
         → Fits velocities t N (o ⊕ i) (resolved v (row_at rows i))

@@ -8,7 +8,7 @@ use native.Mathlib.Nat.{le_trans}
 use native.Mathlib.Omega.{arith}
 use lib.ListN.{length, length-append}
 use Rattle.formulas.specs.Formula.{Prop, Formula}
-use Rattle.formulas.specs.Formula.Prop.{constant, signal, velocity, neg_p, and_p, or_p}
+use Rattle.formulas.specs.Formula.Prop.{constant, signal, velocity, earlier, neg_p, and_p, or_p}
 use Rattle.formulas.specs.Formula.Test.{begin, end, point, held, kept}
 use Rattle.formulas.specs.Formula.Count.{sum, age}
 use Rattle.formulas.specs.Formula.Formula.{test, len, count, lag, neg, and, or, then}
@@ -29,6 +29,7 @@ module _ (flow_of : ℕ → ℕ) where
   prop-size (constant c) u o = omega arith
   prop-size (signal j) u o = omega arith
   prop-size (velocity op n) u o = omega arith
+  prop-size (earlier j) u o = omega arith
   prop-size (neg_p p) u o = simp length-append (omega (arith, prop-size p u o))
   prop-size (and_p p q) u o =
       let o' : ℕ = place_after o (emit_p flow_of p u o).es in

@@ -1,7 +1,8 @@
 -- The equations of a formula: its observer. First stand the start flow and its negation, then the signals that the
--- formula names, lowest first, then its velocity tests, one for each place in the text, in its order. Then come its
--- nodes, a block for each after the blocks of its operands (`then` and `lag` have a part of their block between those
--- of their operands), then what tells whether there was a start, and the verdict. Definitions only.
+-- formula names, lowest first, then its tests, which are its velocity tests and the verdicts of earlier rules, one for
+-- each place in the text, in its order. Then come its nodes, a block for each after the blocks of its operands (`then`
+-- and `lag` have a part of their block between those of their operands), then what tells whether there was a start, and
+-- the verdict. Definitions only.
 use Rattle.std.specs.Prelude.{Bool, false, ◌||◌, cond, List, [], ◌∷◌, ◌++◌, ℕ, zero, suc, eqb, length}
 use Rattle.lists.specs.Number.{number_at}
 use Rattle.traces.specs.Trace.{truth}
@@ -9,18 +10,18 @@ use Rattle.traces.specs.Compare.{op_number}
 use Rattle.traces.specs.declared.Op.{Op}
 use Rattle.traces.specs.declared.Op.TheVariants.{Below as lt}
 use Rattle.formulas.specs.Formula.{Num, Prop, Formula}
-use Rattle.formulas.specs.Formula.Prop.{constant, signal, velocity, neg_p, and_p, or_p}
+use Rattle.formulas.specs.Formula.Prop.{constant, signal, velocity, earlier, neg_p, and_p, or_p}
 use Rattle.formulas.specs.Formula.Test.{begin, end, point, held, kept}
 use Rattle.formulas.specs.Formula.Count.{sum, age}
 use Rattle.formulas.specs.Formula.Formula.{test, len, count, lag, neg, and, or, then}
 use Rattle.formulas.specs.Arena.{num_kind, num_value}
 use Rattle.tables.specs.Table.{Equation}
-use Rattle.tables.specs.Kind.{SIGNAL, START, NOT, VELOCITY}
+use Rattle.tables.specs.Kind.{SIGNAL, START, NOT, VELOCITY, EARLIER}
 use Rattle.limits.specs.Limits.{signal_count}
 use Rattle.tables.specs.Table.{equation}
 use Rattle.scheme.specs.Scheme.{◌⊕◌, Name, Node, constant_node, signal_node, not_node, and_node, or_node, begin_node}
 use Rattle.scheme.specs.Scheme.{end_node, point_node, held_node, kept_node, len_node, sum_node, age_node, run_node}
-use Rattle.scheme.specs.Scheme.{fine_node, always_node, lead_end_node, then_node, velocity_node, whole_node}
+use Rattle.scheme.specs.Scheme.{fine_node, always_node, lead_end_node, then_node, head_node, whole_node}
 use Rattle.scheme.specs.Scheme.{Values, value_named, comparison_of, filled}
 use Rattle.scheme.specs.Scheme.Name.{Fourth}
 
@@ -92,7 +93,7 @@ constant_at o c = leaf_at o 0 0 (truth c)
 abbrev pub signalling : ℕ → Values
 signalling x = leaf_at 0 x 0 0
 
--- The value at a velocity test, whose flow is x.
+-- The value at a test, whose flow is x.
 abbrev pub testing : ℕ → Values
 testing x = leaf_at 0 0 x 0
 
@@ -175,10 +176,10 @@ abbrev pub signal-block : ℕ → Block
 signal-block x =
     record { es = filled (signalling x) signal_node.rows; out = value_named (signalling x) signal_node.result }
 
--- A velocity test's flow stands in the header too.
-abbrev pub velocity-block : ℕ → Block
-velocity-block x =
-    record { es = filled (testing x) velocity_node.rows; out = value_named (testing x) velocity_node.result }
+-- A test's flow stands in the table's head too.
+abbrev pub tested-block : ℕ → Block
+tested-block x =
+    record { es = filled (testing x) head_node.rows; out = value_named (testing x) head_node.result }
 
 -- An `end` adds no row to its proposition's.
 abbrev pub end-block : Block → Block
@@ -228,13 +229,14 @@ then-block n o' x y =
       out = own_flow o'' then_node.result;
     }
 
--- ---- the velocity tests
+-- ---- the tests
 
 -- The equations of the tests of a proposition and of a formula, one for each place, in the text's order.
 abbrev pub tests_p : Prop → List Equation
 tests_p (constant c) = []
 tests_p (signal j) = []
 tests_p (velocity o n) = equation VELOCITY (op_number o) n 0 ∷ []
+tests_p (earlier j) = equation EARLIER j 0 0 ∷ []
 tests_p (neg_p p) = tests_p p
 tests_p (and_p p q) = tests_p p ++ tests_p q
 tests_p (or_p p q) = tests_p p ++ tests_p q
@@ -264,7 +266,8 @@ module _ (flow_of : ℕ → ℕ) where
   abbrev pub emit_p : Prop → ℕ → ℕ → Block
   emit_p (constant c) t o = record { es = constant-es c o; out = own_flow o constant_node.result }
   emit_p (signal j) t o = signal-block (flow_of j)
-  emit_p (velocity op n) t o = velocity-block t
+  emit_p (velocity op n) t o = tested-block t
+  emit_p (earlier j) t o = tested-block t
   emit_p (neg_p p) t o = not-block o (emit_p p t o)
   emit_p (and_p p q) t o =
       join-block and-es and_node o (emit_p p t o) (emit_p q (next_test_p t p) (place_after o (emit_p p t o).es))
@@ -300,6 +303,7 @@ abbrev pub named_by_p : Prop → ℕ → Bool
 named_by_p (constant c) j = false
 named_by_p (signal i) j = eqb i j
 named_by_p (velocity o n) j = false
+named_by_p (earlier i) j = false
 named_by_p (neg_p p) j = named_by_p p j
 named_by_p (and_p p q) j = named_by_p p j || named_by_p q j
 named_by_p (or_p p q) j = named_by_p p j || named_by_p q j

@@ -190,9 +190,9 @@ lead_end_node = node lead_end_rows 1 Negated Fifth
 abbrev pub then_node : Node
 then_node = node then_rows 2 Fourth Previous
 
--- The equation of a velocity test stands in the table's head.
-abbrev pub velocity_node : Node
-velocity_node = record { rows = []; takes = 0; tests = 1; result = Tested; negated = Negated }
+-- The equations of a velocity test and of an earlier rule's verdict stand in the table's head.
+abbrev pub head_node : Node
+head_node = record { rows = []; takes = 0; tests = 1; result = Tested; negated = Negated }
 
 abbrev pub whole_node : Node
 whole_node = node whole_rows 1 Third Negated
@@ -202,8 +202,8 @@ abbrev pub node_list : List Node
 node_list =
     constant_node ∷ signal_node ∷ not_node ∷ and_node ∷ or_node
     ∷ begin_node ∷ end_node ∷ point_node ∷ held_node ∷ kept_node
-    ∷ len_node ∷ sum_node ∷ age_node ∷ run_node ∷ fine_node ∷ always_node ∷ lead_end_node ∷ then_node ∷ velocity_node
-    ∷ whole_node ∷ []
+    ∷ len_node ∷ sum_node ∷ age_node ∷ run_node ∷ fine_node ∷ always_node ∷ lead_end_node ∷ then_node ∷ head_node
+    ∷ head_node ∷ whole_node ∷ []
 
 abbrev pub node_count : ℕ
 node_count = suc WHOLE

@@ -11,7 +11,7 @@ use lib.Dec.{leb}
 use lib.ListN.{length, get_or, get_or-map, get_or-eq_default}
 use borrow.Author.Tests.{lt-leb, le-leb}
 use Rattle.tables.specs.Kind.{SIGNAL, START, CONSTANT, NOT, AND, OR, BOOLEAN-PRE, COUNT-PRE, CAPPED, IF}
-use Rattle.tables.specs.Kind.{COMPARE-LITERAL, COMPARE-PARAMETER, VELOCITY, kind_count}
+use Rattle.tables.specs.Kind.{COMPARE-LITERAL, COMPARE-PARAMETER, VELOCITY, EARLIER, kind_count}
 use Rattle.tables.specs.Table.{kinds, kind_of, shape_of, sort_of, same_sort, all}
 use Rattle.tables.specs.Table.Kind.{unknown}
 use Rattle.tables.specs.Table.{is_memory}
@@ -24,7 +24,7 @@ use Rattle.tables.proofs.Tests.{agrees}
 numbered :
     map kind_of
     (SIGNAL ∷ START ∷ CONSTANT ∷ NOT ∷ AND ∷ OR ∷ BOOLEAN-PRE ∷ COUNT-PRE ∷ CAPPED ∷ IF ∷ COMPARE-LITERAL
-    ∷ COMPARE-PARAMETER ∷ VELOCITY ∷ [])
+    ∷ COMPARE-PARAMETER ∷ VELOCITY ∷ EARLIER ∷ [])
     ≡ kinds
 unfolding kind_of
 numbered = refl

@@ -12,9 +12,9 @@ of_kinds (k ∷ ks) = k ∷ 6 ∷ 7 ∷ 6 ∷ of_kinds ks
 
 -- Both memories first and last, and between them each other kind and a number of none.
 abbrev table : List ℕ
-table = of_kinds (7 ∷ 6 ∷ 0 ∷ 1 ∷ 2 ∷ 3 ∷ 4 ∷ 5 ∷ 8 ∷ 9 ∷ 10 ∷ 11 ∷ 12 ∷ 6 ∷ 7 ∷ [])
+table = of_kinds (7 ∷ 6 ∷ 0 ∷ 1 ∷ 2 ∷ 3 ∷ 4 ∷ 5 ∷ 8 ∷ 9 ∷ 10 ∷ 11 ∷ 12 ∷ 13 ∷ 6 ∷ 7 ∷ [])
 
 -- Of no equation, of the first, of the first two, up to the last that is no memory, and of all but one and all.
-memories-rows : map (memories table) (0 ∷ 1 ∷ 2 ∷ 3 ∷ 8 ∷ 13 ∷ 14 ∷ 15 ∷ []) ≡ 0 ∷ 1 ∷ 2 ∷ 2 ∷ 2 ∷ 2 ∷ 3 ∷ 4 ∷ []
+memories-rows : map (memories table) (0 ∷ 1 ∷ 2 ∷ 3 ∷ 8 ∷ 14 ∷ 15 ∷ 16 ∷ []) ≡ 0 ∷ 1 ∷ 2 ∷ 2 ∷ 2 ∷ 2 ∷ 3 ∷ 4 ∷ []
 unfolding kind_of is_memory
 memories-rows = refl

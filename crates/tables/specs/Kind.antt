@@ -40,6 +40,9 @@ COMPARE-PARAMETER = 11
 abbrev pub VELOCITY : ℕ
 VELOCITY = 12
 
+abbrev pub EARLIER : ℕ
+EARLIER = 13
+
 -- SPEC 5.3: how many kinds there are.
 abbrev pub kind_count : ℕ
-kind_count = 13
+kind_count = 14

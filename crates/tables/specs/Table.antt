@@ -1,14 +1,15 @@
--- Equation tables: the numbers of an equation, the thirteen kinds, and which tables are well formed. Definitions only.
+-- Equation tables: the numbers of an equation, the fourteen kinds, and which tables are well formed. Definitions only.
 use Rattle.std.specs.Prelude.{Bool, true, false, ◌&&◌, cond, List, [], ◌∷◌, ℕ, zero, suc, ◌+◌, ◌*◌, ◌-◌, leb, ltb, eqb}
 use Rattle.std.specs.Prelude.{length, get_or}
 unfoldable pub use Rattle.lists.specs.All.{all}
 use Rattle.lists.specs.Number.{number_at}
 use Rattle.limits.specs.Limits.{signal_count, truth_count, comparison_count, literal_count, parameter_count}
+use Rattle.limits.specs.Limits.{place_count}
 use Rattle.limits.specs.Limits.{equation_limit}
 use Rattle.tables.specs.declared.Sort.{Sort}
 use Rattle.tables.specs.declared.Sort.TheVariants.{Boolean, Count}
 use Rattle.tables.specs.declared.Operand.{Operand}
-use Rattle.tables.specs.declared.Operand.TheVariants.{Unused, Earlier, Anywhere, Below, Velocity}
+use Rattle.tables.specs.declared.Operand.TheVariants.{Unused, Earlier, Anywhere, Below, Velocity, Place}
 use Rattle.tables.specs.declared.Shape.{Shape}
 use Rattle.tables.specs.declared.Checked.{Checked}
 use Rattle.tables.specs.declared.Checked.TheVariants.{Passed, Refused}
@@ -33,16 +34,16 @@ equation_at t i =
       c = number_at t (4 * i + 3);
     }
 
--- The thirteen kinds, and one for every number that is the number of none of them.
+-- The fourteen kinds, and one for every number that is the number of none of them.
 pub data Kind : Type 0 where
   signal start constant negation conjunction disjunction boolean_pre count_pre capped if_else : Kind
-  compare_literal compare_parameter velocity unknown : Kind
+  compare_literal compare_parameter velocity earlier unknown : Kind
 
 -- SPEC 5.3: the kinds in the order of their numbers.
 abbrev pub kinds : List Kind
 kinds =
     signal ∷ start ∷ constant ∷ negation ∷ conjunction ∷ disjunction ∷ boolean_pre ∷ count_pre ∷ capped ∷ if_else
-    ∷ compare_literal ∷ compare_parameter ∷ velocity ∷ []
+    ∷ compare_literal ∷ compare_parameter ∷ velocity ∷ earlier ∷ []
 
 -- The kind of that number.
 unfoldable pub kind_of : ℕ → Kind
@@ -72,6 +73,7 @@ shape_of if_else = row (Earlier Boolean) (Earlier Count) Unused Count
 shape_of compare_literal = row (Earlier Count) (Below comparison_count) (Below literal_count) Boolean
 shape_of compare_parameter = row (Earlier Count) (Below comparison_count) (Below parameter_count) Boolean
 shape_of velocity = row (Below comparison_count) Velocity Unused Boolean
+shape_of earlier = row Place Unused Unused Boolean
 shape_of unknown = row (Below 0) Unused Unused Boolean
 
 -- The sort of a kind's flow.
@@ -100,6 +102,7 @@ is_memory if_else = false
 is_memory compare_literal = false
 is_memory compare_parameter = false
 is_memory velocity = false
+is_memory earlier = false
 is_memory unknown = false
 
 -- SPEC 5.7: how many of the first equations of a table are memories.
@@ -119,6 +122,7 @@ operand_fits velocities t n i (Earlier s) x = is_flow t i s x
 operand_fits velocities t n i (Anywhere s) x = is_flow t n s x
 operand_fits velocities t n i (Below m) x = ltb x m
 operand_fits velocities t n i Velocity x = ltb x velocities
+operand_fits velocities t n i Place x = leb 1 x && leb x place_count
 
 -- The three numbers of the equation e, i of n, are what its kind's row asks for.
 unfoldable pub shape_fits : ℕ → List ℕ → ℕ → ℕ → Shape → Equation → Bool

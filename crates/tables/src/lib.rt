@@ -2,7 +2,8 @@
 // (SPEC 7.10, SPEC 7.11). What they mean is in specs/.
 #![tactic(auto)]
 
-ghost use Rattle.std.specs.Prelude.{◌≡◌, ◌&&◌, ◌*◌, ◌≤◌, ◌<◌, length};
+ghost use Rattle.std.specs.Prelude.{◌≡◌, ◌&&◌, ◌*◌, ◌≤◌, ◌<◌, leb, length};
+ghost use Rattle.limits.specs.Limits.{place_count};
 ghost use Rattle.tables.specs.Kind.{kind_count};
 ghost use Rattle.tables.specs.Table.{all, kind_of, shape_of, sort_of, same_sort, is_memory, is_flow, operand_fits};
 ghost use Rattle.tables.specs.Table.{equation_at, equation_fits, closes, checked};
@@ -27,6 +28,8 @@ pub enum Operand {
     Below(u32),
     // A velocity: a number below how many there are.
     Velocity,
+    // A place of a set: a number from 1 to how many there are.
+    Place,
 }
 
 // A row of the table of kinds: what A, B and C have to be, and the sort of the flow.
@@ -72,8 +75,10 @@ pub const COMPARE_PARAMETER: u32 = 11;
 
 pub const VELOCITY: u32 = 12;
 
+pub const EARLIER: u32 = 13;
+
 // How many kinds there are.
-pub const KIND_COUNT: usize = 13;
+pub const KIND_COUNT: usize = 14;
 
 // SPEC 5.5: how many equations close a table, the started flow's and then the verdict's.
 pub const CLOSING: usize = 2;
@@ -171,6 +176,13 @@ const KINDS: [Shape; KIND_COUNT] = [
         c: Operand::Unused,
         gives: Sort::Boolean,
     },
+    // 13: the verdict of an earlier rule.
+    Shape {
+        a: Operand::Place,
+        b: Operand::Unused,
+        c: Operand::Unused,
+        gives: Sort::Boolean,
+    },
 ];
 
 // The row of kind k.
@@ -201,6 +213,7 @@ pub fn row_of(k: u32) -> Shape
         COMPARE_LITERAL => shape_at(COMPARE_LITERAL),
         COMPARE_PARAMETER => shape_at(COMPARE_PARAMETER),
         VELOCITY => shape_at(VELOCITY),
+        EARLIER => shape_at(EARLIER),
         _ => Shape {
             a: Operand::Below(0),
             b: Operand::Unused,
@@ -265,6 +278,7 @@ pub fn sort_of(k: u32) -> Sort
         COMPARE_LITERAL => gives(COMPARE_LITERAL),
         COMPARE_PARAMETER => gives(COMPARE_PARAMETER),
         VELOCITY => gives(VELOCITY),
+        EARLIER => gives(EARLIER),
         _ => Sort::Boolean,
     }
 }
@@ -296,6 +310,16 @@ fn is_flow(table: &[u32], m: usize, s: Sort, x: u32) -> bool
     }
 }
 
+// Whether x is a place of a set.
+fn is_place(x: u32) -> bool
+    ensures { result ≡ (leb 1 x && leb x place_count) }
+{
+    if x < 1 {
+        return false;
+    }
+    x <= limits::PLACES as u32
+}
+
 // Whether x can be such an operand in equation i of n, where there are so many velocities.
 fn operand_fits(velocities: u32, table: &[u32], n: usize, i: usize, o: Operand, x: u32) -> bool
     requires { (i < n) × (4 * n ≤ length table.now) }
@@ -307,6 +331,7 @@ fn operand_fits(velocities: u32, table: &[u32], n: usize, i: usize, o: Operand, 
         Operand::Anywhere(s) => is_flow(table, n, s, x),
         Operand::Below(m) => x < m,
         Operand::Velocity => x < velocities,
+        Operand::Place => is_place(x),
     }
 }
 
@@ -379,6 +404,7 @@ fn equation_fits(vs: u32, t: &[u32], n: usize, i: usize) -> bool
             c(COMPARE_PARAMETER),
         ),
         VELOCITY => operands_fit(vs, t, n, i, a(VELOCITY), b(VELOCITY), c(VELOCITY)),
+        EARLIER => operands_fit(vs, t, n, i, a(EARLIER), b(EARLIER), c(EARLIER)),
         _ => false,
     }
 }

@@ -9,7 +9,7 @@ use native.Mathlib.Omega.{arith}
 use lib.ListN.{length, take, drop, length-append, length-drop}
 use lib.Seq.{length-take-le, take-add}
 use Rattle.player.specs.Card.{World, world_of, prints, start_world}
-use Rattle.limits.specs.Limits.{literal_count, line_limit}
+use Rattle.limits.specs.Limits.{line_limit}
 use Rattle.cards.specs.Says.{is_over}
 use Rattle.feeder.specs.Feed.{Goes, Ready, Turns, Finishes, fed_world, left_over}
 use Rattle.player.specs.declared.Watch.{Watch}
@@ -17,7 +17,7 @@ use Rattle.feeder.specs.declared.Turn.{Turn}
 use Rattle.cards.proofs.Lines.{append-nil}
 use Rattle.player.proofs.Printing.{over-prints}
 use Rattle.feeder.proofs.Resuming.{goes_none, fed-short, left-short, short-eq, short_none}
-use Rattle.cards.proofs.Stages.{rank, rank-first, rank-positive, is-over}
+use Rattle.cards.proofs.Stages.{most_lines, rank, rank-first, rank-positive, is-over}
 use Rattle.feeder.proofs.Ending.{fed-near}
 use Rattle.towerwatch.specs.declared.Next.{Next}
 use Rattle.towerwatch.specs.declared.Total.{Total}
@@ -156,7 +156,7 @@ budget k to = line_limit * rank k.stage - to
 
 -- The most bytes that a card can have before its end is known.
 abbrev pub longest_card : ℕ
-longest_card = line_limit * (literal_count + 4)
+longest_card = line_limit * most_lines
 
 -- From the start the program has come to w with the bytes s left over: so many bytes came in, and so many were handed
 -- over. Both are bounded by what may still come: a turn hands over at most as many bytes as the output has room for.
@@ -185,8 +185,8 @@ reached-start =
       came = refl;
       gone = refl;
       going = refl;
-      read = omega (arith, rank-first 0 0);
-      written = omega (arith, rank-first 0 0);
+      read = omega (arith, rank-first);
+      written = omega (arith, rank-first);
     }
 
 -- What goes on after some bytes goes on after a piece more.

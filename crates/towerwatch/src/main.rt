@@ -133,7 +133,7 @@ fn piece(
     buf: &mut [u8],
     to: usize,
     got: usize,
-    parameters: &mut [u32; limits::PARAMETERS],
+    parameters: &mut [u32; sets::PARAMETERS],
     table: &mut [u32],
     state: &mut [u32],
     values: &mut [u32],
@@ -169,7 +169,7 @@ fn once(
     watch: Watch,
     buf: &mut [u8],
     to: usize,
-    parameters: &mut [u32; limits::PARAMETERS],
+    parameters: &mut [u32; sets::PARAMETERS],
     table: &mut [u32],
     state: &mut [u32],
     values: &mut [u32],
@@ -197,7 +197,7 @@ fn run(
     stdin: Stdin,
     stdout: Stdout,
     buf: &mut [u8],
-    ps: &mut [u32; limits::PARAMETERS],
+    ps: &mut [u32; sets::PARAMETERS],
     table: &mut [u32],
     state: &mut [u32],
     values: &mut [u32],
@@ -228,14 +228,14 @@ fn run(
     }
 }
 
-// The table has room for the largest rule, state and values for its equations; out is longer than buf by a refusal. The
-// exit status is 0, however the run ended (SPEC 11.3).
+// Each rule of a set has room for the largest one in the table and in the state, and the values for one rule's flows;
+// out is longer than buf by a refusal. The exit status is 0, however the run ended (SPEC 11.3).
 fn main(rt: HostRuntime) {
     let mut buf = [0u8; 32768];
     let mut out = [0u8; OUTPUT];
-    let mut parameters = [0u32; limits::PARAMETERS];
-    let mut table = [0u32; limits::TABLE];
-    let mut state = [0u32; limits::EQUATIONS];
+    let mut parameters = [0u32; sets::PARAMETERS];
+    let mut table = [0u32; sets::TABLES];
+    let mut state = [0u32; sets::STATES];
     let mut values = [0u32; limits::EQUATIONS];
     run(
         rt.stdin(),

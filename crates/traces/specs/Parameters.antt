@@ -17,7 +17,7 @@ parameters_fit limit ps = all (parameter_fits limit ps) parameter_count
 
 -- The tick with these parameters in place of its own, and the trace.
 abbrev pub with_parameters : List ℕ → Tick → Tick
-with_parameters ps k = tick_of k.start k.signals k.velocity ps
+with_parameters ps k = tick_of k.start k.signals k.velocity k.verdicts ps
 
 abbrev pub run_with : List ℕ → Trace → Trace
 run_with ps trace i = with_parameters ps (trace i)

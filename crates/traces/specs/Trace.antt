@@ -1,5 +1,5 @@
 -- Ticks and traces: what the numbers of a tick mean. Definitions only.
-use Rattle.std.specs.Prelude.{Bool, true, false, List, ℕ, zero, suc, ◌/◌, ◌%◌, ◌^◌, get_or}
+use Rattle.std.specs.Prelude.{Bool, true, false, List, ℕ, zero, suc, ◌-◌, ◌/◌, ◌%◌, ◌^◌, eqb, get_or}
 use Rattle.traces.specs.declared.Tick.{Tick}
 
 -- SPEC 5.2: a truth value as a number.
@@ -32,10 +32,18 @@ parameter_at k j = get_or k.parameters j 0
 abbrev pub starts : Tick → Bool
 starts k = nonzero k.start
 
+-- SPEC 1.1: the number that the tick has for place j, numbered from 1. SPEC 4.1: it says yes where it is 1; 0, idle and
+-- every other number say no.
+abbrev pub verdict_for : Tick → ℕ → ℕ
+verdict_for k j = get_or k.verdicts (j - 1) 0
+
+abbrev pub verdict_at : Tick → ℕ → Bool
+verdict_at k j = eqb (verdict_for k j) 1
+
 -- SPEC 1.1: a tick of its numbers.
-abbrev pub tick_of : ℕ → ℕ → ℕ → List ℕ → Tick
-tick_of start signals velocity ps =
-    record { start = start; signals = signals; velocity = velocity; parameters = ps }
+abbrev pub tick_of : ℕ → ℕ → ℕ → List ℕ → List ℕ → Tick
+tick_of start signals velocity verdicts ps =
+    record { start = start; signals = signals; velocity = velocity; verdicts = verdicts; parameters = ps }
 
 -- SPEC 1.2: a trace gives the tick of each number, from 0 on.
 abbrev pub Trace : Type 0

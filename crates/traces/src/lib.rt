@@ -33,12 +33,13 @@ pub enum Op {
 pub const IDLE: u32 = 2;
 
 // One tick of a trace (SPEC 1.1): the start, which 0 alone is not, a bit for each signal, the velocity of the hardest
-// stroke, and the parameters.
+// stroke, a verdict for each place of a set, and the parameters.
 #[derive(Clone, Copy)]
 pub struct Tick {
     pub start: u32,
     pub signals: u64,
     pub velocity: u32,
+    pub verdicts: [u32; limits::PLACES],
     pub parameters: [u32; limits::PARAMETERS],
 }
 
@@ -47,14 +48,16 @@ pub fn tick_of(
     start: u32,
     signals: u64,
     velocity: u32,
+    verdicts: [u32; limits::PLACES],
     parameters: [u32; limits::PARAMETERS],
 ) -> Tick
-    ensures { result ≡ tick_of start signals velocity parameters }
+    ensures { result ≡ tick_of start signals velocity verdicts parameters }
 {
     Tick {
         start,
         signals,
         velocity,
+        verdicts,
         parameters,
     }
 }

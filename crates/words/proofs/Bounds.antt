@@ -10,8 +10,8 @@ use lib.Dec.{eqb, leb, ltb}
 use lib.ListN.{length, drop, length-append, get_or-append, get_or-eq_default}
 use lib.Seq.{get_or-append_seam}
 use borrow.Author.Tests.{ltb-true, leb-true, eqb-false, not-true}
-use Rattle.limits.specs.Limits.{word_limit, signal_count, parameter_count, last_literal}
-use Rattle.limits.specs.Context.{standard_context}
+use Rattle.limits.specs.Limits.{word_limit, signal_count, parameter_count, place_count, last_literal}
+use Rattle.limits.specs.Context.{context_at, lone_place, standard_context}
 use Rattle.limits.specs.declared.Context.{Context}
 use Rattle.lists.specs.Text.{byte}
 use Rattle.lists.specs.Number.{number_at}
@@ -20,20 +20,23 @@ use Rattle.lists.specs.Decimal.{Numeral, numeral}
 use Rattle.lists.specs.Decimal.Numeral.{is, above, missing}
 use Rattle.lists.proofs.Choice.{chosen}
 use Rattle.lists.proofs.Decimals.{is-bounded}
-use Rattle.words.specs.Word.{LT, GT, BEGIN, keywords, PARAMETER, SIGNAL, VELOCITY, LITERAL, last_word}
+use Rattle.words.specs.Word.{LT, GT, BEGIN, keywords, PARAMETER, EARLIER, SIGNAL, VELOCITY, LITERAL, last_word}
 use Rattle.words.specs.Word.{is_velocity}
 use Rattle.words.specs.Split.{SPACE, RUN, OTHER, Operator, operators, word_among, in_run, class_of}
 use Rattle.words.specs.Split.{goes_on, begins, run}
-use Rattle.words.specs.Split.{keyword_among, keyword_of, word_from, number_of, literal_of, run_of, longest}
-use Rattle.words.specs.Split.{awaits_velocity, word_of, Out, add, words, wrong_size, split_of}
+use Rattle.words.specs.Split.{keyword_among, keyword_of, word_from, number_of, from_one, place_of, literal_of, run_of}
+use Rattle.words.specs.Split.{longest, awaits_velocity, word_of, Out, add, words, wrong_size, split_of}
 use Rattle.words.specs.Split.Out.{refused, made}
 use Rattle.words.specs.Contract.{Ranged}
 use Rattle.words.specs.declared.Word.{Word}
 use Rattle.words.specs.declared.Word.TheVariants.{Made, Bad}
 
--- The context of the specification has velocities with words of their own.
+-- The context of the specification has velocities with words of their own, at every place.
+pub context-ranged : (place : ℕ) → Ranged (context_at place)
+context-ranged place = record { some = omega arith; few = omega arith }
+
 pub standard-ranged : Ranged standard_context
-standard-ranged = record { some = omega arith; few = omega arith }
+standard-ranged = context-ranged lone_place
 
 -- The property of one word, of an answer of one word, of a list of words, and of what splitting gives.
 pub record Fine (context : Context) (w : ℕ) : Type 0 where
@@ -122,6 +125,17 @@ module _ (context : Context) where
   other-fine : (v : ℕ) → v ≤ last_literal → Fine context (LITERAL + v)
   other-fine v h = record { some = omega arith; low = λ _. omega arith; velocity = λ _ _ q. absurd (omega arith) }
 
+  -- The verdict of the rule at a place.
+  place-fine : (l : List ℕ) → FineWord context (place_of l)
+  place-fine l = go (number_of EARLIER place_count l) number
+    where
+      number : FineWord context (number_of EARLIER place_count l)
+      number = number-fine EARLIER place_count l (λ v h. below-fine _ (omega arith) (omega arith))
+
+      go : (w : Word) → FineWord context w → FineWord context (from_one w)
+      go (Made w) f = chosen (FineWord context) (eqb w EARLIER) (λ _. (omega arith, omega arith)) (λ _. f)
+      go (Bad n) f = f
+
   literal-fine : (awaited : Bool) (r : List ℕ) → FineWord context (literal_of context awaited r)
   literal-fine awaited r =
       chosen (FineWord context) awaited (λ _. number-fine VELOCITY (context.velocities - 1) r velocity-fine)
@@ -136,7 +150,8 @@ module _ (context : Context) where
       (λ _. number-fine SIGNAL (signal_count - 1) (drop 1 r) (λ v h. below-fine _ (omega arith) (omega arith)))
       (λ _. chosen (FineWord context) (eqb (number_at r 0) (byte "k"))
       (λ _. number-fine PARAMETER (parameter_count - 1) (drop 1 r) (λ v h. below-fine _ (omega arith) (omega arith)))
-      (λ _. literal-fine awaited r)))
+      (λ _. chosen (FineWord context) (eqb (number_at r 0) (byte "r")) (λ _. place-fine (drop 1 r))
+      (λ _. literal-fine awaited r))))
 
   longest-fine : (c next : ℕ) → 0 < c → c ≤ OTHER → FineWord context (longest c next)
   longest-fine c next s h =

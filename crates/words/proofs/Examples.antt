@@ -11,7 +11,7 @@ use Rattle.lists.specs.Text.{line_end}
 use Rattle.lists.specs.Decimal.{is_digit, digits_after, numeral}
 use Rattle.words.specs.Word.{ROUND, ROUND-END, SQUARE, SQUARE-END, NOT, AND, OR, LE, LT, EQ, GT, GE, COMMA}
 use Rattle.words.specs.Word.{BEGIN, KEPT, LEN, SUM, AGE, LAG, THEN, CHOP, EXISTS, VEL}
-use Rattle.words.specs.Word.{PARAMETER, SIGNAL, VELOCITY, LITERAL, is_op}
+use Rattle.words.specs.Word.{PARAMETER, EARLIER, SIGNAL, VELOCITY, LITERAL, is_op}
 use Rattle.words.specs.Split.{class_of, run, keyword_among, keyword_of, number_of, run_of, word_of}
 use Rattle.words.specs.Split.{Out, words, split_of}
 use Rattle.words.specs.Split.Out.{refused, made}
@@ -40,6 +40,9 @@ signal n = SIGNAL + n
 
 abbrev parameter : ℕ → ℕ
 parameter n = PARAMETER + n
+
+abbrev earlier : ℕ → ℕ
+earlier n = EARLIER + n
 
 abbrev velocity : ℕ → ℕ
 velocity n = VELOCITY + n
@@ -95,6 +98,20 @@ examples =
     splits (bytes "v!200") (VEL ∷ NOT ∷ literal 200 ∷ []) ∷
     splits (bytes "<200") (LT ∷ literal 200 ∷ []) ∷
     splits (bytes "len<=200") (LEN ∷ LE ∷ literal 200 ∷ []) ∷
+    -- a verdict's place, from 1 on (SPEC 2.12), wherever it stands, also behind `v` and a comparison
+    splits (bytes "r1") (earlier 1 ∷ []) ∷
+    splits (bytes "r8") (earlier 8 ∷ []) ∷
+    splits (bytes "end[r2|r3]") (END ∷ SQUARE ∷ earlier 2 ∷ OR ∷ earlier 3 ∷ SQUARE-END ∷ []) ∷
+    splits (bytes "v>=r7") (VEL ∷ GE ∷ earlier 7 ∷ []) ∷
+    refuses (bytes "r0") 3 ∷
+    refuses (bytes "r9") 3 ∷
+    refuses (bytes "r10") 3 ∷
+    refuses (bytes "r99") 3 ∷
+    refuses (bytes "r") 2 ∷
+    refuses (bytes "r00") 2 ∷
+    refuses (bytes "r01") 2 ∷
+    refuses (bytes "r1x") 2 ∷
+    refuses (bytes "rr1") 2 ∷
     -- how long a text is (SPEC 2.1)
     refuses [] 1 ∷
     refuses (spaces (text_limit + 1)) 1 ∷

@@ -15,7 +15,8 @@ use Rattle.limits.specs.declared.Context.{Context}
 use Rattle.lists.specs.Text.{byte}
 use Rattle.lists.specs.Number.{number_at}
 use Rattle.words.specs.Word.{PARAMETER, SIGNAL}
-use Rattle.words.specs.Split.{RUN, OTHER, class_of, run, keyword_of, number_of, literal_of, run_of, longest, word_of}
+use Rattle.words.specs.Split.{RUN, OTHER, class_of, run, keyword_of, number_of, place_of, literal_of, run_of, longest}
+use Rattle.words.specs.Split.{word_of}
 use Rattle.words.specs.declared.Word.TheVariants.{Bad}
 
 -- The run at the end of a text, at a byte that is in no run, and at a byte that is.
@@ -78,10 +79,16 @@ module _ (context : Context) (awaited : Bool) where
     unfolding run_of
     run-parameter e = simp (n, e)
 
-    pub run-literal : (number_at r 0 ≡ byte "s" → ⊥) → (number_at r 0 ≡ byte "k" → ⊥)
+    pub run-place : number_at r 0 ≡ byte "r" → run_of context awaited r ≡ place_of (drop 1 r)
+    unfolding run_of
+    run-place e = simp (n, e)
+
+    pub run-literal : (number_at r 0 ≡ byte "s" → ⊥) → (number_at r 0 ≡ byte "k" → ⊥) → (number_at r 0 ≡ byte "r" → ⊥)
         → run_of context awaited r ≡ literal_of context awaited r
     unfolding run_of
-    run-literal s k = simp (n, ne_eqb (number_at r 0) (byte "s") s, ne_eqb (number_at r 0) (byte "k") k)
+    run-literal s k p =
+        let first = number_at r 0 in
+        simp (n, ne_eqb first (byte "s") s, ne_eqb first (byte "k") k, ne_eqb first (byte "r") p)
 
   -- The word at the front of a text, by the class of its first byte.
   module _ (l : List ℕ) (c : ℕ) where

@@ -1,8 +1,8 @@
--- How a text is split into words (SPEC 2.1 to SPEC 2.9, SPEC 2.11), and refusals 1 to 4. Definitions only.
+-- How a text is split into words (SPEC 2.1 to SPEC 2.9, SPEC 2.11, SPEC 2.12), and refusals 1 to 4. Definitions only.
 use Rattle.std.specs.Prelude.{Bool, not, ◌&&◌, ◌||◌, cond, List, [], ◌∷◌, ◌++◌, reverse, ℕ, suc, ◌+◌, ◌-◌, eqb, ltb}
 use Rattle.std.specs.Prelude.{length, drop}
 use Prim.Native.String.{String}
-use Rattle.limits.specs.Limits.{text_limit, word_limit, signal_count, parameter_count, last_literal}
+use Rattle.limits.specs.Limits.{text_limit, word_limit, signal_count, parameter_count, place_count, last_literal}
 use Rattle.limits.specs.declared.Context.{Context}
 use Rattle.lists.specs.Text.{byte}
 use Rattle.lists.specs.Number.{number_at}
@@ -10,7 +10,7 @@ use Rattle.lists.specs.Same.{same}
 use Rattle.lists.specs.Decimal.{Numeral, is_digit, numeral}
 use Rattle.lists.specs.Decimal.Numeral.{is, above, missing}
 use Rattle.words.specs.Word.{ROUND, ROUND-END, SQUARE, SQUARE-END, NOT, AND, OR, LE, LT, EQ, GT, GE, COMMA}
-use Rattle.words.specs.Word.{BEGIN, VEL, PARAMETER, SIGNAL, VELOCITY, LITERAL, keywords, within, is_op}
+use Rattle.words.specs.Word.{BEGIN, VEL, PARAMETER, EARLIER, SIGNAL, VELOCITY, LITERAL, keywords, within, is_op}
 use Rattle.words.specs.declared.Word.{Word}
 use Rattle.words.specs.declared.Word.TheVariants.{Made, Bad}
 
@@ -89,6 +89,15 @@ word_from base missing = Bad 2
 unfoldable pub number_of : ℕ → ℕ → List ℕ → Word
 number_of base max l = word_from base (numeral max l)
 
+-- SPEC 7.3: the number 0 is no place.
+abbrev pub from_one : Word → Word
+from_one (Made w) = cond (eqb w EARLIER) (Bad 3) (Made w)
+from_one (Bad n) = Bad n
+
+-- SPEC 2.12: a place, from 1 to the last.
+abbrev pub place_of : List ℕ → Word
+place_of l = from_one (number_of EARLIER place_count l)
+
 -- The word k places from the end of the words so far; 0 if there is none.
 abbrev pub back : ℕ → List ℕ → ℕ
 back k ws = number_at (reverse ws) k
@@ -103,14 +112,14 @@ abbrev pub literal_of : Context → Bool → List ℕ → Word
 literal_of context awaited r =
     cond awaited (number_of VELOCITY (context.velocities - 1) r) (number_of LITERAL last_literal r)
 
--- The word that a run is: a keyword (SPEC 2.5), by its first byte a signal or a parameter (SPEC 2.6), or else a
--- literal. Here and below `awaited` says whether the literal would be a velocity's.
+-- The word that a run is: a keyword (SPEC 2.5), by its first byte a signal, a parameter (SPEC 2.6) or a verdict
+-- (SPEC 2.12), or else a literal. Here and below `awaited` says whether the literal would be a velocity's.
 unfoldable pub run_of : Context → Bool → List ℕ → Word
 run_of context awaited r =
     cond (ltb 0 (keyword_of r)) (Made (keyword_of r))
     (cond (eqb (number_at r 0) (byte "s")) (number_of SIGNAL (signal_count - 1) (drop 1 r))
     (cond (eqb (number_at r 0) (byte "k")) (number_of PARAMETER (parameter_count - 1) (drop 1 r))
-    (literal_of context awaited r)))
+    (cond (eqb (number_at r 0) (byte "r")) (place_of (drop 1 r)) (literal_of context awaited r))))
 
 -- SPEC 2.3: `<` and `>` take in a `=` behind them.
 abbrev pub longest : ℕ → ℕ → Word

@@ -1,6 +1,6 @@
--- The words of a rule text (SPEC 2.3 to SPEC 2.7) and their numbers. Definitions only.
+-- The words of a rule text (SPEC 2.3 to SPEC 2.7, SPEC 2.11, SPEC 2.12) and their numbers. Definitions only.
 use Rattle.std.specs.Prelude.{Bool, ◌&&◌, ◌||◌, List, [], ◌∷◌, ℕ, ◌+◌, ◌-◌, leb}
-use Rattle.limits.specs.Limits.{signal_count, parameter_count, last_literal}
+use Rattle.limits.specs.Limits.{signal_count, parameter_count, place_count, last_literal}
 use Rattle.lists.specs.Text.{bytes}
 
 -- SPEC 2.3: the operators.
@@ -80,10 +80,14 @@ keywords =
     bytes "begin" ∷ bytes "end" ∷ bytes "point" ∷ bytes "held" ∷ bytes "kept" ∷ bytes "len" ∷ bytes "sum" ∷
     bytes "age" ∷ bytes "lag" ∷ bytes "then" ∷ bytes "chop" ∷ bytes "exists" ∷ bytes "v" ∷ []
 
--- SPEC 2.6: parameter n is the word PARAMETER + n, signal n the word SIGNAL + n. SPEC 2.11: the literal n of a velocity
--- test is the word VELOCITY + n. SPEC 2.7: any other literal n is the word LITERAL + n.
+-- SPEC 2.6: parameter n is the word PARAMETER + n, signal n the word SIGNAL + n. SPEC 2.12: the verdict of the rule at
+-- place n is the word EARLIER + n. SPEC 2.11: the literal n of a velocity test is the word VELOCITY + n. SPEC 2.7: any
+-- other literal n is the word LITERAL + n.
 abbrev pub PARAMETER : ℕ
 PARAMETER = 32
+
+abbrev pub EARLIER : ℕ
+EARLIER = 48
 
 abbrev pub SIGNAL : ℕ
 SIGNAL = 64
@@ -108,6 +112,10 @@ is_op w = within LE GE w
 
 unfoldable pub is_signal : ℕ → Bool
 is_signal w = within SIGNAL (SIGNAL + (signal_count - 1)) w
+
+-- SPEC 2.12: the verdict of the rule at a place, numbered from 1.
+unfoldable pub is_earlier : ℕ → Bool
+is_earlier w = within (EARLIER + 1) (EARLIER + place_count) w
 
 -- SPEC 3.5: what stands for n.
 unfoldable pub is_num : ℕ → Bool

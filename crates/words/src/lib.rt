@@ -1,13 +1,13 @@
-// The words of a rule text, as numbers (SPEC 2.3 to SPEC 2.7, SPEC 2.11). specs/Word.antt says which number is which
-// word, specs/Split.antt how a text is split.
+// The words of a rule text, as numbers (SPEC 2.3 to SPEC 2.7, SPEC 2.11, SPEC 2.12). specs/Word.antt says which
+// number is which word, specs/Split.antt how a text is split.
 #![tactic(auto)]
 
 ghost use Rattle.std.specs.Prelude.{◌≡◌, cond, ◌&&◌, ◌+◌, ◌≤◌, ◌<◌, ◌^◌, eqb, ltb, length, drop};
 ghost use Rattle.limits.specs.Limits.{literal_count};
-ghost use Rattle.words.specs.Word.{VEL, LITERAL, within, is_op, is_signal, is_num, is_velocity, is_bit, is_test};
-ghost use Rattle.words.specs.Word.{is_count};
-ghost use Rattle.words.specs.Split.{RUN, class_of, run, spelled_or, keyword_of, number_of, literal_of, run_of};
-ghost use Rattle.words.specs.Split.{longest, word_of, wrong_size};
+ghost use Rattle.words.specs.Word.{VEL, LITERAL, within, is_op, is_signal, is_earlier, is_num, is_velocity, is_bit};
+ghost use Rattle.words.specs.Word.{is_test, is_count};
+ghost use Rattle.words.specs.Split.{RUN, class_of, run, spelled_or, keyword_of, number_of, place_of, literal_of};
+ghost use Rattle.words.specs.Split.{run_of, longest, word_of, wrong_size};
 ghost use Rattle.words.specs.Width.{operator_width, width_of};
 ghost use Rattle.words.specs.Contract.{Ranged, Splittable, Begun, Splits};
 
@@ -68,16 +68,20 @@ pub const VEL: u32 = 26;
 
 pub const PARAMETER: u32 = 32;
 
+pub const EARLIER: u32 = 48;
+
 pub const SIGNAL: u32 = 64;
 
 pub const VELOCITY: u32 = 128;
 
 pub const LITERAL: u32 = 1000000;
 
-// The highest number of a signal and of a parameter.
+// The highest number of a signal, of a parameter and of a place.
 const LAST_SIGNAL: u32 = limits::SIGNALS - 1;
 
 const LAST_PARAMETER: u32 = limits::PARAMETERS as u32 - 1;
+
+pub const LAST_PLACE: u32 = limits::PLACES as u32;
 
 // Classes of bytes beside the operators, whose class is their word.
 const SPACE: u32 = 0;
@@ -209,6 +213,20 @@ fn number(digits: &[u8], base: u32, max: u32) -> Word
     }
 }
 
+// The verdict of the rule at a place, which is a number from 1 to the last place (SPEC 2.12).
+fn place_word(digits: &[u8]) -> Word
+    ensures { result ≡ place_of digits.now }
+{
+    let word = number(digits, EARLIER, LAST_PLACE);
+    let Word::Made(made) = word else {
+        return word;
+    };
+    if made == EARLIER {
+        return Word::Bad(3);
+    }
+    word
+}
+
 // A literal: up to the last velocity where one is awaited (SPEC 2.11), else up to the last literal (SPEC 2.7).
 fn literal_word(context: Context, awaited: bool, run: &[u8]) -> Word
     requires { Ranged context }
@@ -232,6 +250,7 @@ fn run_word(context: Context, awaited: bool, run: &[u8]) -> Word
     match run[0] {
         b's' => number(&run[1..], SIGNAL, LAST_SIGNAL),
         b'k' => number(&run[1..], PARAMETER, LAST_PARAMETER),
+        b'r' => place_word(&run[1..]),
         _ => literal_word(context, awaited, run),
     }
 }
@@ -365,6 +384,13 @@ pub fn is_signal(w: u32) -> bool
     ensures { result ≡ is_signal w }
 {
     is_within(SIGNAL, SIGNAL + LAST_SIGNAL, w)
+}
+
+// The verdict of the rule at a place.
+pub fn is_earlier(w: u32) -> bool
+    ensures { result ≡ is_earlier w }
+{
+    is_within(EARLIER + 1, EARLIER + LAST_PLACE, w)
 }
 
 // A parameter or a literal.

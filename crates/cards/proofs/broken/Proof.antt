@@ -13,6 +13,8 @@ broken_spec =
     (λ c. search rules)
     (λ c. search rules)
     (λ c. search rules)
+    (λ c. search rules)
+    (λ c ps l. rw c.in-First.is)
     (λ c ps l. rw c.in-Edition.is)
     (λ c ps l. rw c.in-Parameters.is)
     (λ c ps l. rw c.in-Rule.is)

@@ -28,8 +28,10 @@ end_spec =
     (λ c. search rules)
     (λ c. search rules)
     (λ c. search rules)
+    (λ c. search rules)
     ticks-left
     (λ c ps l. rw c.in-Over.is)
+    (λ c ps l. rw c.in-First.is)
     (λ c ps l. rw c.in-Edition.is)
     (λ c ps l. rw c.in-Parameters.is)
     (λ c ps l. rw c.in-Rule.is)

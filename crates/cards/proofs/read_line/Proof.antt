@@ -14,6 +14,15 @@ over-long c = (
   λ h. c.plain.ensures.1,
 )
 
+-- The first line.
+first : tie.Need-returns-in-First
+unfolding line_says
+first c = (
+  rw (c.plain-in-First.ensures.0, lt-leb _ _ c.if-s-ge-LINE.false, c.in-First.is)
+      (c.first_content.ensures _ _),
+  λ h. c.plain-in-First.ensures.1,
+)
+
 -- The edition.
 edition : tie.Need-returns-in-Edition
 unfolding line_says
@@ -95,6 +104,9 @@ read_line_spec =
     (λ c κs. search rules)
     (λ c. search rules)
     (λ c κs. search rules)
+    (λ c κs. search rules)
+    (λ c. search rules)
+    (λ c. search rules)
     (λ c. search rules)
     (λ c κs. search rules)
     (λ c κs. search rules)
@@ -108,6 +120,7 @@ read_line_spec =
     (λ c κs. search rules)
     (λ c. search rules)
     (λ c κs. search rules)
+    first
     edition
     parameters
     rule-broken

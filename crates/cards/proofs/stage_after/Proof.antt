@@ -10,7 +10,8 @@ use Rattle.cards.proofs.stage_after.Tie as tie
 -- A tick: the last one, where none is left, and another.
 tick-none-left : tie.Need-returns-then-left-eq0
 tick-none-left c ps l =
-    rw (c.stage_at-then-left-eq0.ensures, c.in-Tick.is) (ap (stage_at P.Ticks _) (omega arith))
+    rw (c.stage_at-then-left-eq0.ensures, c.in-Tick.is)
+    (ap (stage_at P.Ticks _ _ _) (omega arith))
 
 tick-counted : tie.Need-returns-else-left-eq0
 tick-counted c ps l = rw (c.stage_at-in-Tick.ensures, c.in-Tick.is)
@@ -29,6 +30,8 @@ stage_after_spec =
     (λ c κs. search rules)
     (λ c. search rules)
     (λ c κs. search rules)
+    (λ c. search rules)
+    (λ c κs. search rules)
     tick-none-left
     (λ c. search rules)
     (λ c κs. search rules)
@@ -36,10 +39,11 @@ stage_after_spec =
     (λ c κs. search rules)
     (λ c. search rules)
     (λ c κs. search rules)
-    (λ c ps l. rw (c.stage_at.ensures, c.in-Edition.is))
+    (λ c ps l. rw (c.stage_at.ensures, c.in-Cards.is))
+    (λ c ps l. rw (c.stage_at-in-Edition.ensures, c.in-Edition.is))
     (λ c ps l. rw (c.stage_at-in-Parameters.ensures, c.in-Parameters.is))
-    (λ c ps l. rw (c.stage_at-in-Rule.ensures, c.in-Rule.is))
+    (λ c ps l. rw (c.after_rule.ensures ps l, c.in-Rule.is))
     (λ c ps l. rw (c.stage_at-in-Count.ensures, c.in-Count.is))
     tick-counted
-    (λ c ps l. rw (c.stage_at-in-Refused.ensures, c.in-Refused.is))
-    (λ c ps l. rw (c.stage_at-in-Nothing.ensures, c.in-Nothing.is)))
+    (λ c ps l. rw (c.over_stage.ensures, c.in-Refused.is))
+    (λ c ps l. rw (c.over_stage-in-Nothing.ensures, c.in-Nothing.is)))

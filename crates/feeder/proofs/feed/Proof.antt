@@ -8,7 +8,7 @@ use borrow.Author.Rules.{rules}
 use lib.ListN.{length, drop, length-drop}
 use Rattle.lists.specs.Line.{line}
 use Rattle.player.specs.Card.{World, world_of}
-use Rattle.player.specs.Output.{output_bytes}
+use Rattle.player.specs.Output.{printed_by, output_bytes}
 use Rattle.feeder.specs.declared.Fed.{Fed}
 use Rattle.feeder.proofs.Moving.{put-length, with_rest}
 use Rattle.feeder.proofs.Feeding.{Between, begun, written-room, rest-room, ran_on, line-inside, said-room}
@@ -169,15 +169,19 @@ on-line-requires c κs =
           c.before.before.before.before;
     }
 
-room : (c : tie.After-put-arg-1 invariant-loop decreases-loop) →
-    let after-state-in-loop-out-1 = c.before.before.before.before.before in
+room : (c : tie.After-verdicts-in-loop-out-1 invariant-loop decreases-loop) →
+    let after-values-in-loop-out-1 = c.before.before.before.before.before in
+    let after-state-in-loop-out-1 = after-values-in-loop-out-1.before.before in
     let after-on_line-arg-in-loop-out-2-1 = after-state-in-loop-out-1.before.before.before.before.before in
     let after-struct_known-in-loop-out-1 = after-on_line-arg-in-loop-out-2-1.before.before.before.before.before in
     let after-slice_known-in-loop-out-2-1 = after-struct_known-in-loop-out-1.before.before.before.before.before in
     let after-feed_ticks-f = after-slice_known-in-loop-out-2-1.before.before.before.before in
-    at after-feed_ticks-f + length (output_bytes c.on_line-t.result.output) ≤ length (out after-feed_ticks-f)
+    let told = c.on_line-t.result in
+    at after-feed_ticks-f + length (output_bytes (printed_by told.output told.verdicts))
+    ≤ length (out after-feed_ticks-f)
 room c =
-    let after-state-in-loop-out-1 = c.before.before.before.before.before in
+    let after-values-in-loop-out-1 = c.before.before.before.before.before in
+    let after-state-in-loop-out-1 = after-values-in-loop-out-1.before.before in
     let after-on_line-arg-in-loop-out-2-1 = after-state-in-loop-out-1.before.before.before.before.before in
     let else-to-bytes = after-on_line-arg-in-loop-out-2-1.before.before.before in
     let after-slice_known-in-loop-out-3-1 = else-to-bytes.before.before.before.before.before in
@@ -188,7 +192,8 @@ room c =
 
 add-used-line : tie.Need-overflow_add-used-in-loop-out invariant-loop decreases-loop
 add-used-line c =
-    let after-slice_known-in-loop-out-6-1 = c.before.before.before.before.before in
+    let after-verdicts-1 = c.before.before.before.before.before in
+    let after-slice_known-in-loop-out-6-1 = after-verdicts-1.before.before in
     let after-table-1 = after-slice_known-in-loop-out-6-1.before.before.before.before.before in
     let after-on_line-arg-1 = after-table-1.before.before.before.before.before in
     let else-to-bytes = after-on_line-arg-1.before in
@@ -199,7 +204,8 @@ add-used-line c =
 
 loop-less : tie.Need-loop-out-smaller invariant-loop decreases-loop
 loop-less c =
-    let after-slice_known-in-loop-out-6-1 = c.before.before.before.before.before in
+    let after-verdicts-1 = c.before.before.before.before.before in
+    let after-slice_known-in-loop-out-6-1 = after-verdicts-1.before.before in
     let after-table-1 = after-slice_known-in-loop-out-6-1.before.before.before.before.before in
     let after-on_line-arg-1 = after-table-1.before.before.before.before.before in
     let else-to-bytes = after-on_line-arg-1.before in
@@ -207,7 +213,8 @@ loop-less c =
 
 loop-again : tie.Need-loop-out-preserved invariant-loop decreases-loop
 loop-again c =
-    let after-slice_known-in-loop-out-6-1 = c.before.before.before.before.before in
+    let after-verdicts-1 = c.before.before.before.before.before in
+    let after-slice_known-in-loop-out-6-1 = after-verdicts-1.before.before in
     let after-table-1 = after-slice_known-in-loop-out-6-1.before.before.before.before.before in
     let after-on_line-arg-1 = after-table-1.before.before.before.before.before in
     let else-to-bytes = after-on_line-arg-1.before in

@@ -7,24 +7,24 @@ use Rattle.player.specs.Output.{output_bytes}
 use Rattle.feeder.proofs.put.Statement.{statement}
 use Rattle.feeder.proofs.put.Tie as tie
 
-put-verdict-requires : tie.Need-put_verdict-requires
-put-verdict-requires c κs =
-    rw c.in-Verdict.is at c.requires
+put-verdicts-requires : tie.Need-put_verdicts-requires
+put-verdicts-requires c κs =
+    rw c.in-Verdicts.is at c.requires
 
 put-refusal-requires : tie.Need-put_refusal-requires
 put-refusal-requires c κs =
     rw c.in-Refused.is at c.requires
 
--- Nothing; a verdict; a refusal.
+-- Nothing; verdicts; a refusal.
 quiet : tie.Need-returns-in-Quiet
 unfolding output_bytes
 quiet c =
     let args = c.args in
     rw c.in-Quiet.is (omega arith, paste-zero args.out.now args.at [])
 
-verdict : tie.Need-returns-in-Verdict
-verdict c =
-    rw c.in-Verdict.is c.put_verdict.ensures
+verdicts : tie.Need-returns-in-Verdicts
+verdicts c =
+    rw c.in-Verdicts.is c.put_verdicts.ensures
 
 refusal : tie.Need-returns-in-Refused
 refusal c =
@@ -36,11 +36,11 @@ put_spec =
     (tie.spec
     (λ c. search rules)
     (λ c. search rules)
-    put-verdict-requires
+    put-verdicts-requires
     (λ c. search rules)
     put-refusal-requires
     quiet
     (λ c. search rules)
-    verdict
+    verdicts
     (λ c. search rules)
     refusal)

@@ -23,11 +23,11 @@ turn cap t k state values₀ values i x h inv e =
     ∙ flows-store cap t k state i x values₀ h (e ∙ ap (λ (l : List ℕ). value_at cap t k state l i) before)
 
 abbrev invariant-loop : tie.invariant-loop-i
-invariant-loop cap table n state values₀ tick ps i₀ values i =
+invariant-loop cap table n state values₀ tick rs ps i₀ values i =
     (i ≤ n) × (length values ≡ length values₀) × (values ≡ flows cap table tick state i ++ drop i values₀)
 
 abbrev decreases-loop : tie.decreases-loop-i
-decreases-loop cap table n state values₀ tick ps i₀ values i = n - i
+decreases-loop cap table n state values₀ tick rs ps i₀ values i = n - i
 
 loop-holds : tie.Need-loop-i-init invariant-loop decreases-loop
 loop-holds c =
@@ -63,7 +63,7 @@ fill_spec =
     (λ c. omega arith)
     (λ c. omega arith)
     slice-aggregate-value
-    (λ c κs. (omega arith, refl))
+    (λ c κs. (omega arith, refl, refl))
     (λ c. omega arith)
     (λ c. omega arith)
     (λ c. omega arith)

@@ -77,7 +77,7 @@ of-compare-literal c =
 of-compare-parameter : tie.Need-returns-in-11
 unfolding value_of kind_of
 of-compare-parameter c =
-    let tick = c.requires.1 in
+    let tick = c.requires.2 in
     rw (c.in-11.is, ← c.number_at-in-11.ensures, ← tick, ← c.number_at-in-11-2.ensures)
     (c.number-in-11.ensures ∙ ap truth c.compare-in-11.ensures)
 
@@ -85,6 +85,11 @@ of-velocity : tie.Need-returns-in-12
 unfolding value_of kind_of
 of-velocity c =
     rw c.in-12.is (c.number-in-12.ensures ∙ ap truth c.compare-in-12.ensures)
+
+of-earlier : tie.Need-returns-in-13
+unfolding value_of kind_of
+of-earlier c =
+    rw (c.in-13.is, ← c.requires.1) c.verdict_at.ensures
 
 of-no-kind : tie.Need-returns-in_default
 unfolding value_of
@@ -134,6 +139,7 @@ value_spec =
     (λ c κs. search rules)
     (λ c κs. search rules)
     (λ c κs. search rules)
+    (λ c κs. search rules)
     of-signal
     of-start
     of-constant
@@ -147,4 +153,5 @@ value_spec =
     of-compare-literal
     of-compare-parameter
     of-velocity
+    of-earlier
     of-no-kind)

@@ -62,6 +62,10 @@ of-velocity : tie.Need-returns-in-12
 unfolding kind_of forms first_of first_form form_number
 of-velocity c = rw c.in-12.is
 
+of-earlier : tie.Need-returns-in-13
+unfolding kind_of forms first_of first_form form_number
+of-earlier c = rw c.in-13.is
+
 -- No other number is that of a kind.
 of_other : tie.Need-returns-in_default
 unfolding form_number
@@ -94,4 +98,5 @@ form_of_spec =
     of-compare-literal
     of-compare-parameter
     of-velocity
+    of-earlier
     of_other)

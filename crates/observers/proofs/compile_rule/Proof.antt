@@ -5,11 +5,11 @@ use borrow.Author.Rules.{rules}
 use lib.ListN.{replicate}
 use lib.Seq.{length-take-le}
 use Rattle.limits.specs.Limits.{arena_limit}
-use Rattle.limits.specs.Context.{standard_context}
-use Rattle.words.proofs.Bounds.{standard-ranged}
+use Rattle.limits.specs.Context.{context_at}
+use Rattle.words.proofs.Bounds.{context-ranged}
 use Rattle.rules.specs.Computed.{rule_of}
 use Rattle.rules.specs.Laid.{Laid}
-use Rattle.rules.proofs.Laid.{readable, standard-laid, Front, front_of, refused_as}
+use Rattle.rules.proofs.Laid.{readable, laid-at, Front, front_of, refused_as}
 use Rattle.observers.specs.Demand.Compiles.{not-read, no_room}
 use Rattle.observers.proofs.Demand.{has-rule, refused-compiled, short-compiled, emitted-rule}
 use Rattle.observers.proofs.compile_rule.Statement.{statement}
@@ -17,19 +17,20 @@ use Rattle.observers.proofs.compile_rule.Tie as tie
 
 -- What the reading leaves.
 laid : (c : tie.After-read_tree-records) →
-    Laid (rule_of standard_context c.args.text.now) (replicate arena_limit 0) c.read_tree-records.result
-    c.read_tree-records.new.arena
-laid c = standard-laid c.standard.ensures _ c.read_tree-records.ensures
+    Laid (rule_of (context_at c.args.place) c.args.text.now) (replicate arena_limit 0)
+    c.read_tree-records.result c.read_tree-records.new.arena
+laid c = laid-at c.args.place c.context_at.ensures _ c.read_tree-records.ensures
 
 -- The text is no rule.
 no-rule : tie.Need-returns-in_default
 no-rule c =
     let e = refused_as (laid c.before.before.before) c.in_default.field-0 _ c.in_default.is c.records_refusal.ensures in
-    (refused-compiled standard_context c.args.text.now _ _ e, not-read (has-rule e))
+    let args = c.args in
+    (refused-compiled (context_at args.place) args.text.now _ _ e, not-read (has-rule e))
 
 -- The tree that was read, its numbers at the front of the arena.
 tree : (c : tie.In-Rule) →
-    Front (rule_of standard_context c.args.text.now) c.in-Rule.size
+    Front (rule_of (context_at c.args.place) c.args.text.now) c.in-Rule.size
     c.read_tree-records.new.arena
 tree c =
     front_of (laid c.before.before) (omega arith) c.in-Rule.size _ c.in-Rule.is
@@ -38,9 +39,11 @@ tree c =
 short-table : tie.Need-returns-then-table-lt-TABLE
 short-table c =
     let h = tree c.before in
-    let text = c.args.text.now in
-    let short = c.if-table-lt-TABLE.true in
-    (short-compiled standard_context text _ h.tree h.is short, no_room (has-rule h.is) short)
+    let args = c.args in
+    let short = c.if-table-lt-TABLE.true in (
+      short-compiled (context_at args.place) args.text.now _ h.tree h.is short,
+      no_room (has-rule h.is) short,
+    )
 
 array-share-prefix-arena : tie.Need-slice_bounds-arena-end
 array-share-prefix-arena c = let h = tree c.before in omega (arith, h.fits)
@@ -64,8 +67,8 @@ emitted c =
     let in-Rule = else-table-lt-TABLE.before in
     let h = tree in-Rule in
     let args = c.args in
-    emitted-rule standard_context standard-ranged args.text.now args.table.now h.tree h.is
-    c.if-table-lt-TABLE.false _ _ _ h.front c.emit_observer-n.ensures
+    emitted-rule (context_at args.place) (context-ranged args.place) args.text.now args.table.now h.tree
+    h.is c.if-table-lt-TABLE.false _ _ _ h.front c.emit_observer-n.ensures
 
 pub compile_rule_spec : {M : Type 1} → statement M
 compile_rule_spec =
@@ -73,7 +76,7 @@ compile_rule_spec =
     (tie.spec
     (λ c κs. search rules)
     (λ c. search rules)
-    (λ c κs. readable c.standard.ensures (omega arith))
+    (λ c κs. readable _ c.context_at.ensures (omega arith))
     (λ c. search rules)
     (λ c. search rules)
     (λ c κs. search rules)

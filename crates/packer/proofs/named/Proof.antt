@@ -24,6 +24,10 @@ a-velocity : tie.Need-returns-in-Velocity
 unfolding mixed_number
 a-velocity c = rw c.in-Velocity.is
 
+a-place : tie.Need-returns-in-Place
+unfolding mixed_number
+a-place c = rw c.in-Place.is
+
 pub named_spec : {M : Type 1} → statement M
 named_spec =
     tie.close
@@ -35,8 +39,10 @@ named_spec =
     (λ c κs. search rules)
     (λ c. search rules)
     (λ c. search rules)
+    (λ c. search rules)
     unused
     earlier
     anywhere
     below
-    a-velocity)
+    a-velocity
+    a-place)

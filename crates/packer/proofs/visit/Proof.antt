@@ -42,6 +42,10 @@ a-velocity : tie.Need-returns-in-Velocity
 unfolding visited
 a-velocity c = rw c.in-Velocity.is
 
+a-place : tie.Need-returns-in-Place
+unfolding visited
+a-place c = rw c.in-Place.is
+
 pub visit_spec : {M : Type 1} → statement M
 visit_spec =
     tie.close
@@ -57,6 +61,7 @@ visit_spec =
     anywhere
     (λ c. search rules)
     (λ c. search rules)
+    (λ c. search rules)
     unused
     (λ c. search rules)
     (λ c. search rules)
@@ -65,4 +70,5 @@ visit_spec =
     (λ c. search rules)
     pushed'
     constant
-    a-velocity)
+    a-velocity
+    a-place)

@@ -1,5 +1,5 @@
--- `parser::leaf` meets its contract: one record, where the word is a signal or a bit; else what a velocity test gives.
--- Assumes nothing.
+-- `parser::leaf` meets its contract: one record, where the word is a signal or a bit; else what a verdict or a velocity
+-- test gives. Assumes nothing.
 use mathlib.Core.Bool.{true, false}
 use mathlib.Core.List.{List}
 use mathlib.Core.Path.{◌≡◌, refl, sym, ap, ◌∙◌}
@@ -8,35 +8,23 @@ use borrow.Author.Rules.{rules}
 use native.Mathlib.Omega.{arith}
 use lib.ListN.{length}
 use Rattle.traces.specs.Trace.{truth}
-use Rattle.formulas.specs.Arena.{row, flat, CONSTANT, SIGNAL}
-use Rattle.formulas.specs.Tree.{Tree}
+use Rattle.formulas.specs.Arena.{row, CONSTANT, SIGNAL}
 use Rattle.formulas.specs.Tree.Tree.{constant, signal}
 use Rattle.words.specs.Word.{is_bit, is_signal}
 use Rattle.grammar.specs.Grammar.{bit_word, signal_word}
-use Rattle.grammar.specs.Parse.{leaf_at, word}
-use Rattle.grammar.specs.Parse.Result.{ok}
+use Rattle.grammar.specs.Parse.{word}
 use Rattle.grammar.proofs.Position.{signal-pos, bit-pos}
 use Rattle.grammar.proofs.Words.{bit-truth}
-use Rattle.facts.specs.Facts.{facts_of, leaf_facts}
-use Rattle.facts.specs.declared.Facts.{Facts}
-use Rattle.parser.specs.Contract.{ParsesVelocity, ParsesLeaf, Pushed}
+use Rattle.parser.specs.Contract.{ParsesEarlier, ParsesLeaf}
 use Rattle.parser.specs.declared.Parsed.{Parsed}
-use Rattle.parser.specs.declared.Parsed.TheVariants.{At}
-use Rattle.parser.proofs.Stored.{to-tree, to_same, reads-to, pushed, stored-as, past_first, fits-push}
+use Rattle.parser.proofs.Stored.{to_same, reads-to, one-record, past_first, fits-push}
 use Rattle.parser.proofs.leaf.Statement.{statement}
 use Rattle.parser.proofs.leaf.Tie as tie
 
 module _ {ws : List ℕ} {i : ℕ} {before : List ℕ} {top : ℕ} {after : List ℕ} where
-  -- The record of a tree t without parts.
-  one-record : (t : Tree) {k a e : ℕ} {f : Facts} → leaf_at ws i ≡ ok t (i + 1) → facts_of t ≡ leaf_facts →
-      flat t ≡ row k a 0 0 → Pushed before top k a 0 0 e after → f ≡ leaf_facts →
-      ParsesLeaf ws i before top (At (i + 1) e f) after
-  one-record t is known records u facts =
-      reads-to (to-tree t is (stored-as (sym records) (pushed u)) (facts ∙ sym known))
-
-  -- Another word may begin a velocity test.
+  -- Another word may be a verdict or begin a velocity test.
   other-leaf : {r : Parsed} → is_signal (word ws i) ≡ false → is_bit (word ws i) ≡ false →
-      ParsesVelocity ws i before top r after → ParsesLeaf ws i before top r after
+      ParsesEarlier ws i before top r after → ParsesLeaf ws i before top r after
   other-leaf s b h = reads-to (to_same (simp (s, b)) (record { result = h.result; filled = h.filled }))
 
 -- A word leaves room for one record.
@@ -89,7 +77,7 @@ neither : tie.Need-returns
 neither c =
     let w = sym c.number_at-w.ensures in
     other-leaf (ap is_signal w ∙ sym c.is_signal.ensures ∙ c.if-is_signal.false)
-    (ap is_bit w ∙ sym c.is_bit.ensures ∙ c.if-is_bit.false) c.velocity.ensures
+    (ap is_bit w ∙ sym c.is_bit.ensures ∙ c.if-is_bit.false) c.earlier.ensures
 
 pub leaf_spec : {M : Type 1} → statement M
 leaf_spec =

@@ -2,14 +2,20 @@
 use mathlib.Core.Path.{◌∙◌, ap}
 use mathlib.Core.List.{[]}
 use borrow.Author.Rules.{rules}
-use Rattle.player.specs.Card.{stopped, last_output}
+use Rattle.player.specs.Card.{last_output}
+use Rattle.player.specs.Output.{printed_by}
+use Rattle.player.specs.declared.Answered.{Answered}
 use Rattle.player.proofs.end_over_long.Statement.{statement}
 use Rattle.player.proofs.end_over_long.Tie as tie
 
 returns : tie.Need-returns
-returns c =
-    c.stop.ensures
-    ∙ ap stopped (c.last_output.ensures [] [] ∙ ap last_output (c.broken.ensures [] []))
+returns c = (
+  λ vs.
+      ap (λ (r : Answered). printed_by r.output vs) c.stop.ensures
+      ∙ c.last_output.ensures [] [] vs
+      ∙ ap last_output (c.broken.ensures [] []),
+  ap (λ (r : Answered). r.watch) c.stop.ensures,
+)
 
 pub end_over_long_spec : {M : Type 1} → statement M
 end_over_long_spec =

@@ -1,12 +1,15 @@
 -- `player::on_line` meets its contract: one case for each thing that the line says, and for each answer to it. At
--- `After-stage-after` it is known what the line says, and the stage after it. Assumes nothing.
+-- `After-slot-j` it is known what the line says, the stage after it, and how many rules stand before the one whose line
+-- it is. Assumes nothing.
 use mathlib.Core.Path.{◌≡◌, sym, ◌∙◌, ap}
 use mathlib.Core.List.{List}
 use Prim.Native.Nat.{ℕ, ◌-◌}
 use native.Mathlib.Omega.{arith}
 use borrow.Author.Rules.{rules}
 use lib.ListN.{length, take, drop}
+use Rattle.limits.specs.Limits.{parameter_count}
 use Rattle.observers.specs.declared.Compiled.{Compiled}
+use Rattle.sets.specs.Windows.{with_part}
 use Rattle.lists.specs.Line.{line_from}
 use Rattle.cards.specs.Says.{says_by, line_says}
 use Rattle.cards.specs.declared.Stage.{Stage}
@@ -14,15 +17,19 @@ use Rattle.cards.specs.declared.Content.{Content}
 use Rattle.cards.specs.declared.Content.TheVariants as Line
 use Rattle.lists.proofs.Lines.{take-line}
 use Rattle.reader.specs.Part.{rule_from}
-use Rattle.player.specs.Card.{World, velocities_in, world_of, AfterRule, after_rule, rule_made, rule_effect, played_to}
+use Rattle.player.specs.Card.{World, world_of, velocities_in, context_in, slot_in, effect_of, AfterRule}
+use Rattle.player.specs.Card.{after_rule, rule_played, rule_answer, ruled_world, rule_effect, moved_to, played_to}
 use Rattle.player.specs.Card.{lined}
-use Rattle.player.proofs.Playing.{plays, text_at}
+use Rattle.player.specs.Output.{printed_by}
+use Rattle.player.specs.Output.Printed.{quiet}
+use Rattle.player.specs.declared.Answered.{Answered}
+use Rattle.player.proofs.Playing.{plays, text_at, rule-answered}
 use Rattle.player.proofs.on_line.Statement.{statement}
 use Rattle.player.proofs.on_line.Tie as tie
 
 -- ---- what is known of the line
 
-module _ (c : tie.After-stage_after-next) where
+module _ (c : tie.After-slot-j) where
   abbrev told : Content
   told = c.read_line-read.result.content
 
@@ -58,34 +65,55 @@ module _ (c : tie.After-stage_after-next) where
       ap (λ (y : Content). played_to next (says_by y eight line) world) (sym e)
       ∙ plays world line _ _ says (c.stage_after-next.ensures _ _)
 
-  -- The rule, with this answer and this table and state after it.
-  rule-ends : told ≡ Line.Rule → (r : Compiled) (t s : List ℕ) → after_rule r t s
-      ≡ rule_made world.context (rule_from c.args.bytes.now c.args.at) world.table
-      world.state
-      → rule_effect next (after_rule r t s) world ≡ lined world line
-  rule-ends e r t s h =
+  -- The parameters, where these are those of all rules after it.
+  parameters-end : told ≡ Line.Parameters → (j : ℕ) → j ≡ slot_in world → (ps : List ℕ)
+      → ps ≡ with_part parameter_count j eight world.parameters
+      → moved_to next quiet (world_of world.watch ps world.table world.state world.values) ≡ lined world line
+  parameters-end e j i ps h = rw (h, i) (ends Line.Parameters e)
+
+  -- The rule, with this answer and these tables and states after it.
+  abbrev play : ℕ → List ℕ → AfterRule
+  play j text = rule_played (context_in world) j text world.table world.state
+
+  abbrev text : List ℕ
+  text = rule_from c.args.bytes.now c.args.at
+
+  rule-ends : told ≡ Line.Rule → (j : ℕ) → j ≡ slot_in world → (r : Compiled) (t s : List ℕ)
+      → after_rule r t s ≡ play j text → (a : Answered) → a ≡ rule_answer next world.watch.sizes j r
+      → effect_of (printed_by a.output a.verdicts)
+      (world_of a.watch world.parameters t s world.values)
+      ≡ lined world line
+  rule-ends e j i r t s h a is =
       let args = c.args in
-      let is : says_by Line.Rule eight line ≡ line_says (velocities_in world) world.watch.stage line =
-      ap (λ (y : Content). says_by y eight line) (sym e) ∙ says in
-      let text = text_at (velocities_in world) world.watch.stage args.bytes.now args.at is in
-      ap (λ (x : AfterRule). rule_effect next x world)
-      (h ∙ ap (λ (l : List ℕ). rule_made world.context l world.table world.state) text)
-      ∙ ends Line.Rule e
+      let k = world.watch.stage in
+      let reads = ap (λ (y : Content). says_by y eight line) (sym e) ∙ says in
+      let part = text_at (velocities_in world) k args.bytes.now args.at reads in
+      rw (is, i)
+      (rule-answered next r (ruled_world (after_rule r t s) world)
+      ∙ ap (λ (x : AfterRule). rule_effect next x world)
+      (h ∙ ap (λ (n : ℕ). play n text) i ∙ ap (play (slot_in world)) part)
+      ∙ ends Line.Rule e)
 
 -- ---- the ways out
 
--- The edition, the parameters, the number of ticks, a refusal, nothing.
+-- The number of rules, the edition, the parameters, the number of ticks, a refusal, nothing.
+cards : tie.Need-returns-in-Cards
+cards c =
+    rw c.go_quietly.ensures (ends c.before.before (Line.Cards _) c.in-Cards.is)
+
 edition : tie.Need-returns-in-Edition
 edition c =
-    rw c.go_on.ensures (ends c.before.before (Line.Edition _) c.in-Edition.is)
+    rw c.go_quietly-in-Edition.ensures (ends c.before.before (Line.Edition _) c.in-Edition.is)
 
 parameters : tie.Need-returns-in-Parameters
 parameters c =
-    rw c.go_on-in-Parameters.ensures (ends c.before.before.before Line.Parameters c.in-Parameters.is)
+    rw c.go_quietly-in-Parameters.ensures
+    (parameters-end c.before.before.before.before.before c.in-Parameters.is _ c.slot-j.ensures.0 _
+    c.put_parameters.ensures)
 
 count : tie.Need-returns-in-Count
 count c =
-    rw c.go_on-in-Count.ensures (ends c.before.before (Line.Count _) c.in-Count.is)
+    rw c.go_quietly-in-Count.ensures (ends c.before.before (Line.Count _) c.in-Count.is)
 
 refused : tie.Need-returns-in-Refused
 refused c =
@@ -96,16 +124,17 @@ nothing c = rw c.stop-in-Nothing.ensures (ends c.before.before Line.Nothing c.in
 
 rule : tie.Need-returns-in-Rule
 rule c =
-    let after-rule_line = c.before.before.before.before.before in
-    let after-stage_after-next = after-rule_line.before.before.before.before in
-    rw c.rule_answer.ensures
-    (rule-ends after-stage_after-next c.in-Rule.is _ _ _ c.rule_line.ensures)
+    let after-rule_in-compiled = c.before.before.before.before.before in
+    let after-slot-j = after-rule_in-compiled.before.before.before.before in
+    let slot = c.slot-j.ensures.0 in
+    rule-ends after-slot-j c.in-Rule.is _ slot _ _ _ c.rule_in-compiled.ensures _
+    c.rule_answer.ensures
 
 tick : tie.Need-returns-in-Tick
 tick c =
     let after-on_tick-arg-in-Tick-1 = c.before.before.before.before.before in
-    let after-stage_after-next = after-on_tick-arg-in-Tick-1.before.before.before in
-    c.on_tick.ensures ∙ ends after-stage_after-next (Line.Tick _ _ _) c.in-Tick.is
+    let after-slot-j = after-on_tick-arg-in-Tick-1.before.before.before in
+    c.on_tick.ensures ∙ ends after-slot-j (Line.Tick _ _ _) c.in-Tick.is
 
 pub on_line_spec : {M : Type 1} → statement M
 on_line_spec =
@@ -116,12 +145,6 @@ on_line_spec =
     (λ c. search rules)
     (λ c κs. search rules)
     (λ c κs. search rules)
-    (λ c. search rules)
-    (λ c κs. search rules)
-    (λ c. search rules)
-    (λ c κs. search rules)
-    (λ c. search rules)
-    (λ c κs. search rules)
     (λ c κs. search rules)
     (λ c. search rules)
     (λ c κs. search rules)
@@ -129,8 +152,19 @@ on_line_spec =
     (λ c κs. search rules)
     (λ c. search rules)
     (λ c κs. search rules)
+    (λ c κs. search rules)
     (λ c. search rules)
     (λ c κs. search rules)
+    (λ c κs. search rules)
+    (λ c. search rules)
+    (λ c κs. search rules)
+    (λ c. search rules)
+    (λ c κs. search rules)
+    (λ c. search rules)
+    (λ c κs. search rules)
+    (λ c. search rules)
+    (λ c κs. search rules)
+    cards
     edition
     parameters
     (λ c. search rules)

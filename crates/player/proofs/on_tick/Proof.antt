@@ -1,6 +1,6 @@
--- `player::on_tick` meets its contract: the step gives a verdict, or a refusal. Assumes nothing.
+-- `player::on_tick` meets its contract: the steps give verdicts, or a refusal. Assumes nothing.
 use borrow.Author.Rules.{rules}
-use Rattle.flows.specs.declared.Stepped.TheVariants as S
+use Rattle.sets.specs.declared.Ticked.TheVariants as S
 use Rattle.player.specs.Card.{World, world_of}
 use Rattle.player.proofs.Playing.{step-ends}
 use Rattle.player.proofs.on_tick.Statement.{statement}
@@ -8,28 +8,32 @@ use Rattle.player.proofs.on_tick.Tie as tie
 
 -- ---- the places
 
-abbrev world : tie.After-step-stepped → World
+abbrev world : tie.After-step_rules-told → World
 world c =
     let args = c.args in
     world_of args.w args.parameters.now args.table.now args.state.now args.values.now
 
 -- ---- the ways out
 
-verdict : tie.Need-returns-in-Verdict
-verdict c =
-    let after-state-1 = c.before.before.before.before.before in
-    let after-step-stepped = after-state-1.before in
-    rw c.go_on.ensures
-    (step-ends _ _ _ _ (world after-step-stepped) _ (S.Verdict _) _ _ _ c.tick_of-now.ensures c.in-Verdict.is
-    c.step-stepped.ensures)
+verdicts : tie.Need-returns-in-Verdicts
+verdicts c =
+    let after-slice_known-3-1 = c.before.before.before.before.before in
+    let after-step_rules-told = after-slice_known-3-1.before.before in
+    let args = c.args in
+    let m = c.card_count-m.ensures.0 in
+    rw (c.go_on.ensures, m)
+    (step-ends args.next args.start args.signals args.velocity (world after-step_rules-told) _ S.Verdicts _ _ _ _ m
+    c.in-Verdicts.is c.step_rules-told.ensures)
 
 refused : tie.Need-returns-in-Refused
 refused c =
-    let after-state-1 = c.before.before.before.before.before in
-    let after-step-stepped = after-state-1.before in
+    let after-slice_known-3-1 = c.before.before.before.before.before in
+    let after-step_rules-told = after-slice_known-3-1.before.before in
+    let args = c.args in
+    let m = c.card_count-m.ensures.0 in
     rw c.stop.ensures
-    (step-ends _ _ _ _ (world after-step-stepped) _ (S.Refused _) _ _ _ c.tick_of-now.ensures c.in-Refused.is
-    c.step-stepped.ensures)
+    (step-ends args.next args.start args.signals args.velocity (world after-step_rules-told) _ (S.Refused _) _ _ _ _ m
+    c.in-Refused.is c.step_rules-told.ensures)
 
 pub on_tick_spec : {M : Type 1} → statement M
 on_tick_spec =
@@ -43,7 +47,7 @@ on_tick_spec =
     (λ c κs. search rules)
     (λ c. search rules)
     (λ c. search rules)
-    verdict
+    verdicts
     (λ c. search rules)
     (λ c. search rules)
     refused)

@@ -7,7 +7,8 @@ refused : tie.Need-returns-in-Refused
 refused c = rw (c.stop.ensures, c.in-Refused.is)
 
 compiled : tie.Need-returns-in-Equations
-compiled c = rw (c.go_on.ensures, c.in-Equations.is)
+compiled c =
+    rw (c.go_quietly.ensures, c.with_size.ensures, c.in-Equations.is)
 
 pub rule_answer_spec : {M : Type 1} → statement M
 rule_answer_spec =
@@ -16,6 +17,7 @@ rule_answer_spec =
     (λ c. search rules)
     (λ c κs. search rules)
     (λ c. search rules)
+    (λ c κs. search rules)
     (λ c κs. search rules)
     refused
     compiled)

@@ -7,38 +7,43 @@ use mathlib.Core.Path.{◌≡◌, sym, ap, ap₂, ◌∙◌}
 use Prim.Native.Nat.{ℕ, ◌≤◌}
 use native.Mathlib.Omega.{arith}
 use borrow.Author.Rules.{rules}
+use borrow.Author.Tests.{not-true, not-false}
 use lib.ListN.{length, take, replicate}
 use lib.Seq.{length-take-le}
-use Rattle.limits.specs.Limits.{arena_limit}
-use Rattle.limits.specs.Context.{standard_context}
+use Rattle.limits.specs.Limits.{place_count, arena_limit}
+use Rattle.limits.specs.Context.{context_at}
+use Rattle.limits.specs.declared.Context.{Context}
 use Rattle.rules.specs.Reading.{Outcome}
 use Rattle.rules.specs.Computed.{rule_of, side_of, same_of, comparison}
 use Rattle.rules.specs.Same.{SameAnswer}
 use Rattle.rules.specs.declared.Same.{Same}
 use Rattle.rules.specs.declared.Same.TheVariants.{Yes, No}
 use Rattle.rules.specs.Laid.{Laid}
-use Rattle.rules.proofs.Laid.{readable, standard-side, Front, front_of, refused_as}
+use Rattle.rules.proofs.Laid.{readable, side-at, Front, front_of, refused_as}
 use Rattle.rules.proofs.Sameness.{same_answer, by-trees, by_values}
 use Rattle.rules.proofs.same_rule.Statement.{statement}
 use Rattle.rules.proofs.same_rule.Tie as tie
 
--- The outcomes of the two sides.
+-- The context of the last place, and the outcomes of the two sides.
+abbrev last : Context
+last = context_at place_count
+
 abbrev outcome : tie.After-read_side-records → Outcome
-outcome c = side_of c.args.ps.now (rule_of standard_context c.args.first.now)
+outcome c = side_of c.args.ps.now (rule_of last c.args.first.now)
 
 abbrev other-outcome : tie.After-read_side-records → Outcome
-other-outcome c = side_of c.args.qs.now (rule_of standard_context c.args.second.now)
+other-outcome c = side_of c.args.qs.now (rule_of last c.args.second.now)
 
 -- What the first reading leaves, and the second.
 first-laid : (c : tie.After-read_side-records) →
     Laid (outcome c) (replicate arena_limit 0) c.read_side-records.result c.read_side-records.new.arena
-first-laid c = standard-side c.standard-context.ensures c.args.ps.now _ c.read_side-records.ensures
+first-laid c = side-at place_count c.context_at-context.ensures c.args.ps.now _ c.read_side-records.ensures
 
 second-laid : (c : tie.After-read_side-others) →
     Laid (other-outcome c.before.before.before.before) (replicate arena_limit 0) c.read_side-others.result
     c.read_side-others.new.arena
 second-laid c =
-    standard-side c.standard-context.ensures c.args.qs.now _ c.read_side-others.ensures
+    side-at place_count c.context_at-context.ensures c.args.qs.now _ c.read_side-others.ensures
 
 -- The first side's tree, and the second's.
 first-tree : (c : tie.In-Rule) →
@@ -53,9 +58,9 @@ second-tree : (c : tie.In-Rule-others) →
 second-tree c = front_of (second-laid c.before.before) (omega arith) _ _ c.in-Rule-others.is
 
 -- An answer that is the computed one is the one that SPEC 8.3 has.
-told : (a ps b qs : List ℕ) (r : Same) → r ≡ comparison standard_context a ps b qs
-    → (r ≡ comparison standard_context a ps b qs) × SameAnswer standard_context a ps b qs r
-told a ps b qs r e = (e, same_answer standard_context a ps b qs r e)
+told : (a ps b qs : List ℕ) (r : Same) → r ≡ comparison last a ps b qs
+    → (r ≡ comparison last a ps b qs) × SameAnswer last a ps b qs r
+told a ps b qs r e = (e, same_answer last a ps b qs r e)
 
 -- A refused side.
 refuses-first : tie.Need-returns-in_default
@@ -149,13 +154,19 @@ two-values c =
     told args.first.now args.ps.now args.second.now args.qs.now _
     (one-tree c.before false c.if-values_agree.false)
 
+-- What the readings ask.
+first-readable : tie.Need-read_side-records-requires
+first-readable c κs = readable place_count c.context_at-context.ensures (omega arith)
+
+second-readable : tie.Need-read_side-others-requires
+second-readable c κs = readable place_count c.context_at-context.ensures (omega arith)
+
 pub same_rule_spec : {M : Type 1} → statement M
 same_rule_spec =
     tie.close
     (tie.spec
-    (λ c κs. search rules) (λ c. search rules) (λ c κs. readable c.standard-context.ensures (omega arith))
-    (λ c. search rules) (λ c. search rules) (λ c κs. search rules) refuses-first (λ c. search rules)
-    (λ c κs. readable c.standard-context.ensures (omega arith)) (λ c. search rules)
+    (λ c κs. search rules) (λ c. search rules) first-readable (λ c. search rules) (λ c. search rules)
+    (λ c κs. search rules) refuses-first (λ c. search rules) second-readable (λ c. search rules)
     (λ c. search rules) (λ c κs. search rules) refuses-second
     first_part first-part-length second-part second-part-length (λ c κs. search rules) two-trees
     first-again first-again-length (λ c κs. search rules) same-values two-values)

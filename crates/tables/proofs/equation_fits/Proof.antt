@@ -1,5 +1,5 @@
 -- `tables::equation_fits` meets its contract: each arm reads what A, B and C have to be in the row of its own number
--- and tests them by it. One law, `row_fits`, is for all thirteen: the search finds the arm's number, the three operands
+-- and tests them by it. One law, `row_fits`, is for all fourteen: the search finds the arm's number, the three operands
 -- and the test among the places before it. Assumes nothing.
 use Rattle.lists.proofs.Choice.{none_below}
 use Rattle.tables.proofs.Checks.{row_fits, no_row}
@@ -70,6 +70,11 @@ equation_fits_spec =
     (λ c κs. search rules)
     (λ c κs. search rules)
     (λ c κs. search rules)
+    (λ c κs. search rules)
+    (λ c κs. search rules)
+    (λ c κs. search rules)
+    (λ c κs. search rules)
+    (λ c. search row_fits)
     (λ c. search row_fits)
     (λ c. search row_fits)
     (λ c. search row_fits)

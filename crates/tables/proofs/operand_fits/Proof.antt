@@ -24,6 +24,10 @@ a-velocity : tie.Need-returns-in-Velocity
 unfolding operand_fits
 a-velocity c = rw c.in-Velocity.is
 
+a-place : tie.Need-returns-in-Place
+unfolding operand_fits
+a-place c = rw c.in-Place.is c.is_place.ensures
+
 pub operand_fits_spec : {M : Type 1} → statement M
 operand_fits_spec =
     tie.close
@@ -35,8 +39,11 @@ operand_fits_spec =
     (λ c κs. search rules)
     (λ c. search rules)
     (λ c. search rules)
+    (λ c. search rules)
+    (λ c κs. search rules)
     unused
     earlier
     anywhere
     below
-    a-velocity)
+    a-velocity
+    a-place)

@@ -1,5 +1,5 @@
 -- `tables::row_of` meets its contract: each arm reads the row of its own number. One law, `row_is`, is for all
--- thirteen: the search finds the arm's number and the row among the places before it. Assumes nothing.
+-- fourteen: the search finds the arm's number and the row among the places before it. Assumes nothing.
 use Rattle.lists.proofs.Choice.{none_below}
 use Rattle.tables.proofs.Numbers.{kind-beyond, row_is}
 use Rattle.tables.specs.Kind.{kind_count}
@@ -29,6 +29,8 @@ row_of_spec =
     (λ c κs. search rules)
     (λ c κs. search rules)
     (λ c κs. search rules)
+    (λ c κs. search rules)
+    (λ c. search row_is)
     (λ c. search row_is)
     (λ c. search row_is)
     (λ c. search row_is)

@@ -1,5 +1,5 @@
 -- `tables::sort_of` meets its contract: each arm reads the sort in the row of its own number. One law, `row_gives`, is
--- for all thirteen: the search finds the arm's number and the sort among the places before it. Assumes nothing.
+-- for all fourteen: the search finds the arm's number and the sort among the places before it. Assumes nothing.
 use Rattle.lists.proofs.Choice.{none_below}
 use Rattle.tables.proofs.Numbers.{kind-beyond, row_gives}
 use Rattle.tables.specs.Kind.{kind_count}
@@ -29,6 +29,8 @@ sort_of_spec =
     (λ c κs. search rules)
     (λ c κs. search rules)
     (λ c κs. search rules)
+    (λ c κs. search rules)
+    (λ c. search row_gives)
     (λ c. search row_gives)
     (λ c. search row_gives)
     (λ c. search row_gives)

@@ -8,8 +8,8 @@ use borrow.Author.Tests.{lt-ltb}
 use borrow.Author.Rules.{part_to_end}
 use Rattle.limits.specs.Limits.{signal_count, parameter_count}
 use Rattle.words.specs.Word.{PARAMETER, SIGNAL}
-use Rattle.words.specs.Split.{keyword_of, number_of, run_of}
-use Rattle.words.proofs.Runs.{run-signal, run-parameter, run-literal}
+use Rattle.words.specs.Split.{keyword_of, number_of, place_of, run_of}
+use Rattle.words.proofs.Runs.{run-signal, run-parameter, run-place, run-literal}
 use Rattle.words.proofs.run_word.Statement.{statement}
 use Rattle.words.proofs.run_word.Tie as tie
 
@@ -43,12 +43,21 @@ a-parameter c =
     c.number-in-107.ensures ∙ ap (number_of PARAMETER (parameter_count - 1))
     (part_to_end (run c.before.before.before.before) 1) ∙ sym word
 
+a-place : tie.Need-returns-in-114
+a-place c =
+    let args = c.args in
+    let key = c.in-114.is in
+    let word = run-place args.context args.awaited (run c.before.before.before.before)
+    (no-keyword c.before.before.before.before) key in
+    c.place_word.ensures ∙ ap place_of (part_to_end (run c.before.before.before.before) 1) ∙ sym word
+
 a-literal : tie.Need-returns-in_default
 a-literal c =
     let others = c.in_default.in_default-own.rest in
     let args = c.args in
     c.literal_word.ensures
-    ∙ sym (run-literal args.context args.awaited (run c.before.before.before) (no-keyword c.before.before.before)
+    ∙ sym
+    (run-literal args.context args.awaited (run c.before.before.before) (no-keyword c.before.before.before) others.0.0.1
     others.0.1 others.1)
 
 pub run_word_spec : {M : Type 1} → statement M
@@ -66,7 +75,12 @@ run_word_spec =
     (λ c. search rules)
     (λ c. search rules)
     (λ c κs. search rules)
+    (λ c. search rules)
+    (λ c. search rules)
+    (λ c. search rules)
+    (λ c κs. search rules)
     (λ c κs. search rules)
     a-signal
     a-parameter
+    a-place
     a-literal)
