@@ -22,14 +22,11 @@ use Rattle.formulas.specs.Names.{names_parameter}
 use Rattle.formulas.specs.Raw.{raw}
 use Rattle.formulas.proofs.Named.{Unchanging, Steady, parameters-below}
 use Rattle.limits.specs.Limits.{equation_limit, literal_count, signal_count}
-use Rattle.tables.specs.Table.{verdict_of, checked}
+use Rattle.tables.specs.Table.{verdict_of, passed, checked}
 use Rattle.flows.specs.Flow.{answer_of}
-use Rattle.flows.specs.Step.{AfterStep, after_tick}
+use Rattle.flows.specs.Step.{Stepped, AfterStep, after_tick}
 use Rattle.flows.specs.Run.{Call, Taken, from_fresh, answered, ticks, EachTick}
 use Rattle.flows.specs.Lustre.{Lustre}
-use Rattle.tables.specs.declared.Checked.TheVariants.{Passed}
-use Rattle.flows.specs.declared.Stepped.{Stepped}
-use Rattle.flows.specs.declared.Stepped.TheVariants.{Verdict}
 use Rattle.flows.proofs.Runs.{flow_at, answer_at, lustre}
 use Rattle.flows.proofs.Lists.{each_map, Ran, ran}
 use Rattle.flows.proofs.Answers.{verdict-boolean}
@@ -42,10 +39,11 @@ use Rattle.scheme.proofs.Formed.{formed-over}
 use Rattle.scheme.proofs.Local.{on, boolean-number}
 use Rattle.agreement.proofs.Verdicts.{told, idle-over, verdict-over}
 use Rattle.agreement.proofs.Calls.{Small, same_at, admitted-small}
+use Rattle.std.specs.Prelude.{Ok}
 
 -- Verdicts are the same if their numbers are.
-same-verdict : (x y : ℕ) → (Verdict x ≡ Verdict y) ↔ (x ≡ y)
-same-verdict x y = (λ e. cc, λ e. ap Verdict e)
+same-verdict : (x y : ℕ) → (◌≡◌ {A = Stepped} (Ok x) (Ok y)) ↔ (x ≡ y)
+same-verdict x y = (λ e. cc, λ e. ap Ok e)
 
 module _ (cap velocities : ℕ) (low : cap ≤ literal_count) (m : ℕ) (few : m ≤ signal_count) (f : Formula)
     (led : leads (raw f) ≡ true) (bound : bounded cap velocities (raw f) ≡ true)
@@ -58,7 +56,7 @@ module _ (cap velocities : ℕ) (low : cap ≤ literal_count) (m : ℕ) (few : m
   n = length (observer_over m f)
 
   -- The table passes its check.
-  pub passes : checked velocities t n ≡ Passed
+  pub passes : checked velocities t n ≡ passed
   passes = formed-over cap velocities low m few f bound below junk short
 
   module _ (old : List ℕ) (room : n ≤ length old) (trace : Trace) where
@@ -81,9 +79,9 @@ module _ (cap velocities : ℕ) (low : cap ≤ literal_count) (m : ℕ) (few : m
     tick-idle : (k : ℕ) (s : Taken) → Ran cap velocities t n passes old room trace k s → IdleUntilStart trace k s
     unfolding after_tick flow_at
     tick-idle k s r =
-        let tells : s.left.answer ≡ Verdict (told cap velocities trace flow m f junk run k) =
-        ap (λ (z : AfterStep). z.answer) r.left ∙ ap Verdict (answer-over k) in
-        subst (λ (a : Stepped). (a ≡ Verdict idle_verdict) ↔ ((i : ℕ) → i ≤ k → ¬ Starts trace i)) (sym tells)
+        let tells : s.left.answer ≡ Ok (told cap velocities trace flow m f junk run k) =
+        ap (λ (z : AfterStep). z.answer) r.left ∙ ap Ok (answer-over k) in
+        subst (λ (a : Stepped). (a ≡ Ok idle_verdict) ↔ ((i : ℕ) → i ≤ k → ¬ Starts trace i)) (sym tells)
         (Iff.trans (same-verdict _ idle_verdict) (idle-over cap velocities trace flow m f junk run k))
 
     -- and the formula's verdict, where each parameter that the formula names has one value at all ticks. At the tick of
@@ -103,7 +101,7 @@ module _ (cap velocities : ℕ) (low : cap ≤ literal_count) (m : ℕ) (few : m
           let small = admitted-small cap velocities n s.call.values s.call.tick r.admitted in
           let here = subst (λ (x : Tick). Small cap x.parameters) (sym r.now) small in
           let means = verdict-over cap velocities trace flow m f junk run (steady k here) led bound below k in
-          ap (λ (z : AfterStep). z.answer) r.left ∙ ap Verdict (answer-over k ∙ means)
+          ap (λ (z : AfterStep). z.answer) r.left ∙ ap Ok (answer-over k ∙ means)
 
   -- So the step of each tick answers the verdict, over any list of calls. Past the last tick the trace is as d.
   pub answers-named : (old : List ℕ) → n ≤ length old → (calls : List Call) (d : Tick)

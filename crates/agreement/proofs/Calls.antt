@@ -11,10 +11,12 @@ use Rattle.traces.specs.declared.Tick.{Tick}
 use Rattle.traces.specs.Parameters.{parameter_fits, parameters_fit}
 use Rattle.limits.specs.Limits.{parameter_count}
 use Rattle.flows.specs.Run.{call_checked}
-use Rattle.tables.specs.declared.Checked.TheVariants.{Passed, Refused as Failed}
+use Rattle.tables.specs.Table.{passed}
 use Rattle.tables.proofs.Tests.{all-at}
 use Rattle.agreement.specs.Agreement.{SameParameters, trace_of_ticks}
 use Rattle.agreement.specs.Agreement.SameParameters.{none, more}
+use Rattle.std.specs.Prelude.{Err}
+use Rattle.limits.specs.declared.Refusal.TheVariants.{ParameterTooHigh, ShortState, VelocityTooHigh}
 
 -- The trace's parameters, at every tick.
 pub same_at : {ps : List ℕ} {ks : List Tick} → SameParameters ps ks → (i : ℕ) → (trace_of_ticks ps ks i).parameters ≡ ps
@@ -28,14 +30,16 @@ Small cap ps = (j : ℕ) → j < parameter_count → get_or ps j 0 < cap
 
 -- They are if a call with them is admitted.
 pub admitted-small : (cap velocities n : ℕ) (values : List ℕ) (k : Tick)
-    → call_checked cap velocities n values k ≡ Passed → Small cap k.parameters
+    → call_checked cap velocities n values k ≡ passed → Small cap k.parameters
 unfolding call_checked parameter_fits
 admitted-small cap velocities n values k e j h =
     ltb-true (get_or k.parameters j 0) cap
     (all-at (parameter_fits cap k.parameters) parameter_count
-    (passed (leb n (length values)) (parameters_fit cap k.parameters) (ltb k.velocity velocities) e) j h)
+    (second (leb n (length values)) (parameters_fit cap k.parameters) (ltb k.velocity velocities) e) j h)
   where
-    passed : (a b c : Bool) → cond a (cond b (cond c Passed (Failed 19)) (Failed 13)) (Failed 12) ≡ Passed → b ≡ true
-    passed true true c e = refl
-    passed true false c e = cc
-    passed false b c e = cc
+    second : (a b c : Bool)
+        → cond a (cond b (cond c passed (Err VelocityTooHigh)) (Err ParameterTooHigh)) (Err ShortState) ≡ passed
+        → b ≡ true
+    second true true c e = refl
+    second true false c e = cc
+    second false b c e = cc

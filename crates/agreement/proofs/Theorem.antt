@@ -16,10 +16,9 @@ use Rattle.formulas.specs.Names.{names_parameter}
 use Rattle.formulas.specs.Raw.{raw}
 use Rattle.formulas.proofs.Named.{Unchanging}
 use Rattle.limits.specs.Limits.{arena_limit, equation_limit, literal_count, signal_count}
-use Rattle.tables.specs.Table.{checked}
+use Rattle.tables.specs.Table.{passed, checked}
 use Rattle.flows.specs.Step.{AfterFresh}
 use Rattle.flows.specs.Run.{Call, from_fresh, ticks, EachTick}
-use Rattle.tables.specs.declared.Checked.TheVariants.{Passed}
 use Rattle.scheme.specs.Emit.{named_by, observer, numbers_of}
 use Rattle.agreement.specs.Agreement.{Observes, AsMeant, Closing}
 use Rattle.flows.proofs.Lists.{made, calls-decide}
@@ -61,7 +60,7 @@ observes cap velocities low f led bound size junk =
     short : n ≤ equation_limit
     short = observer-size f size
 
-    formed : checked velocities t n ≡ Passed
+    formed : checked velocities t n ≡ passed
     formed = passes cap velocities low signal_count few f led bound (below cap velocities f bound) junk short
 
 -- The agreement of its answers with the meaning asks less: that each parameter that f names has one value at all ticks.

@@ -20,12 +20,12 @@ use Rattle.flows.specs.Flow.{increased, value_of, flows, answer_of, memories_set
 use Rattle.tables.specs.Table.{is_memory}
 use Rattle.flows.specs.Step.{cell_fits, fresh_checked, step_checked, freshened, after_tick, stepped}
 use Rattle.flows.specs.Run.{steps}
-use Rattle.flows.specs.declared.Stepped.TheVariants.{Verdict}
 use Rattle.agreement.specs.Trials.{ran}
+use Rattle.std.specs.Prelude.{Ok}
 
 -- The observers of these rows answer the verdicts.
 abbrev pub AllRan : List Trial → Type 0
-AllRan rs = map ran rs ≡ map (λ (r : Trial). map Verdict r.verdicts) rs
+AllRan rs = map ran rs ≡ map (λ (r : Trial). map Ok r.verdicts) rs
 
 rows-ran : AllRan trials × AllRan further_trials
 unfolding all kind_of shape_of same_sort is_flow operand_fits shape_fits length_fits equations_fit closes

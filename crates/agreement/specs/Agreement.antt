@@ -1,7 +1,7 @@
 -- SPEC 12.3 (demand 3): the agreement of an observer's answers with the interval meaning, as one statement about a list
 -- of calls (SPEC 6.1). SPEC 12.7: how the table of a compiled rule closes. SPEC 12.8: how many memories it has.
 -- Definitions only; the theorems are in proofs/Theorem.antt.
-use Rattle.std.specs.Prelude.{List, [], ◌∷◌, ◌↔◌, ◌≡◌, ℕ, ◌+◌, ◌*◌, ◌-◌, ◌≤◌, ◌<◌, length}
+use Rattle.std.specs.Prelude.{List, [], ◌∷◌, ◌↔◌, ◌≡◌, ℕ, ◌+◌, ◌*◌, ◌-◌, ◌≤◌, ◌<◌, length, Ok}
 use Rattle.traces.specs.declared.Tick.{Tick}
 use Rattle.traces.specs.Trace.{Trace, trace_of, tick_of, idle_verdict}
 use Rattle.formulas.specs.Formula.{Formula}
@@ -9,12 +9,9 @@ use Rattle.formulas.specs.Tree.{Tree, nodes, rule_memories}
 use Rattle.formulas.specs.Meaning.{verdict}
 use Rattle.formulas.specs.Laws.{Starts}
 use Rattle.tables.specs.Kind.{START, AND, OR, BOOLEAN-PRE}
-use Rattle.tables.specs.Table.{equation, equation_at, started_of, verdict_of, checked}
+use Rattle.tables.specs.Table.{equation, equation_at, started_of, verdict_of, passed, checked}
 use Rattle.flows.specs.Step.{freshened}
 use Rattle.flows.specs.Run.{Call, Taken, from_fresh, ticks, EachTick, CallsDecide}
-use Rattle.tables.specs.declared.Checked.TheVariants.{Passed}
-use Rattle.flows.specs.declared.Fresh.TheVariants.{Made}
-use Rattle.flows.specs.declared.Stepped.TheVariants.{Verdict}
 use Rattle.tables.specs.Table.{memories}
 
 -- SPEC 12.7: the started flow's memory is the last equation but two,
@@ -48,17 +45,17 @@ trace_of_ticks ps ks = trace_of (tick_of 0 0 0 ps) ks
 
 -- The step of the tick numbered k answers the verdict that the meaning of f has there.
 abbrev pub AsMeant : Formula → Trace → ℕ → Taken → Type 0
-AsMeant f trace k s = s.left.answer ≡ Verdict (verdict trace f k)
+AsMeant f trace k s = s.left.answer ≡ Ok (verdict trace f k)
 
 -- The step of the tick numbered k answers idle exactly if none of the ticks up to it is a start.
 abbrev pub IdleUntilStart : Trace → ℕ → Taken → Type 0
-IdleUntilStart trace k s = (s.left.answer ≡ Verdict idle_verdict) ↔ ((i : ℕ) → i ≤ k → ¬ Starts trace i)
+IdleUntilStart trace k s = (s.left.answer ≡ Ok idle_verdict) ↔ ((i : ℕ) → i ≤ k → ¬ Starts trace i)
 
 -- The n equations of the table are an observer of the formula f.
 pub record Observes (cap velocities : ℕ) (t : List ℕ) (n : ℕ) (f : Formula) : Type 0 where
   -- They pass the tests of refusals 10 and 11, so that a fresh state is made where there are cells for it.
-  pub formed : checked velocities t n ≡ Passed
-  pub fresh : (old : List ℕ) → n ≤ length old → (freshened velocities t n old).answer ≡ Made
+  pub formed : checked velocities t n ≡ passed
+  pub fresh : (old : List ℕ) → n ≤ length old → (freshened velocities t n old).answer ≡ passed
   -- The step of every tick answers the verdict (SPEC 4.10), from the fresh state over any old cells, over every list of
   -- calls, refused ones included, if the ticks have the same parameters. And SPEC 6.5 holds.
   pub agrees : (old : List ℕ) → n ≤ length old → (calls : List Call) (ps : List ℕ)

@@ -5,7 +5,7 @@ use Rattle.limits.specs.Limits.{standard_cap, velocity_count}
 use Rattle.traces.specs.declared.Tick.{Tick}
 use Rattle.formulas.specs.Trials.{Trial, ticks_in}
 use Rattle.flows.specs.Run.{Call, from_fresh, answered}
-use Rattle.flows.specs.declared.Stepped.{Stepped}
+use Rattle.flows.specs.Step.{Stepped}
 use Rattle.scheme.specs.Emit.{observer, numbers_of}
 
 -- What the n equations of the table answer at the ticks, from the fresh state over cells that are all 7.

@@ -10,10 +10,11 @@ use lib.ListN.{length, get_or, take, drop, length-drop}
 use lib.Pow.{high, shr-shr}
 use lib.Seq.{get_or-drop, get_or-take}
 use borrow.Author.Tests.{eqb-true, ltb-true, ltb-false}
+use Rattle.std.specs.Prelude.{Some}
 use Rattle.traces.specs.Trace.{bit}
 use Rattle.cards.specs.Ticks.{hex_of, hexes, plain_tick, tick_line}
-use Rattle.cards.specs.declared.TickLine.TheVariants.{Is}
-use Rattle.cards.proofs.Hex.{passed, not-failed, broken-is}
+use Rattle.cards.specs.declared.TickLine.{TickLine}
+use Rattle.cards.proofs.Hex.{passed, not-failed}
 use Rattle.cards.proofs.Ticks.{ticked}
 
 -- One more digit is the four lowest bits, and moves the others up by four.
@@ -56,27 +57,28 @@ module _ (c : ℕ) (l : List ℕ) (x y : ℕ) (small : hex_of c ≤ 15) (h : Dig
             ap (bit y) z ∙ h.above (4 + k) ∙ bit_high x (hex_of c) k small;
       }
 
-split : (c : ℕ) (l : List ℕ) (s x s' y v : ℕ) (t : Bool) → ltb 15 (hex_of c) ≡ t
-    → ((z : ℕ) → hexes s z l ≡ Is s' y v → Digits l z y) → hexes s x (c ∷ l) ≡ Is s' y v → Digits (c ∷ l) x y
+split : (c : ℕ) (l : List ℕ) (s x : ℕ) {k : TickLine} (t : Bool) → ltb 15 (hex_of c) ≡ t
+    → ((z : ℕ) → hexes s z l ≡ Some k → Digits l z k.signals) → hexes s x (c ∷ l) ≡ Some k
+    → Digits (c ∷ l) x k.signals
 unfolding hexes
-split c l s x s' y v true e ih h = absurd (broken-is (rw e at h))
-split c l s x s' y v false e ih h = more c l x y (ltb-false _ _ e) (ih (x * 16 + hex_of c) (rw e at h))
+split c l s x true e ih h = absurd (let z = rw e at h in cc)
+split c l s x {k} false e ih h = more c l x k.signals (ltb-false _ _ e) (ih (x * 16 + hex_of c) (rw e at h))
 
-made : (l : List ℕ) (s x s' y v : ℕ) → hexes s x l ≡ Is s' y v → Digits l x y
+made : (l : List ℕ) (s x : ℕ) {k : TickLine} → hexes s x l ≡ Some k → Digits l x k.signals
 unfolding hexes
-made [] s x s' y v e =
-    let z : x ≡ y = cc in
+made [] s x {k} e =
+    let z : x ≡ k.signals = cc in
     record {
       inside = λ i b p q. absurd (omega arith);
-      above = λ k. let w : 0 + k ≡ k = omega arith in rw w (ap (λ (n : ℕ). bit n k) (sym z));
+      above = λ j. let w : 0 + j ≡ j = omega arith in rw w (ap (λ (n : ℕ). bit n j) (sym z));
     }
-made (c ∷ l) s x s' y v e = split c l s x s' y v (ltb 15 (hex_of c)) refl (λ z. made l s z s' y v) e
+made (c ∷ l) s x e = split c l s x (ltb 15 (hex_of c)) refl (λ z. made l s z) e
 
 -- In a line with no velocity, and in the tick line of any edition.
-plain-bits : (l : List ℕ) (s x v : ℕ) → plain_tick l ≡ Is s x v → (i b : ℕ) → i < 16 → b < 4
-    → bit x (4 * i + b) ≡ bit (hex_of (get_or l (19 - i) 0)) b
+plain-bits : (l : List ℕ) {k : TickLine} → plain_tick l ≡ Some k → (i b : ℕ) → i < 16 → b < 4
+    → bit k.signals (4 * i + b) ≡ bit (hex_of (get_or l (19 - i) 0)) b
 unfolding plain_tick
-plain-bits l s x v e i b p q =
+plain-bits l e i b p q =
     let size = passed (eqb (length l) 20) e in
     let t = passed (eqb (get_or l 0 0) 116) size.1 in
     let equals = passed (eqb (get_or l 1 0) 61) t.1 in
@@ -84,14 +86,14 @@ plain-bits l s x v e i b p q =
     let start = not-failed (ltb 49 (get_or l 2 0)) (not-failed (ltb (get_or l 2 0) 48) comma.1).1 in
     let twenty : length l ≡ 20 = eqb-true _ _ size.0 in
     let sixteen : length (drop 4 l) ≡ 16 = omega (arith, length-drop 4 l) in
-    let digits = made (drop 4 l) (get_or l 2 0 - 48) 0 s x v start.1 in
+    let digits = made (drop 4 l) (get_or l 2 0 - 48) 0 start.1 in
     let z : 4 + (length (drop 4 l) - 1 - i) ≡ 19 - i = omega arith in
     digits.inside i b (omega arith) q
     ∙ ap (λ (c : ℕ). bit (hex_of c) b)
     (get_or-drop 4 l (length (drop 4 l) - 1 - i) 0 ∙ ap (λ (n : ℕ). get_or l n 0) z)
 
-pub signal-bits : (velocities e : ℕ) (l : List ℕ) (s x v : ℕ) → tick_line velocities e l ≡ Is s x v
-    → (i b : ℕ) → i < 16 → b < 4 → bit x (4 * i + b) ≡ bit (hex_of (get_or l (19 - i) 0)) b
-signal-bits velocities e l s x v h i b p q =
-    plain-bits (take 20 l) s x 0 (ticked velocities e l h).front i b p q
+pub signal-bits : (velocities e : ℕ) (l : List ℕ) {k : TickLine} → tick_line velocities e l ≡ Some k
+    → (i b : ℕ) → i < 16 → b < 4 → bit k.signals (4 * i + b) ≡ bit (hex_of (get_or l (19 - i) 0)) b
+signal-bits velocities e l h i b p q =
+    plain-bits (take 20 l) (ticked velocities e l h).front i b p q
     ∙ ap (λ (c : ℕ). bit (hex_of c) b) (get_or-take 20 l (19 - i) 0 (omega arith))

@@ -7,12 +7,12 @@ use mathlib.Core.List.{List, [], ◌∷◌, Memᴰ}
 use mathlib.Core.Logic.{inl, inr}
 use Prim.Native.Nat.{ℕ}
 use native.Mathlib.Omega.{arith}
-use lib.Dec.{T, eqb}
+use lib.Dec.{T}
 use lib.ListN.{get_or}
-use borrow.Author.Tests.{eqb-true, eqb-false}
+use Rattle.std.specs.Prelude.{Option, Some, None}
 use Rattle.lists.specs.Same.{same}
 use Rattle.lists.proofs.Same.{same→eq, same_refl}
-use Rattle.cards.specs.Heads.{editions, IsEdition, edition_line, no_edition}
+use Rattle.cards.specs.Heads.{editions, IsEdition, edition_line}
 use Rattle.cards.specs.Says.{edition_in, edition_of}
 
 -- ---- in any list of editions
@@ -23,21 +23,21 @@ Found es l e = Memᴰ e es × (l ≡ edition_line e)
 
 module _ (l : List ℕ) where
   found-split : (x : ℕ) (es : List ℕ) (e : ℕ) (t : Bool) → same l (edition_line x) ≡ t
-      → (edition_in es l ≡ e → Found es l e) → cond t x (edition_in es l) ≡ e → Found (x ∷ es) l e
+      → (edition_in es l ≡ Some e → Found es l e) → cond t (Some x) (edition_in es l) ≡ Some e → Found (x ∷ es) l e
   found-split x es e true s ih q =
-      (Memᴰ.head (sym q), same→eq l (edition_line x) (subst T (sym s) tt) ∙ ap edition_line q)
+      let is : x ≡ e = cc in
+      (Memᴰ.head (sym is), same→eq l (edition_line x) (subst T (sym s) tt) ∙ ap edition_line is)
   found-split x es e false s ih q = let h = ih q in (Memᴰ.tail h.0, h.1)
 
-  found_in : (es : List ℕ) (e : ℕ) → (e ≡ no_edition → ⊥) → edition_in es l ≡ e → Found es l e
-  found_in [] e some q = absurd (some (sym q))
-  found_in (x ∷ es) e some q = found-split x es e (same l (edition_line x)) refl (found_in es e some) q
+  found_in : (es : List ℕ) (e : ℕ) → edition_in es l ≡ Some e → Found es l e
+  found_in [] e q = cc
+  found_in (x ∷ es) e q = found-split x es e (same l (edition_line x)) refl (found_in es e) q
 
-  -- None of them, where 0 is none of them either.
   missed-split : (x : ℕ) (es : List ℕ) (e : ℕ) (t : Bool) → same l (edition_line x) ≡ t
-      → (Memᴰ no_edition (x ∷ es) → ⊥) → (edition_in es l ≡ no_edition → Found es l e → ⊥)
-      → cond t x (edition_in es l) ≡ no_edition → Found (x ∷ es) l e → ⊥
-  missed-split x es e true s none ih q h = none (Memᴰ.head (sym q))
-  missed-split x es e false s none ih q h =
+      → (edition_in es l ≡ None → Found es l e → ⊥) → cond t (Some x) (edition_in es l) ≡ None
+      → Found (x ∷ es) l e → ⊥
+  missed-split x es e true s ih q h = cc
+  missed-split x es e false s ih q h =
       elim (Memᴰ.cases_cons h.0) [
         | inl first ↦
             let is : l ≡ edition_line x = h.1 ∙ ap edition_line first in
@@ -45,36 +45,25 @@ module _ (l : List ℕ) where
         | inr later ↦ ih q (later, h.1)
       ]
 
-  missed-in : (es : List ℕ) (e : ℕ) → (Memᴰ no_edition es → ⊥) → edition_in es l ≡ no_edition → Found es l e → ⊥
-  missed-in [] e none q h = Memᴰ.not-nil h.0
-  missed-in (x ∷ es) e none q h =
-      missed-split x es e (same l (edition_line x)) refl none (missed-in es e (λ m. none (Memᴰ.tail m))) q h
+  missed-in : (es : List ℕ) (e : ℕ) → edition_in es l ≡ None → Found es l e → ⊥
+  missed-in [] e q h = Memᴰ.not-nil h.0
+  missed-in (x ∷ es) e q h = missed-split x es e (same l (edition_line x)) refl (missed-in es e) q h
 
 -- ---- in the list of the editions
 
-none-zero : Memᴰ no_edition editions → ⊥
-none-zero m =
-    elim (Memᴰ.cases_cons m) [
-      | inl one ↦ omega arith
-      | inr rest ↦ elim (Memᴰ.cases_cons rest) [ inl two ↦ omega arith | inr end ↦ Memᴰ.not-nil end ]
-    ]
+pub edition-is : (l : List ℕ) (e : ℕ) → edition_of l ≡ Some e → IsEdition e × (l ≡ edition_line e)
+edition-is l e q = found_in l editions e q
 
-pub edition-is : (l : List ℕ) (e : ℕ) → (e ≡ no_edition → ⊥) → edition_of l ≡ e → IsEdition e × (l ≡ edition_line e)
-edition-is l e some q = found_in l editions e some q
-
-pub edition-not : (l : List ℕ) → edition_of l ≡ no_edition → (e : ℕ) → IsEdition e → l ≡ edition_line e → ⊥
-edition-not l q e one is = missed-in l editions e none-zero q (one, is)
-
-pub edition-known : {e : ℕ} → IsEdition e → e ≡ no_edition → ⊥
-edition-known one z = none-zero (Memᴰ.cast (sym z) one)
+pub edition-not : (l : List ℕ) → edition_of l ≡ None → (e : ℕ) → IsEdition e → l ≡ edition_line e → ⊥
+edition-not l q e one is = missed-in l editions e q (one, is)
 
 -- An edition's line is no other's.
 line_of : (e x : ℕ) → edition_line e ≡ edition_line x → x ≡ e
 line_of e x q = omega (arith, ap (λ (l : List ℕ). get_or l 8 0) q)
 
-pub edition-of : {e : ℕ} → IsEdition e → edition_of (edition_line e) ≡ e
-edition-of {e} one = by_number (edition_of (edition_line e)) (eqb (edition_of (edition_line e)) no_edition) refl refl
+pub edition-of : {e : ℕ} → IsEdition e → edition_of (edition_line e) ≡ Some e
+edition-of {e} one = by_answer (edition_of (edition_line e)) refl
   where
-    by_number : (x : ℕ) (t : Bool) → edition_of (edition_line e) ≡ x → eqb x no_edition ≡ t → x ≡ e
-    by_number x true q z = absurd (edition-not (edition_line e) (q ∙ eqb-true _ _ z) e one refl)
-    by_number x false q z = line_of e x (edition-is (edition_line e) x (eqb-false _ _ z) q).1
+    by_answer : (o : Option ℕ) → edition_of (edition_line e) ≡ o → o ≡ Some e
+    by_answer None q = absurd (edition-not (edition_line e) q e one refl)
+    by_answer (Some x) q = ap Some (line_of e x (edition-is (edition_line e) x q).1)

@@ -8,18 +8,16 @@ use native.Mathlib.Omega.{arith}
 use lib.Dec.{leb, eqb}
 use lib.ListN.{length, get_or, length-drop}
 use borrow.Author.Tests.{leb-true, eqb-false}
+use Rattle.std.specs.Prelude.{Option, Some, None}
 use Rattle.limits.specs.Limits.{literal_count, last_literal, line_limit}
 use Rattle.cards.specs.Heads.{parameters_head, count_head, after_head}
 use Rattle.lists.specs.Decimal.{Numeral, is_digit, settled, digits_after, numeral}
 use Rattle.lists.specs.Decimal.Numeral.{is, above, missing}
 use Rattle.lists.proofs.Choice.{chosen}
 use Rattle.lists.proofs.Decimals.{digit-range, is-bounded}
-use Rattle.cards.specs.Numbers.{Parsed, parsed, number, has_prefix, Listed, before_comma, then_listed, at_end}
+use Rattle.cards.specs.Numbers.{Parsed, parsed, number, has_prefix, before, before_comma, then_listed, at_end}
 use Rattle.cards.specs.Numbers.{numbers, last_parameter, parameters_of, wholly, count_of}
 use Rattle.cards.specs.Numbers.Parsed.{done, none}
-use Rattle.cards.specs.Numbers.Listed.{are, broken}
-use Rattle.cards.specs.declared.Count.{Count}
-use Rattle.cards.specs.declared.Count.TheVariants as K
 
 -- ---- how large
 
@@ -34,7 +32,7 @@ append-low (x ∷ got) v h l zero = h 0
 append-low (x ∷ got) v h l (suc j) = append-low got v (λ i. h (suc i)) l j
 
 -- A number that was read is at most max.
-abbrev Small : ℕ → Parsed → Type 0
+abbrev Small : ℕ → Parsed ℕ → Type 0
 Small max (done v r) = v ≤ max
 Small max none = Unit {0}
 
@@ -48,27 +46,27 @@ unfolding number
 number_small max l = parsed-small max l (numeral max l) refl
 
 -- So all numbers of a list that was read are.
-abbrev AllLow : Listed → Type 0
-AllLow (are ps) = Low ps
-AllLow broken = Unit {0}
+abbrev AllLow : Option (List ℕ) → Type 0
+AllLow (Some ps) = Low ps
+AllLow None = Unit {0}
 
-end_low : (got : List ℕ) (p : Parsed) → Low got → Small last_literal p → AllLow (at_end got p)
+end_low : (got : List ℕ) (p : Parsed ℕ) → Low got → Small last_literal p → AllLow (at_end got p)
 unfolding at_end
 end_low got none h s = tt
 end_low got (done v []) h s = append-low got v h s
 end_low got (done v (b ∷ l)) h s = tt
 
-if-low : (b : Bool) (x : Listed) → AllLow x → AllLow (cond b x broken)
+if-low : (b : Bool) (x : Option (List ℕ)) → AllLow x → AllLow (cond b x None)
 if-low true x h = h
 if-low false x h = tt
 
-comma-small : (max : ℕ) (p : Parsed) → Small max p → Small max (before_comma p)
-unfolding before_comma
+comma-small : (max : ℕ) (p : Parsed ℕ) → Small max p → Small max (before_comma p)
+unfolding before
 comma-small max none h = tt
 comma-small max (done v []) h = tt
 comma-small max (done v (b ∷ l)) h = chosen (Small max) (eqb b 44) (λ _. h) (λ _. tt)
 
-then-low : (p : Parsed) (k : ℕ → List ℕ → Listed) → Small last_literal p
+then-low : (p : Parsed ℕ) (k : ℕ → List ℕ → Option (List ℕ)) → Small last_literal p
     → ((v : ℕ) (r : List ℕ) → v ≤ last_literal → AllLow (k v r)) → AllLow (then_listed p k)
 then-low none k s h = tt
 then-low (done v l) k s h = h v l s
@@ -81,7 +79,7 @@ numbers-low (suc m) got l h =
     then-low (before_comma first) _ (comma-small last_literal first (number_small last_literal l))
     (λ v r s. numbers-low m (got ++ (v ∷ [])) r (append-low got v h s))
 
-pub parameters-low : (l ps : List ℕ) → parameters_of l ≡ are ps → Low ps
+pub parameters-low : (l ps : List ℕ) → parameters_of l ≡ Some ps → Low ps
 unfolding parameters_of
 parameters-low l ps e =
     let rest = after_head parameters_head l in
@@ -90,11 +88,11 @@ parameters-low l ps e =
     (numbers-low last_parameter [] rest (λ j. omega arith)))
 
 -- So is a number that ends a line, and a number of ticks.
-abbrev pub CountLow : ℕ → Count → Type 0
-CountLow max (K.Is k) = k ≤ max
-CountLow max K.Broken = Unit {0}
+abbrev pub CountLow : ℕ → Option ℕ → Type 0
+CountLow max (Some k) = k ≤ max
+CountLow max None = Unit {0}
 
-wholly-low : (max : ℕ) (p : Parsed) → Small max p → CountLow max (wholly p)
+wholly-low : (max : ℕ) (p : Parsed ℕ) → Small max p → CountLow max (wholly p)
 unfolding wholly
 wholly-low max none h = tt
 wholly-low max (done v []) h = h
@@ -103,7 +101,7 @@ wholly-low max (done v (b ∷ l)) h = tt
 pub last-low : (max : ℕ) (l : List ℕ) → CountLow max (wholly (number max l))
 last-low max l = wholly-low max (number max l) (number_small max l)
 
-if-count : (max : ℕ) (b : Bool) (x : Count) → CountLow max x → CountLow max (cond b x K.Broken)
+if-count : (max : ℕ) (b : Bool) (x : Option ℕ) → CountLow max x → CountLow max (cond b x None)
 if-count max true x h = h
 if-count max false x h = tt
 
@@ -114,7 +112,7 @@ count_low l = if-count last_literal (has_prefix count_head l) _ (last-low last_l
 -- ---- how long
 
 -- The number that was read at the front of l takes at most m bytes.
-abbrev Takes : ℕ → List ℕ → Parsed → Type 0
+abbrev Takes : ℕ → List ℕ → Parsed ℕ → Type 0
 Takes m l (done v r) = length l ≤ m + length r
 Takes m l none = Unit {0}
 
@@ -193,27 +191,27 @@ literal-takes : (l : List ℕ) → Takes 7 l (number last_literal l)
 literal-takes l = number-takes last_literal (omega arith) l
 
 -- A list of numbers that was read has at most m bytes.
-abbrev Spans : ℕ → List ℕ → Listed → Type 0
-Spans m l (are ps) = length l ≤ m
-Spans m l broken = Unit {0}
+abbrev Spans : ℕ → List ℕ → Option (List ℕ) → Type 0
+Spans m l (Some ps) = length l ≤ m
+Spans m l None = Unit {0}
 
-end-spans : (got l : List ℕ) (p : Parsed) → Takes 7 l p → Spans 7 l (at_end got p)
+end-spans : (got l : List ℕ) (p : Parsed ℕ) → Takes 7 l p → Spans 7 l (at_end got p)
 unfolding at_end
 end-spans got l none h = tt
 end-spans got l (done v []) h = omega arith
 end-spans got l (done v (b ∷ r)) h = tt
 
-comma-takes : (l : List ℕ) (p : Parsed) → Takes 7 l p → Takes 8 l (before_comma p)
-unfolding before_comma
+comma-takes : (l : List ℕ) (p : Parsed ℕ) → Takes 7 l p → Takes 8 l (before_comma p)
+unfolding before
 comma-takes l none h = tt
 comma-takes l (done v []) h = tt
 comma-takes l (done v (b ∷ r)) h = chosen (Takes 8 l) (eqb b 44) (λ _. omega arith) (λ _. tt)
 
-spans-more : (m n : ℕ) (l r : List ℕ) (x : Listed) → length l ≤ m + length r → Spans n r x → Spans (m + n) l x
-spans-more m n l r (are ps) h s = omega arith
-spans-more m n l r broken h s = tt
+spans-more : (m n : ℕ) (l r : List ℕ) (x : Option (List ℕ)) → length l ≤ m + length r → Spans n r x → Spans (m + n) l x
+spans-more m n l r (Some ps) h s = omega arith
+spans-more m n l r None h s = tt
 
-then-spans : (m n : ℕ) (l : List ℕ) (p : Parsed) (k : ℕ → List ℕ → Listed) → Takes m l p
+then-spans : (m n : ℕ) (l : List ℕ) (p : Parsed ℕ) (k : ℕ → List ℕ → Option (List ℕ)) → Takes m l p
     → ((v : ℕ) (r : List ℕ) → Spans n r (k v r)) → Spans (m + n) l (then_listed p k)
 then-spans m n l none k h s = tt
 then-spans m n l (done v r) k h s = spans-more m n l r (k v r) h (s v r)
@@ -230,12 +228,12 @@ numbers-span (suc m) got l =
     then-spans 8 (span m) l (before_comma first) _ (comma-takes l first (literal-takes l))
     (λ v r. numbers-span m (got ++ (v ∷ [])) r)
 
-if-spans : (m : ℕ) (l : List ℕ) (b : Bool) (x : Listed) → Spans m l x → Spans m l (cond b x broken)
+if-spans : (m : ℕ) (l : List ℕ) (b : Bool) (x : Option (List ℕ)) → Spans m l x → Spans m l (cond b x None)
 if-spans m l true x h = h
 if-spans m l false x h = tt
 
 -- The lines of the parameters and of the number of ticks are not over-long.
-pub parameters-short : (l ps : List ℕ) → parameters_of l ≡ are ps → length l < line_limit
+pub parameters-short : (l ps : List ℕ) → parameters_of l ≡ Some ps → length l < line_limit
 unfolding parameters_of
 parameters-short l ps e =
     let rest = after_head parameters_head l in
@@ -245,25 +243,25 @@ parameters-short l ps e =
     (numbers-span last_parameter [] rest)) in
     omega (arith, most, length-drop (length parameters_head) l)
 
-abbrev Counts : ℕ → List ℕ → Count → Type 0
-Counts m l (K.Is k) = length l ≤ m
-Counts m l K.Broken = Unit {0}
+abbrev Counts : ℕ → List ℕ → Option ℕ → Type 0
+Counts m l (Some k) = length l ≤ m
+Counts m l None = Unit {0}
 
-wholly-counts : (l : List ℕ) (p : Parsed) → Takes 7 l p → Counts 7 l (wholly p)
+wholly-counts : (l : List ℕ) (p : Parsed ℕ) → Takes 7 l p → Counts 7 l (wholly p)
 unfolding wholly
 wholly-counts l none h = tt
 wholly-counts l (done v []) h = omega arith
 wholly-counts l (done v (b ∷ r)) h = tt
 
 -- A number that ends a line, up to at most 999,999, has at most seven bytes.
-pub last-short : (max : ℕ) → max ≤ last_literal → (l : List ℕ) (k : ℕ) → wholly (number max l) ≡ K.Is k → length l ≤ 7
+pub last-short : (max : ℕ) → max ≤ last_literal → (l : List ℕ) (k : ℕ) → wholly (number max l) ≡ Some k → length l ≤ 7
 last-short max h l k e = subst (Counts 7 l) e (wholly-counts l (number max l) (number-takes max h l))
 
-if-counts : (m : ℕ) (l : List ℕ) (b : Bool) (x : Count) → Counts m l x → Counts m l (cond b x K.Broken)
+if-counts : (m : ℕ) (l : List ℕ) (b : Bool) (x : Option ℕ) → Counts m l x → Counts m l (cond b x None)
 if-counts m l true x h = h
 if-counts m l false x h = tt
 
-pub count-short : (l : List ℕ) (k : ℕ) → count_of l ≡ K.Is k → length l < line_limit
+pub count-short : (l : List ℕ) (k : ℕ) → count_of l ≡ Some k → length l < line_limit
 unfolding count_of
 count-short l k e =
     let rest = after_head count_head l in

@@ -8,11 +8,10 @@ use native.Mathlib.Omega.{arith}
 use lib.Dec.{eqb}
 use lib.ListN.{length}
 use borrow.Author.Tests.{eqb-false, ne_eqb, le-leb, leb-false}
-use Rattle.lists.proofs.Choice.{chosen}
+use Rattle.std.specs.Prelude.{Option, Some, None}
 use Rattle.limits.specs.Limits.{literal_count, last_literal, line_limit}
-use Rattle.cards.specs.Heads.{no_edition, rule_head, after_head}
-use Rattle.cards.specs.Numbers.{has_prefix, Listed, parameters_of, count_of}
-use Rattle.cards.specs.Numbers.Listed.{are, broken}
+use Rattle.cards.specs.Heads.{rule_head, after_head}
+use Rattle.cards.specs.Numbers.{has_prefix, parameters_of, count_of}
 use Rattle.cards.specs.Ticks.{tick_length, tick_line}
 use Rattle.cards.specs.Lines.{over_long}
 use Rattle.cards.specs.Heads.{head_refusal, tick_refusal}
@@ -22,10 +21,7 @@ use Rattle.cards.specs.Says.Says.{edition, parameters, rule, count, tick, refuse
 use Rattle.cards.specs.declared.Phase.{Phase}
 use Rattle.cards.specs.declared.Phase.TheVariants as P
 use Rattle.cards.specs.declared.Stage.{Stage}
-use Rattle.cards.specs.declared.Count.{Count}
-use Rattle.cards.specs.declared.Count.TheVariants as K
 use Rattle.cards.specs.declared.TickLine.{TickLine}
-use Rattle.cards.specs.declared.TickLine.TheVariants as T
 use Rattle.cards.proofs.Numbers.{prefix-long}
 use Rattle.cards.proofs.Sized.{CountLow, count_low}
 use Rattle.cards.proofs.Ticks.{ticked, ticked-long}
@@ -38,7 +34,7 @@ Follows p left n (edition e) = p ≡ P.Edition
 Follows p left n (parameters ps) = p ≡ P.Parameters
 Follows p left n (rule text) = (p ≡ P.Rule) × (length rule_head ≤ n)
 Follows p left n (count k) = (p ≡ P.Count) × (k < literal_count)
-Follows p left n (tick start signals velocity) = (p ≡ P.Ticks) × (0 < left) × (tick_length ≤ n)
+Follows p left n (tick t) = (p ≡ P.Ticks) × (0 < left) × (tick_length ≤ n)
 Follows p left n (refused r) = is_over p ≡ false
 Follows p left n nothing = p ≡ P.Over
 
@@ -50,30 +46,30 @@ broken-follows P.Count left n = refl
 broken-follows P.Ticks left n = refl
 broken-follows P.Over left n = refl
 
-edition-follows : (e left n : ℕ) → Follows P.Edition left n (edition_says e)
-edition-follows e left n =
-    chosen (Follows P.Edition left n) (eqb e no_edition) (λ _. refl) (λ _. refl)
+edition-follows : (e : Option ℕ) (left n : ℕ) → Follows P.Edition left n (edition_says e)
+edition-follows (Some e) left n = refl
+edition-follows None left n = refl
 
-parameters-follow : (l : Listed) (left n : ℕ) → Follows P.Parameters left n (parameters_say l)
-parameters-follow (are ps) left n = refl
-parameters-follow broken left n = refl
+parameters-follow : (l : Option (List ℕ)) (left n : ℕ) → Follows P.Parameters left n (parameters_say l)
+parameters-follow (Some ps) left n = refl
+parameters-follow None left n = refl
 
 rule-follows : (l : List ℕ) (left : ℕ) (b : Bool) → has_prefix rule_head l ≡ b
     → Follows P.Rule left (length l) (cond b (rule (after_head rule_head l)) (refused head_refusal))
 rule-follows l left true e = (refl, prefix-long rule_head l e)
 rule-follows l left false e = refl
 
-count-follows : (k : Count) (left n : ℕ) → CountLow last_literal k → Follows P.Count left n (count_says k)
-count-follows (K.Is k) left n h = (refl, omega arith)
-count-follows K.Broken left n h = refl
+count-follows : (k : Option ℕ) (left n : ℕ) → CountLow last_literal k → Follows P.Count left n (count_says k)
+count-follows (Some k) left n h = (refl, omega arith)
+count-follows None left n h = refl
 
 module _ (velocities : ℕ) where
-  tick-follows : (l : List ℕ) (e left : ℕ) (k : TickLine) (b : Bool) → tick_line velocities e l ≡ k → eqb left 0 ≡ b
-      → Follows P.Ticks left (length l) (cond b (refused tick_refusal) (tick_says k))
+  tick-follows : (l : List ℕ) (e left : ℕ) (k : Option TickLine) (b : Bool) → tick_line velocities e l ≡ k
+      → eqb left 0 ≡ b → Follows P.Ticks left (length l) (cond b (refused tick_refusal) (tick_says k))
   tick-follows l e left k true q h = refl
-  tick-follows l e left (T.Is start signals velocity) false q h =
+  tick-follows l e left (Some k) false q h =
       (refl, omega (arith, eqb-false left 0 h), ticked-long (ticked velocities e l q))
-  tick-follows l e left T.Broken false q h = refl
+  tick-follows l e left None false q h = refl
 
   in-follows : (p : Phase) (e left : ℕ) (l : List ℕ) → Follows p left (length l) (says_in velocities p e left l)
   in-follows P.Edition e left l = edition-follows (edition_of l) left (length l)
@@ -170,7 +166,7 @@ fewer-in k n (edition e) h o = rw h (omega arith)
 fewer-in k n (parameters ps) h o = rw h (omega arith)
 fewer-in k n (rule text) h o = rw h.0 (omega arith)
 fewer-in k n (count m) h o = rw h.0 (omega (arith, h.1))
-fewer-in k n (tick start signals velocity) h o = rw h.0 (omega (arith, h.1))
+fewer-in k n (tick t) h o = rw h.0 (omega (arith, h.1))
 fewer-in k n (refused r) h o = absurd (false≢true (sym o))
 fewer-in k n nothing h o = absurd (false≢true (sym o))
 

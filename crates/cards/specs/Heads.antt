@@ -1,6 +1,8 @@
 -- How the lines before the ticks begin, and the refusals of a card's lines. Definitions only.
 use mathlib.Core.List.{List, [], ◌∷◌, ◌++◌, Memᴰ}
 use Rattle.std.specs.Prelude.{ℕ, length, drop}
+use Rattle.limits.specs.declared.Refusal.{Refusal}
+use Rattle.limits.specs.declared.Refusal.TheVariants.{BadHead, BadTick}
 use Rattle.lists.specs.Decimal.{digit}
 use Rattle.lists.specs.Text.{bytes}
 
@@ -15,7 +17,7 @@ IsEdition e = Memᴰ e editions
 abbrev pub edition_line : ℕ → List ℕ
 edition_line e = bytes "edition=" ++ (digit e ∷ [])
 
--- the one whose tick lines have no velocity (SPEC 10.6), and the number that is none of them.
+-- the one whose tick lines have no velocity (SPEC 10.6), and the number that a stage has where no edition is known.
 abbrev pub plain_edition : ℕ
 plain_edition = 1
 
@@ -36,10 +38,10 @@ count_head = bytes "ticks="
 abbrev pub after_head : List ℕ → List ℕ → List ℕ
 after_head head l = drop (length head) l
 
--- SPEC 10.7: which refusal a line gets that fails. 17 is for the four first lines (SPEC 7.17), 18 for the others and
--- for bytes behind them (SPEC 7.18).
-abbrev pub head_refusal : ℕ
-head_refusal = 17
+-- SPEC 10.7: which refusal a line gets that fails. The first is for the four first lines (SPEC 7.17), the second for
+-- the others and for bytes behind them (SPEC 7.18).
+abbrev pub head_refusal : Refusal
+head_refusal = BadHead
 
-abbrev pub tick_refusal : ℕ
-tick_refusal = 18
+abbrev pub tick_refusal : Refusal
+tick_refusal = BadTick

@@ -1,11 +1,11 @@
 -- What a line of a card says (`line_says`), the line that comes next after it (`stage_after`), and what the end of the
 -- input says (`end_says`): the card as lines, with no table, no state and no step. A rule's own refusal and a step's
 -- are the player's. Definitions only.
-use Rattle.std.specs.Prelude.{Bool, true, false, cond, List, [], ◌∷◌, ℕ, ◌-◌, eqb}
+use Rattle.std.specs.Prelude.{Bool, true, false, cond, List, [], ◌∷◌, Option, Some, None, Result, Ok, Err, ℕ, ◌-◌, eqb}
+use Rattle.limits.specs.declared.Refusal.{Refusal}
 use Rattle.lists.specs.Same.{same}
 use Rattle.cards.specs.Heads.{editions, edition_line, no_edition, rule_head, after_head, head_refusal, tick_refusal}
-use Rattle.cards.specs.Numbers.{has_prefix, Listed, parameters_of, count_of}
-use Rattle.cards.specs.Numbers.Listed.{are, broken}
+use Rattle.cards.specs.Numbers.{has_prefix, parameters_of, count_of}
 use Rattle.cards.specs.Ticks.{tick_line}
 use Rattle.cards.specs.Lines.{over_long}
 use Rattle.cards.specs.declared.Phase.{Phase}
@@ -13,10 +13,7 @@ use Rattle.cards.specs.declared.Phase.TheVariants as P
 use Rattle.cards.specs.declared.Stage.{Stage}
 use Rattle.cards.specs.declared.Content.{Content}
 use Rattle.cards.specs.declared.Content.TheVariants as C
-use Rattle.cards.specs.declared.Count.{Count}
-use Rattle.cards.specs.declared.Count.TheVariants as K
 use Rattle.cards.specs.declared.TickLine.{TickLine}
-use Rattle.cards.specs.declared.TickLine.TheVariants as T
 
 -- What a line says: the edition, the eight parameters, the rule text, the number of ticks, a tick's start, signals and
 -- velocity, a refusal; nothing, once the card is over.
@@ -25,20 +22,19 @@ pub data Says : Type 0 where
   parameters : List ℕ → Says
   rule : List ℕ → Says
   count : ℕ → Says
-  tick : ℕ → ℕ → ℕ → Says
-  refused : ℕ → Says
+  tick : TickLine → Says
+  refused : Refusal → Says
   nothing : Says
 
--- What the code's answer says: the parameters stand beside it, and the rule text is the part after `watch=` of the
--- line l.
-abbrev pub says_by : Content → List ℕ → List ℕ → Says
-says_by (C.Edition e) ps l = edition e
-says_by C.Parameters ps l = parameters ps
-says_by C.Rule ps l = rule (after_head rule_head l)
-says_by (C.Count k) ps l = count k
-says_by (C.Tick start signals velocity) ps l = tick start signals velocity
-says_by (C.Refused r) ps l = refused r
-says_by C.Nothing ps l = nothing
+-- What the code's answer says: the rule text is the part after `watch=` of the line l.
+abbrev pub says_by : Result Content Refusal → List ℕ → Says
+says_by (Ok (C.Edition e)) l = edition e
+says_by (Ok (C.Parameters ps)) l = parameters ps
+says_by (Ok C.Rule) l = rule (after_head rule_head l)
+says_by (Ok (C.Count k)) l = count k
+says_by (Ok (C.Tick t)) l = tick t
+says_by (Ok C.Nothing) l = nothing
+says_by (Err r) l = refused r
 
 abbrev pub stage_at : Phase → ℕ → ℕ → Stage
 stage_at p e left = record { phase = p; edition = e; left = left }
@@ -68,30 +64,31 @@ broken_by P.Ticks = refused tick_refusal
 broken_by P.Over = nothing
 
 -- The first line (SPEC 10.2): the one of these editions whose line it is, byte by byte, or none.
-abbrev pub edition_in : List ℕ → List ℕ → ℕ
-edition_in [] l = no_edition
-edition_in (e ∷ es) l = cond (same l (edition_line e)) e (edition_in es l)
+abbrev pub edition_in : List ℕ → List ℕ → Option ℕ
+edition_in [] l = None
+edition_in (e ∷ es) l = cond (same l (edition_line e)) (Some e) (edition_in es l)
 
-abbrev pub edition_of : List ℕ → ℕ
+abbrev pub edition_of : List ℕ → Option ℕ
 edition_of l = edition_in editions l
 
-abbrev pub edition_says : ℕ → Says
-edition_says e = cond (eqb e no_edition) (refused head_refusal) (edition e)
+abbrev pub edition_says : Option ℕ → Says
+edition_says (Some e) = edition e
+edition_says None = refused head_refusal
 
 -- The second line (SPEC 10.3).
-abbrev pub parameters_say : Listed → Says
-parameters_say (are ps) = parameters ps
-parameters_say broken = refused head_refusal
+abbrev pub parameters_say : Option (List ℕ) → Says
+parameters_say (Some ps) = parameters ps
+parameters_say None = refused head_refusal
 
 -- The fourth line (SPEC 10.5).
-abbrev pub count_says : Count → Says
-count_says (K.Is k) = count k
-count_says K.Broken = refused head_refusal
+abbrev pub count_says : Option ℕ → Says
+count_says (Some k) = count k
+count_says None = refused head_refusal
 
 -- A tick line (SPEC 10.6),
-abbrev pub tick_says : TickLine → Says
-tick_says (T.Is start signals velocity) = tick start signals velocity
-tick_says T.Broken = refused tick_refusal
+abbrev pub tick_says : Option TickLine → Says
+tick_says (Some t) = tick t
+tick_says None = refused tick_refusal
 
 -- where so many ticks are left: with none left, any line is one too many (SPEC 10.8).
 abbrev pub tick_in : ℕ → ℕ → ℕ → List ℕ → Says
@@ -120,7 +117,7 @@ stage_after k (edition e) = stage_at P.Parameters e 0
 stage_after k (parameters ps) = stage_at P.Rule k.edition 0
 stage_after k (rule text) = stage_at P.Count k.edition 0
 stage_after k (count m) = stage_at P.Ticks k.edition m
-stage_after k (tick start signals velocity) = stage_at P.Ticks k.edition (k.left - 1)
+stage_after k (tick t) = stage_at P.Ticks k.edition (k.left - 1)
 stage_after k (refused r) = over_stage
 stage_after k nothing = over_stage
 

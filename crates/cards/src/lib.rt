@@ -5,17 +5,16 @@
 
 mod decimals;
 
-ghost use Rattle.std.specs.Prelude.{◌≡◌, List, ℕ, drop, replicate};
-ghost use Rattle.limits.specs.Limits.{last_literal, parameter_count};
-ghost use Rattle.cards.specs.Heads.{plain_edition};
-ghost use Rattle.cards.specs.Numbers.{number, parameters_of, wholly, count_of};
-ghost use Rattle.cards.specs.Ticks.{hex_of, plain_tick, velocity_in, struck_tick, tick_line};
-ghost use Rattle.cards.specs.Place.{hex_table, ReadsAs, tick_at};
-ghost use Rattle.cards.specs.Says.{edition_of, edition_says, parameters_say, count_says, tick_in, says_by, broken_by};
-ghost use Rattle.cards.specs.Says.{line_says};
-ghost use Rattle.cards.specs.Says.{end_says, stage_at, stage_after, first_stage, is_over};
+ghost use Rattle.std.specs.Prelude.{◌≡◌, List, ℕ, drop};
+ghost use Rattle.limits.specs.Limits.{last_literal};
+ghost use Rattle.cards.specs.Numbers.{Parsed, number, before, parameters_of, wholly, count_of};
+ghost use Rattle.cards.specs.Ticks.{plain_tick, velocity_in, tick_line};
+ghost use Rattle.cards.specs.Place.{hex_table, digit_is, ReadsAs, tick_read, tick_at};
+ghost use Rattle.cards.specs.Says.{edition_of, says_by, stage_at, first_stage, is_over, broken_by, line_says};
+ghost use Rattle.cards.specs.Says.{stage_after, end_says};
 
-use decimals::Number;
+use limits::Refusal;
+use std::marker::Model;
 
 // The place of the last parameter.
 const LAST: usize = limits::PARAMETERS - 1;
@@ -23,19 +22,24 @@ const LAST: usize = limits::PARAMETERS - 1;
 // The bytes of a tick line with no velocity, its byte 10 not counted.
 const TICK_LINE: usize = 20;
 
-// How many values a byte has.
-pub const BYTES: usize = 256;
+// The place of its hexadecimal digits.
+const DIGITS: usize = 4;
 
-// No edition is known: before the first line, and once the card is over.
+// How many values a byte has.
+const BYTES: usize = 256;
+
+// The edition of a stage where none is known: before the first line, and once the card is over. No line is read by it.
+// It is a number and no Option: with one, whoever reads tick lines would need a case for a stage that no card reaches.
 pub const NO_EDITION: u32 = 0;
 
-// The edition whose tick lines have no velocity (SPEC 10.6).
+// The edition whose tick lines have no velocity (SPEC 10.6). An edition is the number in its first line (SPEC 10.2): an
+// enum would need that number beside it, in the definitions too.
 const PLAIN_EDITION: u32 = 1;
 
 // The first line of each edition (SPEC 10.2), and how the next three begin (SPEC 10.3, SPEC 10.4, SPEC 10.5).
-const EDITION_1: [u8; 9] = *b"edition=1";
+const EDITION_1: &[u8] = b"edition=1";
 
-const EDITION_2: [u8; 9] = *b"edition=2";
+const EDITION_2: &[u8] = b"edition=2";
 
 const PARAMETERS_HEAD: [u8; 2] = *b"k=";
 
@@ -43,34 +47,51 @@ pub const RULE_HEAD: [u8; 6] = *b"watch=";
 
 const COUNT_HEAD: [u8; 6] = *b"ticks=";
 
-// SPEC 10.7: the refusal of one of the four first lines, and of one after them.
-const HEAD_REFUSAL: u32 = 17;
-
-const TICK_REFUSAL: u32 = 18;
-
-// A number that ends a line: how many ticks there are, and in the definitions a velocity.
+// A value that was read at a place of a line, and the place after it.
 #[derive(Clone, Copy)]
-pub enum Count {
-    Is(u32),
-    Broken,
+pub struct Found<T> {
+    pub value: T,
+    pub next: usize,
 }
 
-// A tick's start, signals and velocity.
-#[derive(Clone, Copy)]
-pub enum TickLine {
-    Is(u32, u64, u32),
-    Broken,
+impl<T: Copy> Found<T> {
+    // The value, where the line ends behind it.
+    #[tactic(auto, using(crate::proofs::Reading::reading))]
+    fn at_end(self, s: &[u8]) -> Option<T>
+        ensures { (p : Parsed T) → ReadsAs (Some self) s.now p → result ≡ wholly p }
+    {
+        if self.next < s.len() {
+            None
+        } else {
+            Some(self.value)
+        }
+    }
+
+    // The same value before a byte; the place after it is the one after the byte.
+    #[tactic(auto, using(crate::proofs::Reading::reading))]
+    fn before(self, s: &[u8], byte: u8) -> Option<Found<T>>
+        ensures { (p : Parsed T) → ReadsAs (Some self) s.now p → ReadsAs result s.now (before byte p) }
+    {
+        if s.get(self.next) != Some(&byte) {
+            return None;
+        }
+        Some(Found {
+            value: self.value,
+            next: self.next + 1,
+        })
+    }
 }
 
-// The same of a tick line at a place, and the place after its byte 10.
+// The numbers of a tick line.
 #[derive(Clone, Copy)]
-pub enum TickFound {
-    Is(u32, u64, u32, usize),
-    Broken,
+pub struct TickLine {
+    pub start: u32,
+    pub signals: u64,
+    pub velocity: u32,
 }
 
 // Which line comes next.
-#[derive(Clone, Copy)]
+#[derive(Clone, Copy, PartialEq, Eq)]
 pub enum Phase {
     Edition,
     Parameters,
@@ -80,7 +101,8 @@ pub enum Phase {
     Over,
 }
 
-// The line that comes next, the card's edition, and the ticks that are left.
+// The line that comes next, the card's edition, and the ticks that are left. The last two stand beside the phase and not
+// in its cases: the stage after a line is told of any stage and anything that a line says (`stage_after`).
 #[derive(Clone, Copy)]
 pub struct Stage {
     pub phase: Phase,
@@ -88,349 +110,227 @@ pub struct Stage {
     pub left: u32,
 }
 
-// What a line says. The parameters stand beside it (`LineRead`), and the rule text is a part of the line.
+// What a line says that has no refusal. The rule text is a part of the line.
 #[derive(Clone, Copy)]
 pub enum Content {
     Edition(u32),
-    Parameters,
+    Parameters([u32; limits::PARAMETERS]),
     Rule,
     Count(u32),
-    // A tick's start, signals and velocity.
-    Tick(u32, u64, u32),
-    Refused(u32),
+    Tick(TickLine),
     // The card was over before it.
     Nothing,
 }
 
-// What a line says, with the parameters where it says these.
-#[derive(Clone, Copy)]
-pub struct LineRead {
-    pub content: Content,
-    pub parameters: [u32; limits::PARAMETERS],
-}
-
-// With no parameters beside it.
-fn plain(content: Content) -> LineRead
-    ensures { (result.content ≡ content) × (result.parameters ≡ replicate parameter_count 0) }
+// SPEC 10.2: which edition's line the first line is.
+fn edition_of(s: &[u8]) -> Option<u32>
+    ensures { result ≡ edition_of s.now }
 {
-    LineRead {
-        content: content,
-        parameters: [0u32; limits::PARAMETERS],
+    if s == EDITION_1 {
+        return Some(1);
     }
+    if s == EDITION_2 {
+        return Some(2);
+    }
+    None
 }
 
 // SPEC 10.3: the line of the parameters.
-fn parameters_line(s: &[u8]) -> LineRead
-    ensures { (says_by result.content result.parameters s.now
-        ≡ parameters_say (parameters_of s.now))
-        × ((result.content ≡ Content.Parameters → ⊥) → result.parameters ≡ replicate parameter_count 0) }
+#[tactic(auto, using(crate::proofs::Numbers::listing), unfolding(crate::specs::Numbers::parameters_of))]
+fn parameters_of(s: &[u8]) -> Option<[u32; limits::PARAMETERS]>
+    ensures { result ≡ parameters_of s.now }
 {
-    if !decimals::has_prefix(s, &PARAMETERS_HEAD) {
-        return plain(Content::Refused(HEAD_REFUSAL));
+    if !s.starts_with(&PARAMETERS_HEAD) {
+        return None;
     }
-    let mut ps = [0u32; limits::PARAMETERS];
+    let mut ps = [0; limits::PARAMETERS];
     let mut at = PARAMETERS_HEAD.len();
-    let mut i = 0;
-    while i < LAST {
-        let Number::Is { value, next } = decimals::decimal_before_comma(s, at, limits::LAST_LITERAL)
-        else {
-            return plain(Content::Refused(HEAD_REFUSAL));
-        };
-        ps[i] = value;
-        at = next;
-        i += 1;
+    for p in ps[..LAST].iter_mut() {
+        let found = decimals::decimal_before_comma(s, at, limits::LAST_LITERAL)?;
+        *p = found.value;
+        at = found.next;
     }
-    let Number::Is { value, next } = decimals::decimal_at(s, at, limits::LAST_LITERAL) else {
-        return plain(Content::Refused(HEAD_REFUSAL));
-    };
-    if next < s.len() {
-        return plain(Content::Refused(HEAD_REFUSAL));
-    }
-    ps[LAST] = value;
-    LineRead {
-        content: Content::Parameters,
-        parameters: ps,
-    }
+    ps[LAST] = last_number(s, at)?;
+    Some(ps)
 }
 
 // The number from a place up to the line's end.
-fn last_number(s: &[u8], from: usize) -> Count
+#[tactic(auto, using(crate::proofs::Reading::reading))]
+fn last_number(s: &[u8], from: usize) -> Option<u32>
     ensures { result ≡ wholly (number last_literal (drop from s.now)) }
 {
-    let Number::Is { value, next } = decimals::decimal_at(s, from, limits::LAST_LITERAL) else {
-        return Count::Broken;
-    };
-    if next < s.len() {
-        return Count::Broken;
-    }
-    Count::Is(value)
+    decimals::decimal_at(s, from, limits::LAST_LITERAL)?.at_end(s)
 }
 
 // SPEC 10.5: the line of the number of ticks.
-fn count_line(s: &[u8]) -> Count
+#[tactic(auto, using(crate::proofs::Numbers::prefix_is), unfolding(crate::specs::Numbers::count_of))]
+fn count_of(s: &[u8]) -> Option<u32>
     ensures { result ≡ count_of s.now }
 {
-    if !decimals::has_prefix(s, &COUNT_HEAD) {
-        return Count::Broken;
+    if !s.starts_with(&COUNT_HEAD) {
+        return None;
     }
     last_number(s, COUNT_HEAD.len())
 }
 
-// The value of each byte as a hexadecimal digit of SPEC 10.6, 16 where it is none. It is made once for all tick lines
-// that are run together, or for one line by itself, and lent to the functions that read them.
-pub fn hex_digits() -> [u8; BYTES]
-    ensures { result ≡ hex_table }
-{
-    let digits = *b"0123456789abcdef";
-    let mut hex = [16u8; BYTES];
-    let mut k = 0;
-    while k < digits.len() {
-        let b = digits[k];
-        hex[b as usize] = k as u8;
-        k += 1;
-    }
-    hex
+// The value of each byte as a hexadecimal digit of SPEC 10.6, 16 where it is none: bytes and no options, which would
+// take more room. It is made once for all tick lines that are run together, or for one line by itself, and lent to the
+// functions that read them.
+#[derive(Drop)]
+pub struct HexDigits {
+    values: [u8; BYTES],
 }
 
-// The value of a byte in them.
-fn digit_in(hex: &[u8; BYTES], b: u8) -> u64
-    requires { hex.now ≡ hex_table }
-    ensures { result ≡ hex_of b }
+impl Model for HexDigits {
+    ghost use Rattle.std.specs.Prelude.{◌≡◌, List, ℕ};
+    ghost use Rattle.cards.specs.Place.{hex_table};
+
+    ghost Value = { List ℕ };
+
+    ghost view = { λ h. h.values };
+
+    ghost invariant = { λ h. h.values ≡ hex_table };
+}
+
+impl HexDigits {
+    // The value of a byte that is a digit.
+    #[tactic(auto, using(crate::proofs::Hex::table_at))]
+    fn value(&self, b: u8) -> Option<u64>
+        ensures { result ≡ digit_is b }
+    {
+        let value = u64::from(self.values[usize::from(b)]);
+        if 15 < value { None } else { Some(value) }
+    }
+}
+
+// The values of all bytes.
+#[tactic(auto, using(crate::proofs::Hex::filled_all), unfolding(crate::proofs::Hex::filled))]
+pub fn hex_digits() -> HexDigits
+    ensures { result ≡ hex_table }
 {
-    hex[b as usize] as u64
+    let digits = b"0123456789abcdef";
+    let mut values = [16u8; BYTES];
+    for (k, b) in digits.iter().enumerate() {
+        values[*b as usize] = k as u8;
+    }
+    HexDigits { values }
 }
 
 // A tick line with no velocity.
-fn plain_line(hex: &[u8; BYTES], s: &[u8]) -> TickLine
-    requires { hex.now ≡ hex_table }
+#[tactic(auto, using(crate::proofs::Hex::hexing), unfolding(crate::specs::Ticks::plain_tick))]
+fn plain_line(hex: &HexDigits, s: &[u8; TICK_LINE]) -> Option<TickLine>
     ensures { result ≡ plain_tick s.now }
 {
-    if s.len() != TICK_LINE {
-        return TickLine::Broken;
+    let [b't', b'=', start @ (b'0' | b'1'), b',', ..] = s else {
+        return None;
+    };
+    let mut signals = 0u64;
+    for b in &s[DIGITS..] {
+        let digit = hex.value(*b)?;
+        signals = signals * 16 + digit;
     }
-    if s[0] != b't' {
-        return TickLine::Broken;
-    }
-    if s[1] != b'=' {
-        return TickLine::Broken;
-    }
-    if s[3] != b',' {
-        return TickLine::Broken;
-    }
-    let b = s[2];
-    if b < b'0' {
-        return TickLine::Broken;
-    }
-    if b'1' < b {
-        return TickLine::Broken;
-    }
-    let mut x = 0u64;
-    let mut i = 4;
-    while i < TICK_LINE {
-        let d = digit_in(hex, s[i]);
-        if 15 < d {
-            return TickLine::Broken;
-        }
-        x = x * 16 + d;
-        i += 1;
-    }
-    TickLine::Is((b - b'0') as u32, x, 0)
+    Some(TickLine {
+        start: u32::from(*start - b'0'),
+        signals,
+        velocity: 0,
+    })
 }
 
 // The velocity behind a comma at a place, and the place after it.
-fn velocity_at(velocities: u32, s: &[u8], at: usize) -> Number
+#[tactic(auto, using(crate::proofs::Velocities::velocity))]
+fn velocity_at(velocities: u32, s: &[u8], at: usize) -> Option<Found<u32>>
     ensures { ReadsAs result s.now (velocity_in velocities (drop at s.now)) }
 {
-    if s.len() <= at {
-        return Number::Broken;
-    }
-    if s[at] != b',' {
-        return Number::Broken;
-    }
-    let Number::Is { value, next } = decimals::decimal_at(s, at + 1, limits::LAST_LITERAL) else {
-        return Number::Broken;
+    let Some(b',') = s.get(at) else {
+        return None;
     };
-    if velocities <= value {
-        return Number::Broken;
-    }
-    Number::Is { value, next }
+    decimals::decimal_at(s, at + 1, limits::LAST_LITERAL).filter(|found| found.value < velocities)
 }
 
-// A tick line with a velocity.
-fn struck_line(hex: &[u8; BYTES], velocities: u32, s: &[u8]) -> TickLine
-    requires { hex.now ≡ hex_table }
-    ensures { result ≡ struck_tick velocities s.now }
+// The tick of an edition at a place of s, and the place after it.
+#[tactic(auto, using(crate::proofs::Front::tick))]
+fn tick_from(
+    hex: &HexDigits,
+    velocities: u32,
+    edition: u32,
+    s: &[u8],
+    at: usize,
+) -> Option<Found<TickLine>>
+    ensures { ReadsAs result s.now (tick_read velocities edition (drop at s.now)) }
 {
-    if s.len() <= TICK_LINE {
-        return TickLine::Broken;
+    let front = s.get(at..)?.first_chunk::<TICK_LINE>()?;
+    let line = plain_line(hex, front)?;
+    let next = at + TICK_LINE;
+    if edition == PLAIN_EDITION {
+        return Some(Found { value: line, next });
     }
-    let TickLine::Is(start, signals, _) = plain_line(hex, &s[..TICK_LINE]) else {
-        return TickLine::Broken;
-    };
-    let Number::Is { value, next } = velocity_at(velocities, s, TICK_LINE) else {
-        return TickLine::Broken;
-    };
-    if next < s.len() {
-        return TickLine::Broken;
-    }
-    TickLine::Is(start, signals, value)
+    let velocity = velocity_at(velocities, s, next)?;
+    Some(Found {
+        value: TickLine {
+            velocity: velocity.value,
+            ..line
+        },
+        next: velocity.next,
+    })
 }
 
 // SPEC 10.6: the tick line of an edition.
-fn tick_line(hex: &[u8; BYTES], velocities: u32, edition: u32, s: &[u8]) -> TickLine
-    requires { hex.now ≡ hex_table }
+#[tactic(auto, using(crate::proofs::Front::line_read, crate::proofs::Reading::none_whole))]
+fn tick_line(hex: &HexDigits, velocities: u32, edition: u32, s: &[u8]) -> Option<TickLine>
     ensures { result ≡ tick_line velocities edition s.now }
 {
-    if edition == PLAIN_EDITION {
-        return plain_line(hex, s);
-    }
-    struck_line(hex, velocities, s)
-}
-
-// SPEC 10.2: which edition's line the first line is.
-fn edition_of(s: &[u8]) -> u32
-    ensures { result ≡ edition_of s.now }
-{
-    if lists::same_bytes(s, &EDITION_1) {
-        return 1;
-    }
-    if lists::same_bytes(s, &EDITION_2) {
-        return 2;
-    }
-    NO_EDITION
-}
-
-// The tick line with no velocity at a place: its bytes and byte 10 are at fixed places.
-fn plain_at(hex: &[u8; BYTES], s: &[u8], at: usize) -> TickFound
-    requires { hex.now ≡ hex_table }
-    ensures { (velocities : ℕ) → result ≡ tick_at velocities plain_edition s.now at }
-{
-    if s.len() <= TICK_LINE {
-        return TickFound::Broken;
-    }
-    if s.len() - TICK_LINE <= at {
-        return TickFound::Broken;
-    }
-    let stop = at + TICK_LINE;
-    if s[stop] != lists::LINE_END {
-        return TickFound::Broken;
-    }
-    let TickLine::Is(start, signals, velocity) = plain_line(hex, &s[at..stop]) else {
-        return TickFound::Broken;
-    };
-    TickFound::Is(start, signals, velocity, stop + 1)
-}
-
-// The tick line with a velocity at a place: its first bytes are at fixed places, and byte 10 is behind the velocity.
-fn struck_at(hex: &[u8; BYTES], velocities: u32, s: &[u8], at: usize) -> TickFound
-    requires { hex.now ≡ hex_table }
-    ensures { (e : ℕ) → (e ≡ plain_edition → ⊥) → result ≡ tick_at velocities e s.now at }
-{
-    if s.len() <= TICK_LINE {
-        return TickFound::Broken;
-    }
-    if s.len() - TICK_LINE <= at {
-        return TickFound::Broken;
-    }
-    let from = at + TICK_LINE;
-    let TickLine::Is(start, signals, _) = plain_line(hex, &s[at..from]) else {
-        return TickFound::Broken;
-    };
-    let Number::Is { value, next } = velocity_at(velocities, s, from) else {
-        return TickFound::Broken;
-    };
-    if s.len() <= next {
-        return TickFound::Broken;
-    }
-    if s[next] != lists::LINE_END {
-        return TickFound::Broken;
-    }
-    TickFound::Is(start, signals, value, next + 1)
+    tick_from(hex, velocities, edition, s, 0)?.at_end(s)
 }
 
 // The tick line at a place of s, where it is there with its byte 10, and the place after that.
-pub fn tick_at(hex: &[u8; BYTES], velocities: u32, edition: u32, s: &[u8], at: usize) -> TickFound
-    requires { hex.now ≡ hex_table }
+#[tactic(auto, using(crate::proofs::Front::found_before, crate::proofs::Reading::none_before))]
+pub fn tick_at(
+    hex: &HexDigits,
+    velocities: u32,
+    edition: u32,
+    s: &[u8],
+    at: usize,
+) -> Option<Found<TickLine>>
     ensures { result ≡ tick_at velocities edition s.now at }
 {
-    if edition == PLAIN_EDITION {
-        return plain_at(hex, s, at);
-    }
-    struck_at(hex, velocities, s, at)
+    tick_from(hex, velocities, edition, s, at)?.before(s, lists::LINE_END)
 }
 
 // What a line says that fails (SPEC 10.7): nothing once the card is over.
-pub fn broken(p: Phase) -> Content
-    ensures { (ps l : List ℕ) → says_by result ps l ≡ broken_by p }
+pub fn broken(phase: Phase) -> Result<Content, Refusal>
+    ensures { (l : List ℕ) → says_by result l ≡ broken_by phase }
 {
-    match p {
-        Phase::Edition => Content::Refused(HEAD_REFUSAL),
-        Phase::Parameters => Content::Refused(HEAD_REFUSAL),
-        Phase::Rule => Content::Refused(HEAD_REFUSAL),
-        Phase::Count => Content::Refused(HEAD_REFUSAL),
-        Phase::Ticks => Content::Refused(TICK_REFUSAL),
-        Phase::Over => Content::Nothing,
-    }
-}
-
-// What the first line says.
-fn edition_content(s: &[u8]) -> Content
-    ensures { (ps l : List ℕ) → says_by result ps l ≡ edition_says (edition_of s.now) }
-{
-    let edition = edition_of(s);
-    if edition == NO_EDITION {
-        return Content::Refused(HEAD_REFUSAL);
-    }
-    Content::Edition(edition)
-}
-
-// What the line `ticks=` says.
-fn count_content(s: &[u8]) -> Content
-    ensures { (ps l : List ℕ) → says_by result ps l ≡ count_says (count_of s.now) }
-{
-    let k = count_line(s);
-    match k {
-        Count::Broken => Content::Refused(HEAD_REFUSAL),
-        Count::Is(v) => Content::Count(v),
-    }
-}
-
-// What a line says at the ticks, where so many of them are left: with none left, any line is refused (SPEC 10.8).
-fn tick_content(velocities: u32, edition: u32, left: u32, s: &[u8]) -> Content
-    ensures { (ps l : List ℕ) → says_by result ps l ≡ tick_in velocities edition left s.now }
-{
-    if left == 0 {
-        return Content::Refused(TICK_REFUSAL);
-    }
-    let hex = hex_digits();
-    let t = tick_line(&hex, velocities, edition, s);
-    match t {
-        TickLine::Broken => Content::Refused(TICK_REFUSAL),
-        TickLine::Is(start, signals, velocity) => Content::Tick(start, signals, velocity),
+    match phase {
+        Phase::Edition | Phase::Parameters | Phase::Rule | Phase::Count => Err(Refusal::BadHead),
+        Phase::Ticks => Err(Refusal::BadTick),
+        Phase::Over => Ok(Content::Nothing),
     }
 }
 
 // SPEC 10.9, one line after another: what a line says, given without its byte 10.
-pub fn read_line(velocities: u32, stage: Stage, s: &[u8]) -> LineRead
-    ensures { (says_by result.content result.parameters s.now ≡ line_says velocities stage s.now)
-        × ((result.content ≡ Content.Parameters → ⊥) → result.parameters ≡ replicate parameter_count 0) }
+#[tactic(auto, using(crate::proofs::Numbers::prefix_is), unfolding(crate::specs::Says::line_says))]
+pub fn read_line(velocities: u32, stage: Stage, s: &[u8]) -> Result<Content, Refusal>
+    ensures { says_by result s.now ≡ line_says velocities stage s.now }
 {
-    let phase = stage.phase;
     if limits::LINE <= s.len() {
-        return plain(broken(phase));
+        return broken(stage.phase);
     }
-    match phase {
-        Phase::Edition => plain(edition_content(s)),
-        Phase::Parameters => parameters_line(s),
-        Phase::Rule => {
-            if decimals::has_prefix(s, &RULE_HEAD) {
-                return plain(Content::Rule);
-            }
-            plain(Content::Refused(HEAD_REFUSAL))
+    match stage.phase {
+        Phase::Edition => edition_of(s).map(Content::Edition).ok_or(Refusal::BadHead),
+        Phase::Parameters => parameters_of(s)
+            .map(Content::Parameters)
+            .ok_or(Refusal::BadHead),
+        Phase::Rule if s.starts_with(&RULE_HEAD) => Ok(Content::Rule),
+        Phase::Rule => Err(Refusal::BadHead),
+        Phase::Count => count_of(s).map(Content::Count).ok_or(Refusal::BadHead),
+        // With no tick left, any line is refused (SPEC 10.8).
+        Phase::Ticks if stage.left == 0 => Err(Refusal::BadTick),
+        Phase::Ticks => {
+            tick_line(&hex_digits(), velocities, stage.edition, s)
+                .map(Content::Tick)
+                .ok_or(Refusal::BadTick)
         }
-        Phase::Count => plain(count_content(s)),
-        Phase::Ticks => plain(tick_content(velocities, stage.edition, stage.left, s)),
-        Phase::Over => plain(Content::Nothing),
+        Phase::Over => Ok(Content::Nothing),
     }
 }
 
@@ -445,49 +345,28 @@ fn stage_at(phase: Phase, edition: u32, left: u32) -> Stage
 }
 
 // The stage after a line, with the one before it.
-pub fn stage_after(stage: Stage, content: Content) -> Stage
-    ensures { (ps l : List ℕ) → result ≡ stage_after stage (says_by content ps l) }
+pub fn stage_after(stage: Stage, said: Result<Content, Refusal>) -> Stage
+    ensures { (l : List ℕ) → result ≡ stage_after stage (says_by said l) }
 {
     let edition = stage.edition;
-    let left = stage.left;
-    match content {
-        Content::Edition(e) => stage_at(Phase::Parameters, e, 0),
-        Content::Parameters => stage_at(Phase::Rule, edition, 0),
-        Content::Rule => stage_at(Phase::Count, edition, 0),
-        Content::Count(k) => stage_at(Phase::Ticks, edition, k),
-        Content::Tick(start, signals, velocity) => {
-            if left == 0 {
-                return stage_at(Phase::Ticks, edition, 0);
-            }
-            stage_at(Phase::Ticks, edition, left - 1)
-        }
-        Content::Refused(r) => stage_at(Phase::Over, NO_EDITION, 0),
-        Content::Nothing => stage_at(Phase::Over, NO_EDITION, 0),
+    match said {
+        Ok(Content::Edition(first)) => stage_at(Phase::Parameters, first, 0),
+        Ok(Content::Parameters(_)) => stage_at(Phase::Rule, edition, 0),
+        Ok(Content::Rule) => stage_at(Phase::Count, edition, 0),
+        Ok(Content::Count(ticks)) => stage_at(Phase::Ticks, edition, ticks),
+        Ok(Content::Tick(_)) => stage_at(Phase::Ticks, edition, stage.left.saturating_sub(1)),
+        Ok(Content::Nothing) | Err(_) => stage_at(Phase::Over, NO_EDITION, 0),
     }
 }
 
 // What the end of the input says after n bytes with no byte 10.
-pub fn end(stage: Stage, n: usize) -> Content
-    ensures { (ps l : List ℕ) → says_by result ps l ≡ end_says stage n }
+pub fn end(stage: Stage, n: usize) -> Result<Content, Refusal>
+    ensures { (l : List ℕ) → says_by result l ≡ end_says stage n }
 {
-    let phase = stage.phase;
-    let left = stage.left;
-    match phase {
-        Phase::Ticks => {
-            if left == 0 {
-                if n == 0 {
-                    return Content::Nothing;
-                }
-                return Content::Refused(TICK_REFUSAL);
-            }
-            Content::Refused(TICK_REFUSAL)
-        }
-        Phase::Over => Content::Nothing,
-        Phase::Edition => Content::Refused(HEAD_REFUSAL),
-        Phase::Parameters => Content::Refused(HEAD_REFUSAL),
-        Phase::Rule => Content::Refused(HEAD_REFUSAL),
-        Phase::Count => Content::Refused(HEAD_REFUSAL),
+    if stage.phase == Phase::Ticks && stage.left == 0 && n == 0 {
+        return Ok(Content::Nothing);
     }
+    broken(stage.phase)
 }
 
 // Before the first line of a card.
@@ -501,12 +380,5 @@ pub fn first_stage() -> Stage
 pub fn is_over(phase: Phase) -> bool
     ensures { result ≡ is_over phase }
 {
-    match phase {
-        Phase::Edition => false,
-        Phase::Parameters => false,
-        Phase::Rule => false,
-        Phase::Count => false,
-        Phase::Ticks => false,
-        Phase::Over => true,
-    }
+    matches!(phase, Phase::Over)
 }

@@ -1,23 +1,26 @@
 -- Equations one after the other in a table: where they end, and what they leave of it. Assumes nothing.
-use mathlib.Core.List.{List, [], ◌∷◌, ◌++◌, map}
-use mathlib.Core.Path.{◌≡◌, refl, sym, ap, ap₂, ◌∙◌}
-use Prim.Native.Nat.{ℕ, zero, suc, ◌+◌, ◌*◌, ◌≤◌, ◌<◌}
-use native.Mathlib.Numerals.{add-one, add-two, add-three}
+use mathlib.Core.List.{List, [], ◌∷◌, ◌++◌, append-nil}
+use Rattle.std.specs.Prelude.{Option, Some, None}
+use mathlib.Core.Path.{◌≡◌, refl, sym, ap, ◌∙◌}
+use Prim.Native.Nat.{ℕ, zero, suc, ◌+◌, ◌-◌, ◌*◌, ◌≤◌, ◌<◌, min}
+use native.Mathlib.Numerals.{add-one}
+use native.Mathlib.Decide.{dec_le}
 use native.Mathlib.Omega.{arith}
-use lib.ListN.{length, get_or, set, take}
+use lib.ListN.{length, length-drop, get_or, set, take, drop}
 use lib.Seq.{sets}
-use Rattle.lists.specs.Number.{number_at}
+use borrow.Rule.Slice.PartMut.{put_mid, mid_of}
+use Rattle.std.proofs.lemmas.List.{take_rest, drop_all, set_past, take_all, take_more}
 use Rattle.lists.proofs.Buffers.{sets-append}
-use Rattle.tables.specs.Table.{Equation}
 use Rattle.tables.specs.Table.{equation}
-use Rattle.scheme.specs.Scheme.{widest, Row as SchemeRow, row_at, node_of, Values, resolved, filled}
+use Rattle.scheme.specs.Scheme.{◌⊕◌, Row as SchemeRow, Values, resolved, filled}
+use Rattle.scheme.proofs.Offsets.{⊕-add}
 use Rattle.scheme.specs.Emit.{place_after, numbers_of}
-use Rattle.scheme.proofs.Places.{after-length, length-numbers}
-use Rattle.scheme.proofs.ByKind.{rows_few}
-use Rattle.node_table.specs.Numbers.{name_count, value_list, kind_by, as_row, padded_rows, looked_up}
+use Rattle.scheme.proofs.Places.{after-length, after-append, length-numbers}
+use Rattle.node_table.specs.Table.{scheme_row, scheme_rows}
 use Rattle.node_table.specs.declared.Row.{Row}
-use Rattle.node_table.proofs.Found.{row-looked-up}
 use Rattle.emitter.specs.Machine.{with_equations}
+use Rattle.emitter.specs.Contract.{Put}
+use Rattle.tables.specs.declared.Equation.{Equation}
 
 -- ---- the numbers of equations
 
@@ -42,71 +45,100 @@ equations-append xs ys t o =
     ∙ sym (sets-append t (4 * o) (numbers_of xs) (numbers_of ys))
     ∙ ap (λ (n : ℕ). sets (sets t (4 * o) (numbers_of xs)) n (numbers_of ys)) end
 
--- The four stores of one equation.
-pub equation-one : (t : List ℕ) (o kind a b c : ℕ) →
-    set (set (set (set t (4 * o) kind) (4 * o + 1) a) (4 * o + 2) b) (4 * o + 3) c
-    ≡ with_equations t o (equation kind a b c ∷ [])
+-- Numbers stored from a place on are stored in what is left of the list there.
+sets-cons : (vs t : List ℕ) (x i : ℕ) → sets (x ∷ t) (suc i) vs ≡ x ∷ sets t i vs
+sets-cons [] t x i = refl
+sets-cons (v ∷ vs) t x i = sets-cons vs (set t i v) x (suc i)
+
+sets-drop : (t vs : List ℕ) (i : ℕ) → i ≤ length t → sets t i vs ≡ take i t ++ sets (drop i t) 0 vs
+sets-drop t vs zero h = refl
+sets-drop [] vs (suc i) h = absurd (omega arith)
+sets-drop (x ∷ t) vs (suc i) h = sets-cons vs t x i ∙ ap (λ (l : List ℕ). x ∷ l) (sets-drop t vs i (omega arith))
+
+sets_past : (t vs : List ℕ) (i : ℕ) → length t ≤ i → sets t i vs ≡ t
+sets_past t [] i h = refl
+sets_past t (v ∷ vs) i h = rw (set_past t i v h) (sets_past t vs (suc i) (omega arith))
+
+-- One equation in what is left of the table at its place, or at the table's end where that comes before.
+pub equation-put : (t p : List ℕ) (i n o kind a b c : ℕ) → i ≡ min (length t) (4 * o) → n ≡ length t - i
+    → p ≡ set (set (set (set (mid_of i n t) 0 kind) 1 a) 2 b) 3 c
+    → put_mid i n t p ≡ with_equations t o (equation kind a b c ∷ [])
 unfolding with_equations
-equation-one t o kind a b c = rw (add-one (4 * o), add-two (4 * o), add-three (4 * o))
+equation-put t p i n o kind a b c e-i e-n e-p =
+    let numbers : List ℕ = kind ∷ a ∷ b ∷ c ∷ [] in
+    let none : drop (length t - i) (drop i t) ≡ [] =
+    drop_all (length t - i) (drop i t) (omega (arith, length-drop i t)) in
+    let within : i ≤ length t = omega arith in
+    rw (e-p, e-n, take_rest t i, none, append-nil (sets (drop i t) 0 numbers), ← sets-drop t numbers i within)
+    (elim (dec_le (4 * o) (length t)) [
+      | yes h ↦ (let at : i ≡ 4 * o = omega arith in rw at)
+      | no h ↦
+          let end : i ≡ length t = omega arith in
+          rw (sets_past t numbers i (omega arith), sets_past t numbers (4 * o) (omega arith))
+    ])
 
--- The equation of a row of numbers with its names looked up, at place o.
-pub equation-looked-up : (t vs : List ℕ) (o : ℕ) (r : Row) {comparison kind a b c : ℕ} {t' : List ℕ}
-    → comparison ≡ number_at vs name_count → kind ≡ kind_by comparison r.0 → a ≡ number_at vs r.1
-    → b ≡ number_at vs r.2 → c ≡ number_at vs r.3 → t' ≡ with_equations t o (equation kind a b c ∷ [])
-    → t' ≡ with_equations t o (looked_up vs r ∷ [])
-equation-looked-up t vs o r e e-kind e-a e-b e-c e-t = rw (e-kind, e, e-a, e-b, e-c) at e-t
+-- No equations are put; equations are put after equations.
+pub put-none : (t : List ℕ) (o : ℕ) → Put [] t o t o
+put-none t o = record { table = sym (equations-none t o); next = refl }
 
--- One equation more.
-pub equations-more : (t : List ℕ) (o : ℕ) (es : List Equation) (e : Equation) {t₁ t₂ : List ℕ}
-    → t₁ ≡ with_equations t o es → t₂ ≡ with_equations t₁ (o + length es) (e ∷ [])
-    → t₂ ≡ with_equations t o (es ++ (e ∷ []))
-equations-more t o es e e₁ e₂ =
-    e₂
-    ∙ ap (λ (l : List ℕ). with_equations l (o + length es) (e ∷ [])) e₁
-    ∙ ap (λ (n : ℕ). with_equations (with_equations t o es) n (e ∷ [])) (sym (after-length es o))
-    ∙ sym (equations-append es (e ∷ []) t o)
+pub put-after : {es fs : List Equation} {t₀ t : List ℕ} {o₀ o : ℕ} {t' : List ℕ} {o' : ℕ} → Put es t₀ o₀ t o
+    → Put fs t o t' o' → Put (es ++ fs) t₀ o₀ t' o'
+put-after {es} {fs} {t₀} {o₀ = o₀} g h =
+    record {
+      table = rw (h.table, g.table, g.next, equations-append es fs t₀ o₀);
+      next = rw (h.next, g.next, after-append es fs o₀);
+    }
 
 -- ---- the rows of a node
 
--- The first i rows looked up, and the next one with them.
-rows_next : (vs : List ℕ) (i : ℕ) (rs : List Row) (r₀ : Row) → i < length rs
-    → take (suc i) (map (looked_up vs) rs) ≡ take i (map (looked_up vs) rs) ++ (looked_up vs (get_or rs i r₀) ∷ [])
-rows_next vs i [] r₀ h = absurd (omega arith)
-rows_next vs zero (r ∷ rs) r₀ h = refl
-rows_next vs (suc i) (r ∷ rs) r₀ h =
-    ap (λ (l : List Equation). looked_up vs r ∷ l) (rows_next vs i rs r₀ (omega arith))
+filled-length : (v : Values) (rs : List SchemeRow) → length (filled v rs) ≡ length rs
+filled-length v [] = refl
+filled-length v (r ∷ rs) = ap suc (filled-length v rs)
 
--- They are i.
-rows-length : (vs : List ℕ) (i : ℕ) (rs : List Row) → i ≤ length rs → length (take i (map (looked_up vs) rs)) ≡ i
-rows-length vs zero rs h = refl
-rows-length vs (suc i) [] h = absurd (omega arith)
-rows-length vs (suc i) (r ∷ rs) h = ap suc (rows-length vs i rs (omega arith))
+-- The places after a node's rows are as many as the rows.
+pub after-filled : (v : Values) (rs : List SchemeRow) (o : ℕ) → place_after o (filled v rs) ≡ o ⊕ length rs
+after-filled v rs o = after-length (filled v rs) o ∙ ap (λ (n : ℕ). o + n) (filled-length v rs) ∙ sym (⊕-add o (length rs))
 
--- After i rows one more.
-pub rows_more : (t vs : List ℕ) (o i : ℕ) (rs : List Row) (r₀ : Row) {t₁ t₂ : List ℕ} → i < length rs
-    → t₁ ≡ with_equations t o (take i (map (looked_up vs) rs))
-    → t₂ ≡ with_equations t₁ (o + i) (looked_up vs (get_or rs i r₀) ∷ [])
-    → t₂ ≡ with_equations t o (take (i + 1) (map (looked_up vs) rs))
-rows_more t vs o i rs r₀ {t₁} h e₁ e₂ =
-    let rows : List Equation = take i (map (looked_up vs) rs) in
-    let at : o + i ≡ o + length rows = ap (λ (n : ℕ). o + n) (sym (rows-length vs i rs (omega arith))) in
-    equations-more t o rows (looked_up vs (get_or rs i r₀)) e₁
-    (e₂ ∙ ap (λ (n : ℕ). with_equations t₁ n (looked_up vs (get_or rs i r₀) ∷ [])) at)
-    ∙ ap (with_equations t o) (sym (rows_next vs i rs r₀ h))
-    ∙ ap (λ (n : ℕ). with_equations t o (take n (map (looked_up vs) rs))) (sym (add-one i))
+-- The first i slots, and the next one with them.
+scheme_rows-append : (rs : List (Option Row)) (r : Option Row)
+    → scheme_rows (rs ++ (r ∷ [])) ≡ scheme_rows rs ++ scheme_rows (r ∷ [])
+scheme_rows-append [] r = refl
+scheme_rows-append (None ∷ rs) r = scheme_rows-append rs r
+scheme_rows-append (Some x ∷ rs) r = ap (λ (l : List SchemeRow). scheme_row x ∷ l) (scheme_rows-append rs r)
 
--- The node's own rows, with the values v.
-module _ (v : Values) where
-  rows-own : (n : ℕ) (rs : List SchemeRow) → length rs ≤ n
-      → ((i : ℕ) → i < length rs → looked_up (value_list v) (as_row (row_at rs i)) ≡ resolved v (row_at rs i))
-      → take (length rs) (map (looked_up (value_list v)) (padded_rows n rs)) ≡ filled v rs
-  rows-own n [] h each = refl
-  rows-own zero (r ∷ rs) h each = absurd (omega arith)
-  rows-own (suc n) (r ∷ rs) h each =
-      ap₂ ◌∷◌ (each 0 (omega arith)) (rows-own n rs (omega arith) (λ i g. each (suc i) (omega arith)))
+filled-append : (v : Values) (rs qs : List SchemeRow) → filled v (rs ++ qs) ≡ filled v rs ++ filled v qs
+filled-append v [] qs = refl
+filled-append v (r ∷ rs) qs = ap (λ (l : List Equation). resolved v r ∷ l) (filled-append v rs qs)
 
-  pub own-rows : (k : ℕ)
-      → take (length (node_of k).rows) (map (looked_up (value_list v)) (padded_rows widest (node_of k).rows))
-      ≡ filled v (node_of k).rows
-  own-rows k =
-      rows-own widest (node_of k).rows (rows_few k) (λ i h. row-looked-up v k i (omega (arith, rows_few k)))
+pub slot_more : (v : Values) (rs : List (Option Row)) (i : ℕ) (r : Option Row) → i < length rs → get_or rs i None ≡ r
+    → filled v (scheme_rows (take (i + 1) rs)) ≡ filled v (scheme_rows (take i rs)) ++ filled v (scheme_rows (r ∷ []))
+slot_more v rs i r h e =
+    rw (take_more rs i None h, e, scheme_rows-append (take i rs) r)
+    (filled-append v (scheme_rows (take i rs)) (scheme_rows (r ∷ [])))
+
+-- The first i slots' rows are put.
+pub record Filling (v : Values) (rs : List (Option Row)) (t₀ : List ℕ) (o₀ : ℕ) (t : List ℕ) (o i : ℕ) : Type 0 where
+  pub put : Put (filled v (scheme_rows (take i rs))) t₀ o₀ t o
+  pub near : o ≤ o₀ + i
+
+pub filling-none : (v : Values) (rs : List (Option Row)) (t : List ℕ) (o : ℕ) → Filling v rs t o t o 0
+filling-none v rs t o = record { put = put-none t o; near = omega arith }
+
+-- One slot more, with no row and with one.
+pub filling-empty : {v : Values} {rs : List (Option Row)} {t₀ : List ℕ} {o₀ : ℕ} {t : List ℕ} {o i : ℕ}
+    → Filling v rs t₀ o₀ t o i → i < length rs → get_or rs i None ≡ None → Filling v rs t₀ o₀ t o (i + 1)
+filling-empty {v} {rs} {i = i} g h e =
+    let same = slot_more v rs i None h e ∙ append-nil (filled v (scheme_rows (take i rs))) in
+    record { put = rw same g.put; near = omega (arith, g.near) }
+
+pub filling-row : {v : Values} {rs : List (Option Row)} {t₀ : List ℕ} {o₀ : ℕ} {t : List ℕ} {o i : ℕ} {t' : List ℕ}
+    (r : Row) → Filling v rs t₀ o₀ t o i → i < length rs → get_or rs i None ≡ Some r
+    → t' ≡ with_equations t o (resolved v (scheme_row r) ∷ []) → Filling v rs t₀ o₀ t' (o + 1) (i + 1)
+filling-row {v} {rs} {o = o} {i} r g h e e-t =
+    let one : Put (resolved v (scheme_row r) ∷ []) _ o _ (o + 1) = record { table = e-t; next = add-one o } in
+    let more = slot_more v rs i (Some r) h e in
+    record { put = rw more (put-after g.put one); near = omega (arith, g.near) }
+
+pub filling-all : {v : Values} {rs : List (Option Row)} {t₀ : List ℕ} {o₀ : ℕ} {t : List ℕ} {o i : ℕ}
+    → Filling v rs t₀ o₀ t o i → length rs ≤ i → Put (filled v (scheme_rows rs)) t₀ o₀ t o
+filling-all {rs = rs} {i = i} g h = rw (take_all i rs h) at g.put

@@ -2,11 +2,11 @@
 use mathlib.Core.Bool.{Bool, true, false, cond}
 use mathlib.Core.List.{List, [], ◌∷◌, ◌++◌, append_assoc}
 use mathlib.Core.Path.{◌≡◌, refl, sym, ap, ◌∙◌}
-use Prim.Native.Nat.{ℕ, zero, suc, ◌+◌, ◌-◌, ◌≤◌, ◌<◌}
+use Prim.Native.Nat.{ℕ, suc, ◌+◌, ◌-◌, ◌≤◌, ◌<◌}
 use native.Mathlib.Nat.{add-zero, add-suc, suc-add}
 use native.Mathlib.Numerals.{add-one}
 use native.Mathlib.Omega.{arith}
-use lib.ListN.{set, length, length-append}
+use lib.ListN.{length, length-append}
 use lib.Seq.{get_or_at, set_at}
 use Rattle.lists.specs.Number.{number_at}
 use Rattle.traces.specs.Trace.{nonzero}
@@ -26,18 +26,6 @@ starts-are t e₁ e₂ =
 
 -- ---- one signal
 
-pub signal-named : (t named : List ℕ) (j o flag : ℕ) {t' named' : List ℕ} → flag ≡ number_at named j → (flag ≡ 0 → ⊥)
-    → named' ≡ set named j o → t' ≡ with_equations t o (equation SIGNAL j 0 0 ∷ [])
-    → header_of t' named' (o + 1) ≡ with_signal j (header_of t named o)
-unfolding with_signal
-signal-named t named j o zero e h e-named e-t = absurd (h refl)
-signal-named t named j o (suc flag) e h e-named e-t = rw (sym e, e-named, e-t, add-one o)
-
-pub signal-other : (t named : List ℕ) (j o : ℕ) {flag : ℕ} {named' : List ℕ} → flag ≡ number_at named j → flag ≡ 0
-    → named' ≡ set named j o → header_of t named' o ≡ with_signal j (header_of t named o)
-unfolding with_signal
-signal-other t named j o e h e-named = rw (sym e, h, e-named)
-
 -- It adds one equation at most.
 signal-near : (j : ℕ) (h : Header) → (with_signal j h).next ≤ h.next + 1
 unfolding with_signal
@@ -50,36 +38,24 @@ signal-near j h = at_most (nonzero (number_at h.places j))
 -- ---- the loop of `settle_all`: j of the m signals are done
 
 pub record Settling (m : ℕ) (t₀ named₀ : List ℕ) (o₀ : ℕ) (t named : List ℕ) (o j : ℕ) : Type 0 where
-  pub passed : j ≤ m
-  pub same : length t ≡ length t₀
-  pub same-named : length named ≡ length named₀
   pub few : o ≤ o₀ + j
   pub left : settle (m - j) j (header_of t named o) ≡ settle m 0 (header_of t₀ named₀ o₀)
 
-pub settling-none : {m : ℕ} {t named : List ℕ} {o : ℕ} → Settling m t named o t named o 0
-settling-none {m} =
-    let all : m - 0 ≡ m = omega arith in
-    record { passed = omega arith; same = refl; same-named = refl; few = omega arith; left = rw all }
-
 pub settling-one : {m : ℕ} {t₀ named₀ : List ℕ} {o₀ : ℕ} {t named : List ℕ} {o j : ℕ} {t' named' : List ℕ} {o' : ℕ}
-    → Settling m t₀ named₀ o₀ t named o j → j < m
-    → header_of t' named' o' ≡ with_signal j (header_of t named o) → length t' ≡ length t → length named' ≡ length named
+    → Settling m t₀ named₀ o₀ t named o j → j < m → header_of t' named' o' ≡ with_signal j (header_of t named o)
     → Settling m t₀ named₀ o₀ t' named' o' (j + 1)
 unfolding settle
-settling-one {m} {t₀} {named₀} {o₀} {t} {named} {o} {j} {t'} {named'} {o'} e h d e-t e-named =
+settling-one {m} {t = t} {named} {o} {j} {o' = o'} e h d =
     let next : o' ≡ (with_signal j (header_of t named o)).next = ap (λ (x : Header). x.next) d in
     let near : (with_signal j (header_of t named o)).next ≤ o + 1 = signal-near j (header_of t named o) in
     let one : m - j ≡ suc (m - (j + 1)) = omega arith in
     record {
-      passed = omega arith;
-      same = e-t ∙ e.same;
-      same-named = e-named ∙ e.same-named;
       few = omega arith;
       left = ap (settle (m - (j + 1)) (j + 1)) d ∙ rw (add-one j) (rw (one, add-one j) at e.left);
     }
 
 pub settling-all : {t named t₀ t' named' : List ℕ} {o j : ℕ} → t₀ ≡ with_equations t 0 start-es
-    → Settling signal_count t₀ named header_count t' named' o j → signal_count ≤ j → Headed t named t' named' o
+    → Settling signal_count t₀ named header_count t' named' o j → j ≡ signal_count → Headed t named t' named' o
 unfolding settle
 settling-all {named = named} {j = j} e-t e h =
     let none : signal_count - j ≡ 0 = omega arith in

@@ -1,6 +1,6 @@
 -- Why the pass gives the observer's equations: laws that the functions' proofs cite, and `Size` for callers.
 pub mod Equations
-pub mod Stack
+pub mod Entry
 pub mod Records
 pub mod Header
 pub mod Named

@@ -22,9 +22,10 @@ use Rattle.formulas.specs.Arena.{CONSTANT, SIGNAL, NOT, AND, OR, TEST, LEN, COUN
 use Rattle.formulas.specs.Arena.{VELOCITY, test_number, count_number, num_kind, num_value, row, flat}
 use Rattle.formulas.proofs.Formulas.{raw_p, raw}
 use Rattle.tables.specs.Kind as tables
-use Rattle.tables.specs.Table.{Equation, equation}
+use Rattle.tables.specs.Table.{equation}
 use Rattle.scheme.specs.Emit.{named_by_p, named_by, tests_p, tests_of}
-use Rattle.emitter.specs.Machine.{marked, marks, tests_in}
+use Rattle.emitter.specs.Machine.{marked, marks, tests_in, records}
+use Rattle.tables.specs.declared.Equation.{Equation}
 
 -- A record of this kind is no leaf's that the table's head has a part of.
 abbrev Other : ℕ → Type 0
@@ -45,7 +46,7 @@ record Passed (l : List ℕ) : Type 0 where
   tests_left : (r : List ℕ) → tests_in (l ++ r) ≡ tests_in r
 
 passed : (k a b c : ℕ) → Other k → Passed (row k a b c)
-unfolding marks marked tests_in
+unfolding marks marked tests_in records
 passed k a b c e = record { marks-left = λ r named. rw e.0; tests_left = λ r. rw e.1 }
 
 other : (k a b c : ℕ) → Other k → Leaves (row k a b c) (λ j. false) []
@@ -66,7 +67,7 @@ one-mark i named j h (yes e) = rw (eq-eqb i j e, e, get_or-set_same named j 1 0 
 one-mark i named j h (no n) = rw (ne_eqb i j n, get_or-set_other named i j 1 0 (λ e. n (sym e)))
 
 of-signal : (i : ℕ) → Leaves (row SIGNAL i 0 0) (λ j. eqb i j) []
-unfolding marks marked tests_in
+unfolding marks marked tests_in records
 of-signal i =
     record {
       on = λ named. set named i 1;
@@ -78,7 +79,7 @@ of-signal i =
 
 -- a velocity test's has its test,
 of-velocity : (a b : ℕ) → Leaves (row VELOCITY a b 0) (λ j. false) (equation tables.VELOCITY a b 0 ∷ [])
-unfolding marks marked tests_in
+unfolding marks marked tests_in records
 of-velocity a b =
     record {
       on = λ named. named;
@@ -222,7 +223,7 @@ leaves-formula (then f g) =
 -- ---- the tests
 
 pub tests-are : (f : Formula) → tests_in (flat (raw f)) ≡ tests_of f
-unfolding tests_in
+unfolding tests_in records
 tests-are f =
     sym (ap tests_in (append-nil (flat (raw f)))) ∙ (leaves-formula f).tests [] ∙ append-nil (tests_of f)
 
@@ -233,7 +234,7 @@ no-mark true = refl
 no-mark false = refl
 
 marks-on : (f : Formula) (named : List ℕ) → marks (flat (raw f)) named ≡ (leaves-formula f).on named
-unfolding marks
+unfolding marks records
 marks-on f named =
     sym (ap (λ (l : List ℕ). marks l named) (append-nil (flat (raw f)))) ∙ (leaves-formula f).left [] named
 

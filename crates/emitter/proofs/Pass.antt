@@ -16,7 +16,6 @@ use Rattle.formulas.specs.Arena.{NOT, AND, OR, TEST, COUNT, RUN, FINE, ALWAYS, L
 use Rattle.formulas.specs.Arena.{count_number}
 use Rattle.formulas.specs.Arena.{num_kind, num_value, row, flat}
 use Rattle.formulas.proofs.Formulas.{raw_p, raw}
-use Rattle.tables.specs.Table.{Equation}
 use Rattle.scheme.specs.Scheme.{◌⊕◌, Node, node_of, and_node, or_node, begin_node, point_node, held_node, kept_node}
 use Rattle.scheme.specs.Scheme.{sum_node, age_node}
 use Rattle.scheme.specs.Emit.{Block, place_after, own_flow, emit_p, emit, not-block, join-block, atom-block, not-es}
@@ -24,9 +23,10 @@ use Rattle.scheme.specs.Emit.{and-es, or-es}
 use Rattle.scheme.specs.Emit.{begin-es, point-es, held-es, kept-es, sum-es, age-es, run-es, fine-es, always-es}
 use Rattle.scheme.specs.Emit.{lead-end-es, then-es, after_run, after_fine, tests_p, tests_of}
 use Rattle.emitter.specs.Machine.{with_equations, State, state, before, record_of}
-use Rattle.emitter.specs.Machine.{values_at, applied, step, run}
+use Rattle.emitter.specs.Machine.{values_at, applied, step, run, records}
 use Rattle.scheme.proofs.Places.{after-append}
 use Rattle.emitter.proofs.Equations.{equations-none, equations-append}
+use Rattle.tables.specs.declared.Equation.{Equation}
 
 -- ---- blocks of equations in a state
 
@@ -62,7 +62,7 @@ module _ (places : List ℕ) where
 
   one : (l : List ℕ) (x : State → Block) (ts : List Equation) → Runs l x ts → (k a b c : ℕ) (r : List ℕ) (s : State) →
       run places ((l ++ row k a b c) ++ r) s ≡ run places r (step places (record_of k a b c) (done (x s) ts s))
-  unfolding run
+  unfolding run records
   one l x ts h k a b c = after l (row k a b c) x ts h
 
   -- and after those of two.
@@ -126,7 +126,7 @@ module _ (places : List ℕ) where
   done_p p s = done (block_p p s) (tests_p p) s
 
   run-prop : (p : Prop) → Runs (flat (raw_p p)) (block_p p) (tests_p p)
-  unfolding node_of values_at applied step run
+  unfolding node_of values_at applied step run records
   run-prop (constant c) r s = refl
   run-prop (signal j) r s = refl
   run-prop (velocity o n) r s = refl
@@ -164,7 +164,7 @@ module _ (places : List ℕ) where
   done_f f s = done (block f s) (tests_of f) s
 
   pub run-formula : (f : Formula) → Runs (flat (raw f)) (block f) (tests_of f)
-  unfolding node_of values_at applied step run
+  unfolding node_of values_at applied step run records
   run-formula (test begin p) r s =
       of_test begin p r s
       ∙ atom-done (begin-es (before s.negated) s.negated) begin_node (block_p p s) (tests_p p) r s

@@ -7,10 +7,10 @@ use native.Mathlib.Omega.{arith}
 use lib.ListN.{length, drop}
 use lib.Seq.{sets, sets-eq}
 use Rattle.formulas.specs.Formula.{Formula}
-use Rattle.tables.specs.Table.{Equation}
 use Rattle.limits.specs.Limits.{equation_limit, table_room}
 use Rattle.scheme.specs.Emit.{observer, numbers_of}
 use Rattle.scheme.proofs.Places.{length-numbers}
+use Rattle.tables.specs.declared.Equation.{Equation}
 
 -- In a table that refusal 9 lets pass (SPEC 7.9), an observer's equations stand at the front, and what comes after them
 -- is kept.

@@ -10,13 +10,12 @@ use Rattle.traces.specs.Trace.{nonzero}
 use Rattle.formulas.specs.Formula.{Formula}
 use Rattle.formulas.specs.Arena.{WHOLE, flat}
 use Rattle.formulas.proofs.Formulas.{raw}
-use Rattle.tables.specs.Table.{Equation}
 use Rattle.limits.specs.Limits.{arena_limit, signal_count}
 use Rattle.scheme.specs.Scheme.{◌⊕◌, node_of}
 use Rattle.scheme.specs.Emit.{Block, place_after, emit, named_by, signals-es, places, whole-es}
 use Rattle.scheme.specs.Emit.{start_flow, negated_flow, header_count, start-es, tests_of, next_test}
 use Rattle.emitter.specs.Machine.{with_equations, State, state, record_of, values_at}
-use Rattle.emitter.specs.Machine.{applied, step, run, ran, marks, Header, header_of, settle, headed}
+use Rattle.emitter.specs.Machine.{applied, step, run, ran, records, marks, Header, header_of, settle, headed}
 use Rattle.emitter.specs.Machine.{tests_in}
 use Rattle.emitter.specs.Contract.{Emitted, Ran, Headed, Tested}
 use Rattle.scheme.proofs.Places.{after-length, after-append}
@@ -24,6 +23,7 @@ use Rattle.emitter.proofs.Equations.{equations-append}
 use Rattle.emitter.proofs.Header.{settle_is}
 use Rattle.emitter.proofs.Named.{named-long, named-at, tests-are}
 use Rattle.emitter.proofs.Pass.{done, run-formula}
+use Rattle.tables.specs.declared.Equation.{Equation}
 
 -- ---- the header, of m signals
 
@@ -49,7 +49,7 @@ ran-is : (f : Formula) (ps t : List ℕ) (u o : ℕ) →
     ran (flat (raw f)) ps t u o
     ≡ step ps (record_of WHOLE 0 0 0)
     (done (emit (number_at ps) f start_flow negated_flow u o) (tests_of f) (state t o u negated_flow []))
-unfolding run
+unfolding run records
 ran-is f ps t u o =
     ap (λ (l : List ℕ). ran l ps t u o) (sym (append-nil (flat (raw f))))
     ∙ ap (step ps (record_of WHOLE 0 0 0)) (run-formula ps f [] (state t o u negated_flow []))

@@ -1,20 +1,16 @@
 -- What the contracts of the pass say. `Emitted` is the one that other crates cite. Definitions only.
-use Rattle.std.specs.Prelude.{List, ◌∷◌, map, ◌≡◌, ℕ, ◌+◌, ◌*◌, ◌≤◌, ◌<◌, length, drop, take}
+use Rattle.std.specs.Prelude.{List, ◌≡◌, ℕ, ◌+◌, ◌*◌, ◌≤◌, ◌<◌, length}
 use Rattle.std.proofs.lemmas.List.Edits.{sets}
-use Rattle.lists.specs.Number.{number_at}
 use Rattle.formulas.specs.Formula.{Formula}
 use Rattle.formulas.specs.Arena.{flat}
 use Rattle.formulas.specs.Raw.{raw}
 use Rattle.limits.specs.Limits.{arena_limit, equation_limit, record_limit, signal_count}
-use Rattle.tables.specs.Table.{Equation}
 use Rattle.scheme.specs.Emit.{place_after, header_count, observer, numbers_of}
-use Rattle.scheme.specs.Scheme.{Node, Values, widest}
-use Rattle.node_table.specs.Numbers.{looked_up}
-use Rattle.node_table.specs.declared.Node.{Node as CodeNode}
-use Rattle.emitter.specs.Machine.{State, state, with_equations, applied, step, ran, stacked, header_of, headed}
-use Rattle.emitter.specs.Machine.{tests_in}
+use Rattle.scheme.specs.Scheme.{widest}
+use Rattle.emitter.specs.Machine.{stack_size, State, state, with_equations, step, ran, header_of, headed, tests_in}
 use Rattle.emitter.specs.declared.Place.{Place}
 use Rattle.emitter.specs.declared.Record.{Record}
+use Rattle.tables.specs.declared.Equation.{Equation}
 
 -- The records of the formula f gave its observer: r equations, from the front of the table on. A number past the
 -- table's end is dropped, and every number of the table after the equations is kept.
@@ -30,31 +26,11 @@ pub record Emitted (arena t t' : List ℕ) (r : ℕ) : Type 0 where
 pub record PassRoom (m : Place) (stack : List ℕ) : Type 0 where
   pub near : m.next ≤ equation_limit
   pub tested : m.tests ≤ equation_limit
-  pub low : m.height < length stack
+  pub low : length stack < stack_size
 
 -- Where the pass stands, as the machine's state.
 abbrev pub state_of : List ℕ → List ℕ → Place → State
-state_of t stack m = state t m.next m.tests m.negated (stacked stack m.height)
-
--- Operands came off the stack, and v went on.
-pub record Restacked (stack : List ℕ) (height takes v : ℕ) (stack' : List ℕ) (height' : ℕ) : Type 0 where
-  pub holds : stacked stack' height' ≡ v ∷ drop takes (stacked stack height)
-  pub low : height' ≤ height + 1
-
--- The node d was added, with its values.
-pub record Added (d : Node) (v : Values) (t stack : List ℕ) (m : Place) (t' stack' : List ℕ) (m' : Place) : Type 0 where
-  pub stands : state_of t' stack' m' ≡ applied d v (state_of t stack m)
-  pub near : m'.next ≤ m.next + widest
-  pub tested : m'.tests ≤ m.tests + 1
-  pub low : m'.height ≤ m.height + 1
-
--- The node d of the code was, with the values vs.
-pub record AddedBy (d : CodeNode) (vs t stack : List ℕ) (m : Place) (t' stack' : List ℕ) (m' : Place) : Type 0 where
-  pub rows : t' ≡ with_equations t m.next (take d.count (map (looked_up vs) d.rows))
-  pub next : m'.next ≡ m.next + d.count
-  pub tests : m'.tests ≡ m.tests + d.tests
-  pub negated : m'.negated ≡ number_at vs d.negated
-  pub result : Restacked stack m.height d.takes (number_at vs d.result) stack' m'.height
+state_of t stack m = state t m.next m.tests m.negated stack
 
 -- One record was entered.
 pub record Entered (places : List ℕ) (x : Record) (t stack : List ℕ) (m : Place) (t' stack' : List ℕ) (m' : Place)
@@ -62,7 +38,7 @@ pub record Entered (places : List ℕ) (x : Record) (t stack : List ℕ) (m : Pl
   pub stands : state_of t' stack' m' ≡ step places x (state_of t stack m)
   pub near : m'.next ≤ m.next + widest
   pub tested : m'.tests ≤ m.tests + 1
-  pub low : m'.height ≤ m.height + 1
+  pub low : length stack' ≤ length stack + 1
 
 -- The records are few, and so are the equations before theirs, which end at o: the tests stand from u on.
 pub record Begun (arena : List ℕ) (u o : ℕ) : Type 0 where

@@ -2,18 +2,19 @@
 -- picks a node of the observer scheme (scheme, specs/Scheme.antt), and the node's rows are written with their names
 -- looked up. No public promise cites this module: it is what the code does, and proofs/ show that what it writes is the
 -- `observer` (scheme, specs/Emit.antt). Definitions only.
-use Rattle.std.specs.Prelude.{cond, List, [], ◌∷◌, ◌++◌, ℕ, zero, suc, ◌+◌, ◌*◌, eqb, leb, set, drop, length}
+use Rattle.std.specs.Prelude.{cond, List, [], ◌∷◌, ℕ, zero, suc, ◌*◌, eqb, set, drop, length}
+use Rattle.std.specs.List.{fold, flat_map}
 use Rattle.std.proofs.lemmas.List.Edits.{sets}
 use Rattle.lists.specs.Number.{number_at}
 use Rattle.traces.specs.Trace.{nonzero}
 use Rattle.formulas.specs.Arena as arena
 use Rattle.tables.specs.Kind.{SIGNAL, VELOCITY}
-use Rattle.tables.specs.Table.{Equation}
 use Rattle.limits.specs.Limits.{record_limit, signal_count}
 use Rattle.scheme.specs.Scheme.{◌⊕◌, Node, node_of, Values, value_named, comparison_of, filled}
 use Rattle.tables.specs.Table.{equation}
 use Rattle.scheme.specs.Emit.{negated_flow, header_count, start-es, numbers_of}
 use Rattle.emitter.specs.declared.Record.{Record}
+use Rattle.tables.specs.declared.Equation.{Equation}
 
 -- Operands that wait on the stack: at most one for each record, and room for one more.
 abbrev pub stack_size : ℕ
@@ -47,16 +48,21 @@ before (suc n) = n
 abbrev pub record_of : ℕ → ℕ → ℕ → ℕ → Record
 record_of k a b c = record { kind = k; a = a; b = b; c = c }
 
--- The record at i of an arena.
-abbrev pub record_at : List ℕ → ℕ → Record
-record_at l i = record_of (number_at l i) (number_at l (i + 1)) (number_at l (i + 2)) (number_at l (i + 3))
+-- The record that four numbers are.
+abbrev pub record_in : List ℕ → Record
+record_in l = record_of (number_at l 0) (number_at l 1) (number_at l 2) (number_at l 3)
 
--- The record at i, and the whole rule's past the last.
+-- The records of an arena. Numbers past the last whole record are none.
+unfoldable pub records : List ℕ → List Record
+records [] = []
+records (k ∷ []) = []
+records (k ∷ a ∷ []) = []
+records (k ∷ a ∷ b ∷ []) = []
+records (k ∷ a ∷ b ∷ c ∷ l) = record_of k a b c ∷ records l
+
+-- The whole rule's record.
 abbrev pub whole : Record
 whole = record_of arena.WHOLE 0 0 0
-
-abbrev pub record_from : List ℕ → ℕ → Record
-record_from l i = cond (leb (i + 4) (length l)) (record_at l i) whole
 
 -- The scheme's values for a record; places has the flow of each signal.
 unfoldable pub values_at : List ℕ → ℕ → ℕ → ℕ → List ℕ → Record → Values
@@ -74,6 +80,27 @@ values_at places o u n st r =
       c = r.c;
     }
 
+-- The values of the names in the names' order, and the values that numbers in that order are.
+abbrev pub value_list : Values → List ℕ
+value_list v =
+    0 ∷ v.negated ∷ v.start ∷ v.last ∷ v.previous ∷ v.signal ∷ v.tested ∷ v.a ∷ v.c ∷ v.place ∷ (v.place ⊕ 1)
+    ∷ (v.place ⊕ 2) ∷ (v.place ⊕ 3) ∷ (v.place ⊕ 4) ∷ []
+
+abbrev pub values_in : List ℕ → ℕ → Values
+values_in l k =
+    record {
+      place = number_at l 9;
+      negated = number_at l 1;
+      start = number_at l 2;
+      last = number_at l 3;
+      previous = number_at l 4;
+      signal = number_at l 5;
+      tested = number_at l 6;
+      a = number_at l 7;
+      comparison = k;
+      c = number_at l 8;
+    }
+
 -- What a node leaves, with its values.
 unfoldable pub applied : Node → Values → State → State
 applied d v s =
@@ -87,11 +114,7 @@ step places r s = applied (node_of r.kind) (values_at places s.next s.tests s.ne
 
 -- One after the other.
 unfoldable pub run : List ℕ → List ℕ → State → State
-run places [] s = s
-run places (k ∷ []) s = s
-run places (k ∷ a ∷ []) s = s
-run places (k ∷ a ∷ b ∷ []) s = s
-run places (k ∷ a ∷ b ∷ c ∷ l) s = run places l (step places (record_of k a b c) s)
+run places l s = fold (λ s r. step places r s) s (records l)
 
 -- The operands as the code holds them: the first h numbers of an array.
 unfoldable pub stacked : List ℕ → ℕ → List ℕ
@@ -110,11 +133,7 @@ unfoldable pub marked : Record → List ℕ → List ℕ
 marked r named = cond (eqb r.kind arena.SIGNAL) (set named r.a 1) named
 
 unfoldable pub marks : List ℕ → List ℕ → List ℕ
-marks [] named = named
-marks (k ∷ []) named = named
-marks (k ∷ a ∷ []) named = named
-marks (k ∷ a ∷ b ∷ []) named = named
-marks (k ∷ a ∷ b ∷ c ∷ l) named = marks l (marked (record_of k a b c) named)
+marks l named = fold (λ n r. marked r n) named (records l)
 
 -- The table so far, the marks that give way to the signals' places, the place of the next equation.
 pub record Header : Type 0 where
@@ -149,8 +168,4 @@ test_of r = cond (eqb r.kind arena.VELOCITY) (equation VELOCITY r.a r.b 0 ∷ []
 
 -- Those of all records, in their order.
 unfoldable pub tests_in : List ℕ → List Equation
-tests_in [] = []
-tests_in (k ∷ []) = []
-tests_in (k ∷ a ∷ []) = []
-tests_in (k ∷ a ∷ b ∷ []) = []
-tests_in (k ∷ a ∷ b ∷ c ∷ l) = test_of (record_of k a b c) ++ tests_in l
+tests_in l = flat_map test_of (records l)

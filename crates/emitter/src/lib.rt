@@ -5,20 +5,22 @@
 // promises.
 #![tactic(auto)]
 
-ghost use Rattle.std.specs.Prelude.{◌≡◌, [], ◌∷◌, map, ◌≤◌, ◌<◌, ◌+◌, ◌-◌, set, length, take};
+ghost use Rattle.std.specs.Prelude.{◌≡◌, [], ◌∷◌, ◌≤◌, ◌<◌, ◌+◌, set, length, drop};
 ghost use Rattle.lists.specs.Number.{number_at};
 ghost use Rattle.limits.specs.Limits.{arena_limit, equation_limit, signal_count};
 ghost use Rattle.tables.specs.Table.{equation};
-ghost use Rattle.scheme.specs.Scheme.{node_of};
+ghost use Rattle.scheme.specs.Scheme.{node_of, value_named, resolved, filled};
 ghost use Rattle.scheme.specs.Emit.{header_count};
-ghost use Rattle.node_table.specs.Numbers.{value_list, as_node, Known, Sized, looked_up};
-ghost use Rattle.emitter.specs.Machine.{with_equations, before, record_at, record_from, values_at, stacked, marked};
+ghost use Rattle.node_table.specs.Table.{scheme_name, scheme_row, scheme_node};
+ghost use Rattle.emitter.specs.Machine.{stack_size, with_equations, before, record_in, values_at, marked};
 ghost use Rattle.emitter.specs.Machine.{marks, header_of};
 ghost use Rattle.emitter.specs.Machine.{with_signal, test_of};
-ghost use Rattle.emitter.specs.Contract.{Emitted, PassRoom, Restacked, AddedBy, Entered, Begun, Ran, Headed};
+ghost use Rattle.emitter.specs.Contract.{Emitted, PassRoom, Entered, Begun, Ran, Headed};
 ghost use Rattle.emitter.specs.Contract.{Put, Tested};
 
-use node_table::{Node, Row};
+use formulas::RecordKind;
+use node_table::{Name, Node, Row};
+use std::marker::Model;
 
 // The start flow and its negation, and how many these are: the header's equations before the named signals'.
 const START_FLOW: u32 = 0;
@@ -33,9 +35,6 @@ const SIGNALS: usize = limits::SIGNALS as usize;
 // Operands that wait at one time: at most one for each record, and room for one more.
 const STACK: usize = limits::RECORDS + 1;
 
-// The values of the names, and the kind of the record's comparison.
-const VALUES: usize = node_table::NAMES + 1;
-
 // ---- buffers
 
 // One number, dropped where it has no room.
@@ -47,87 +46,141 @@ fn store(t: &mut [u32], i: usize, v: u32)
     }
 }
 
-// One equation at place o; the numbers that have no room are dropped.
+// One equation at place o; the numbers that have no room are dropped. Where all have room, they are stored one by one:
+// `copy_from_slice` puts them on the stack first, and made a pass a third slower.
 fn put(t: &mut [u32], o: u32, kind: u32, a: u32, b: u32, c: u32)
     ensures { t.new ≡ with_equations t.old o (equation kind a b c ∷ []) }
 {
-    let i = 4 * (o as usize);
-    if i + 4 <= t.len() {
-        t[i] = kind;
-        t[i + 1] = a;
-        t[i + 2] = b;
-        t[i + 3] = c;
-        return;
+    let i = t.len().min(4 * (o as usize));
+    let rest = &mut t[i..];
+    if rest.len() < 4 {
+        lists::copy(&[kind, a, b, c], 4, rest);
+    } else {
+        rest[0] = kind;
+        rest[1] = a;
+        rest[2] = b;
+        rest[3] = c;
     }
-    store(t, i, kind);
-    store(t, i + 1, a);
-    store(t, i + 2, b);
-    store(t, i + 3, c);
 }
 
-// ---- rows
+// ---- the stack of operands
+
+// The operands that wait: the first `height` of the items, the last one on top.
+#[derive(Drop)]
+struct Stack {
+    items: [u32; STACK],
+    height: usize,
+}
+
+impl Model for Stack {
+    ghost use Rattle.std.specs.Prelude.{ℕ, List, ◌≤◌};
+    ghost use Rattle.emitter.specs.Machine.{stack_size, stacked};
+
+    ghost Value = { List ℕ };
+
+    ghost view = { λ s. stacked s.items s.height };
+
+    ghost invariant = { λ s. s.height ≤ stack_size };
+}
+
+impl Stack {
+    fn new() -> Stack
+        ensures { result ≡ [] }
+    {
+        Stack {
+            items: [0; STACK],
+            height: 0,
+        }
+    }
+
+    // The operand that lies `back` below the last one, and 0 where there is none.
+    fn operand(&self, back: usize) -> u32
+        ensures { result ≡ number_at self.now back }
+    {
+        if back < self.height {
+            self.items[self.height - back - 1]
+        } else {
+            0
+        }
+    }
+
+    // `takes` operands come off, v goes on.
+    fn push(&mut self, takes: usize, v: u32)
+        requires { length self.old < stack_size }
+        ensures { self.new ≡ v ∷ drop takes self.old }
+    {
+        let low = self.height.saturating_sub(takes);
+        self.items[low] = v;
+        self.height = low + 1;
+    }
+}
+
+// ---- the values of a record
+
+// The values of the names, at the places that their names have as numbers, and the kind of the record's comparison.
+#[derive(Drop)]
+struct Values {
+    named: [u32; node_table::NAMES],
+    comparison: u32,
+}
+
+impl Model for Values {
+    ghost use Rattle.std.specs.Prelude.{◌≡◌};
+    ghost use Rattle.scheme.specs.Scheme.{Values as SchemeValues};
+
+    ghost Value = { SchemeValues };
+
+    ghost use Rattle.emitter.specs.Machine.{value_list, values_in};
+
+    ghost view = { λ s. values_in s.named s.comparison };
+
+    ghost invariant = { λ s. s.named ≡ value_list (values_in s.named s.comparison) };
+}
+
+impl Values {
+    fn named(&self, name: Name) -> u32
+        ensures { result ≡ value_named self.now (scheme_name name) }
+    {
+        self.named[name as usize]
+    }
+
+    // A row's equation, put at place o.
+    fn put_row(&self, t: &mut [u32], o: u32, r: Row)
+        ensures { t.new ≡ with_equations t.old o (resolved self.now (scheme_row r) ∷ []) }
+    {
+        let kind = node_table::kind_by(self.comparison, r.kind);
+        put(
+            t,
+            o,
+            kind,
+            self.named(r.a),
+            self.named(r.b),
+            self.named(r.c),
+        );
+    }
+
+    // The equations of a node's rows, put from place o on: the place after them.
+    fn fill(&self, t: &mut [u32], o: u32, d: &Node) -> u32
+        requires { o ≤ equation_limit }
+        ensures { Put (filled self.now (scheme_node d.now).rows) t.old o t.new result }
+    {
+        let rows: &[Option<Row>] = &d.rows;
+        let mut next = o;
+        for row in rows {
+            if let Some(r) = row {
+                self.put_row(t, next, *r);
+                next += 1;
+            }
+        }
+        next
+    }
+}
 
 // The number before n, and 0 before 0: a start flow stands right before its negation.
 fn before(n: u32) -> u32
     ensures { result ≡ before n }
 {
-    if n == 0 { 0 } else { n - 1 }
-}
-
-// A row with its names looked up among the values, put at place o.
-fn put_row(t: &mut [u32], o: u32, vs: &[u32; VALUES], r: Row)
-    requires { Known r }
-    ensures { t.new ≡ with_equations t.old o (looked_up vs.now r ∷ []) }
-{
-    let kind = node_table::kind_by(vs[node_table::NAMES], r.0);
-    let a = vs[r.1 as usize];
-    let b = vs[r.2 as usize];
-    let c = vs[r.3 as usize];
-    put(t, o, kind, a, b, c);
-}
-
-// The node's rows, put from place o on.
-fn fill(t: &mut [u32], o: u32, vs: &[u32; VALUES], d: Node)
-    requires { (o ≤ equation_limit) × Sized d }
-    ensures { t.new
-        ≡ with_equations t.old o (take d.count (map (looked_up vs.now) d.rows)) }
-{
-    let rows = d.rows;
-    let mut j = 0;
-    while j < d.count {
-        put_row(t, o + j, vs, rows[j as usize]);
-        j += 1;
-    }
-}
-
-// ---- the stack of operands: the first `height` numbers of an array
-
-// The operand that lies `back` below the last one, and 0 where there is none.
-fn operand(stack: &[u32], height: usize, back: usize) -> u32
-    ensures { result ≡ number_at (stacked stack.now height) back }
-{
-    if back < height {
-        return lists::number_at(stack, height - back - 1);
-    }
-    0
-}
-
-// The height without `takes` operands.
-fn lowered(height: usize, takes: u32) -> usize
-    ensures { result ≡ height - takes }
-{
-    let n = takes as usize;
-    if n <= height { height - n } else { 0 }
-}
-
-// `takes` operands come off, v goes on: the new height.
-fn push(stack: &mut [u32], height: usize, takes: u32, v: u32) -> usize
-    requires { height < length stack.old }
-    ensures { Restacked stack.old height takes v stack.new result }
-{
-    let low = lowered(height, takes);
-    store(stack, low, v);
-    low + 1
+    n.saturating_sub(1)
 }
 
 // ---- the records
@@ -141,42 +194,33 @@ struct Record {
     pub c: u32,
 }
 
-// The record at i.
-fn record_at(arena: &[u32], i: usize) -> Record
-    requires { i + 4 ≤ length arena.now }
-    ensures { result ≡ record_at arena.now i }
+fn record_of(numbers: &[u32; 4]) -> Record
+    ensures { result ≡ record_in numbers.now }
 {
-    Record {
-        kind: lists::number_at(arena, i),
-        a: lists::number_at(arena, i + 1),
-        b: lists::number_at(arena, i + 2),
-        c: lists::number_at(arena, i + 3),
-    }
+    let [kind, a, b, c] = *numbers;
+    Record { kind, a, b, c }
 }
 
 // Where the pass stands: the place of the next equation, that of the next test in the table's head, the negated start
-// flow, the height of the stack.
+// flow.
 #[derive(Clone, Copy)]
 struct Place {
     pub next: u32,
     pub tests: u32,
     pub negated: u32,
-    pub height: usize,
 }
 
-// The values for a record, in the order of their names.
-fn values_at(stack: &[u32], places: &[u32], m: Place, x: Record) -> [u32; VALUES]
+fn values_at(stack: &Stack, places: &[u32], m: Place, x: Record) -> Values
     requires { m.next ≤ equation_limit }
-    ensures { result ≡ value_list (values_at places.now m.next m.tests m.negated
-        (stacked stack.now m.height) x) }
+    ensures { result ≡ values_at places.now m.next m.tests m.negated stack.now x }
 {
     let start = before(m.negated);
-    let last = operand(stack, m.height, 0);
-    let previous = operand(stack, m.height, 1);
+    let last = stack.operand(0);
+    let previous = stack.operand(1);
     let signal = lists::number_at(places, x.a as usize);
     let comparison = node_table::comparison_of(x.b);
     let o = m.next;
-    [
+    let named = [
         0,
         m.negated,
         start,
@@ -191,96 +235,76 @@ fn values_at(stack: &[u32], places: &[u32], m: Place, x: Record) -> [u32; VALUES
         o + 2,
         o + 3,
         o + 4,
-        comparison,
-    ]
+    ];
+    Values { named, comparison }
 }
 
-// A node: its rows go to the table, its operands come off the stack, its result goes on, its tests are passed, and its
-// start is the one from here on.
-fn add_node(table: &mut [u32], stack: &mut [u32], m: Place, vs: &[u32; VALUES], d: Node) -> Place
-    requires { PassRoom m stack.old × Sized d }
-    ensures { AddedBy d vs.now table.old stack.old m table.new
-        stack.new result }
-{
-    fill(table, m.next, vs, d);
-    let out = vs[d.result as usize];
-    let negated = vs[d.negated as usize];
-    let height = push(stack, m.height, d.takes, out);
-    Place {
-        next: m.next + d.count,
-        tests: m.tests + d.tests as u32,
-        negated,
-        height,
-    }
-}
-
-// One record, with the node of its kind.
+// One record, with the node of its kind: the node's rows go to the table, its operands come off the stack, its result
+// goes on, its tests are passed, and its start is the one from here on. With a call for each record a pass takes a
+// tenth longer.
+#[inline(always)]
 fn enter(
     table: &mut [u32],
-    stack: &mut [u32],
+    stack: &mut Stack,
     places: &[u32],
     m: Place,
     x: Record,
-    d: Node,
+    d: &Node,
 ) -> Place
-    requires { PassRoom m stack.old × (d ≡ as_node (node_of x.kind)) }
+    requires room { PassRoom m stack.old }
+    requires node { scheme_node d.now ≡ node_of x.kind }
     ensures { Entered places.now x table.old stack.old m
         table.new stack.new result }
 {
-    let vs = values_at(stack, places, m, x);
-    add_node(table, stack, m, &vs, d)
-}
-
-// The record at i, and the whole rule's past the last.
-fn record_from(arena: &[u32], i: usize) -> Record
-    requires { i ≤ arena_limit }
-    ensures { result ≡ record_from arena.now i }
-{
-    if i + 4 <= arena.len() {
-        return record_at(arena, i);
-    }
-    Record {
-        kind: formulas::WHOLE,
-        a: 0,
-        b: 0,
-        c: 0,
+    let values = values_at(stack, places, m, x);
+    let next = values.fill(table, m.next, d);
+    stack.push(d.takes as usize, values.named(d.result));
+    Place {
+        next,
+        tests: m.tests + u32::from(d.tests),
+        negated: values.named(d.negated),
     }
 }
 
-// All records one after the other, and then the whole rule's: how many equations there are. `enter` has this one
-// caller, so that it is inlined here.
+// The whole rule's record: no arena has it.
+const WHOLE: Record = Record {
+    kind: RecordKind::Whole as u32,
+    a: 0,
+    b: 0,
+    c: 0,
+};
+
+// All records one after the other, and then the whole rule's: how many equations there are.
 fn enter_all(arena: &[u32], places: &[u32], table: &mut [u32], tests: u32, next: u32) -> u32
     requires { Begun arena.now tests next }
     ensures { Ran arena.now places.now table.old tests next
         table.new result }
 {
     let nodes = node_table::all_nodes();
-    let mut stack = [0u32; STACK];
+    let mut stack = Stack::new();
     let mut m = Place {
         next,
         tests,
         negated: NEGATED_FLOW,
-        height: 0,
     };
-    let mut i = 0;
-    loop {
-        let x = record_from(arena, i);
-        let d = nodes[node_table::place_of(x.kind)];
+    let (records, _) = arena.as_chunks();
+    for numbers in records {
+        let x = record_of(numbers);
+        let d = &nodes[node_table::place_of(x.kind)];
         m = enter(table, &mut stack, places, m, x, d);
-        if arena.len() < i + 4 {
-            return m.next;
-        }
-        i += 4;
     }
+    let d = &nodes[node_table::place_of(WHOLE.kind)];
+    enter(table, &mut stack, places, m, WHOLE, d).next
 }
 
 // ---- the named signals
 
 // A signal's record marks the signal as named.
+#[tactic(auto, unfolding(crate::specs::Machine::marked))]
 fn mark(named: &mut [u32], x: Record)
     ensures { named.new ≡ marked x named.old }
 {
-    if x.kind == formulas::SIGNAL {
+    if x.kind == RecordKind::Signal as u32 {
         store(named, x.a as usize, 1);
     }
 }
@@ -288,15 +312,13 @@ fn mark(named: &mut [u32], x: Record)
 fn mark_all(arena: &[u32], named: &mut [u32])
     ensures { named.new ≡ marks arena.now named.old }
 {
-    let mut k = 0;
-    while k + 4 <= arena.len() {
-        let x = record_at(arena, k);
-        mark(named, x);
-        k += 4;
+    for numbers in arena.as_chunks().0 {
+        mark(named, record_of(numbers));
     }
 }
 
 // A marked signal j gets its equation at the next place; in any case its mark gives way to that place.
+#[tactic(auto, unfolding(crate::specs::Machine::with_signal))]
 fn settle(table: &mut [u32], named: &mut [u32], j: usize, next: u32) -> u32
     requires { (j < signal_count) × (next ≤ equation_limit) }
     ensures { header_of table.new named.new result
@@ -305,23 +327,29 @@ fn settle(table: &mut [u32], named: &mut [u32], j: usize, next: u32) -> u32
     let flag = lists::number_at(named, j);
     store(named, j, next);
     if flag == 0 {
-        return next;
+        next
+    } else {
+        put(table, next, tables::Kind::Signal as u32, j as u32, 0, 0);
+        next + 1
     }
-    put(table, next, tables::SIGNAL, j as u32, 0, 0);
-    next + 1
 }
 
 // The start flow, its negation, and the named signals by rising number: the place after them.
 fn settle_all(table: &mut [u32], named: &mut [u32]) -> u32
     ensures { Headed table.old named.old table.new named.new result }
 {
-    put(table, START_FLOW, tables::START, 0, 0, 0);
-    put(table, NEGATED_FLOW, tables::NOT, START_FLOW, 0, 0);
+    put(table, START_FLOW, tables::Kind::Start as u32, 0, 0, 0);
+    put(
+        table,
+        NEGATED_FLOW,
+        tables::Kind::Not as u32,
+        START_FLOW,
+        0,
+        0,
+    );
     let mut next = HEADER;
-    let mut j = 0;
-    while j < SIGNALS {
+    for j in 0..SIGNALS {
         next = settle(table, named, j, next);
-        j += 1;
     }
     next
 }
@@ -329,15 +357,17 @@ fn settle_all(table: &mut [u32], named: &mut [u32]) -> u32
 // ---- the velocity tests
 
 // A velocity test's record puts its equation at the next place: the place after it.
+#[tactic(auto, unfolding(crate::specs::Machine::with_equations))]
 fn put_test(table: &mut [u32], next: u32, x: Record) -> u32
     requires { next ≤ equation_limit }
     ensures { Put (test_of x) table.old next table.new result }
 {
-    if x.kind == formulas::VELOCITY {
-        put(table, next, tables::VELOCITY, x.a, x.b, 0);
-        return next + 1;
+    if x.kind == RecordKind::Velocity as u32 {
+        put(table, next, tables::Kind::Velocity as u32, x.a, x.b, 0);
+        next + 1
+    } else {
+        next
     }
-    next
 }
 
 // The tests of all records in their order, from the place `tests` on: the place after them.
@@ -346,11 +376,8 @@ fn put_tests(arena: &[u32], table: &mut [u32], tests: u32) -> u32
     ensures { Tested arena.now table.old tests table.new result }
 {
     let mut next = tests;
-    let mut k = 0;
-    while k + 4 <= arena.len() {
-        let x = record_at(arena, k);
-        next = put_test(table, next, x);
-        k += 4;
+    for numbers in arena.as_chunks().0 {
+        next = put_test(table, next, record_of(numbers));
     }
     next
 }

@@ -1,7 +1,7 @@
 // The nodes (SPEC 3.8) and the leads (SPEC 3.9) of a tree, from the facts of its parts and from its words.
 #![tactic(auto)]
 
-ghost use Rattle.std.specs.Prelude.{true, ◌&&◌, ◌≡◌, ◌≤◌};
+ghost use Rattle.std.specs.Prelude.{true, ◌≡◌, ◌≤◌};
 ghost use Rattle.limits.specs.Limits.{word_limit};
 ghost use Rattle.formulas.specs.Tree.{upper, lead_test, lead_count};
 ghost use Rattle.formulas.specs.Arena.{num_kind, num_value};
@@ -16,13 +16,6 @@ pub struct Facts {
     pub nodes: u32,
     pub lead: bool,
     pub leads: bool,
-}
-
-// Both.
-pub fn both(a: bool, b: bool) -> bool
-    ensures { result ≡ (a && b) }
-{
-    if a { b } else { false }
 }
 
 // The facts of `0`, `1`, a signal and a velocity test.
@@ -66,8 +59,8 @@ pub fn join_facts(a: Facts, b: Facts) -> Facts
 {
     Facts {
         nodes: a.nodes + b.nodes + 1,
-        lead: both(a.lead, b.lead),
-        leads: both(a.leads, b.leads),
+        lead: a.lead && b.lead,
+        leads: a.leads && b.leads,
     }
 }
 
@@ -79,7 +72,7 @@ pub fn then_facts(a: Facts, b: Facts) -> Facts
     Facts {
         nodes: a.nodes + b.nodes + 1,
         lead: false,
-        leads: both(a.lead, both(a.leads, b.leads)),
+        leads: a.lead && a.leads && b.leads,
     }
 }
 
@@ -91,7 +84,7 @@ pub fn chop_facts(a: Facts, b: Facts) -> Facts
     Facts {
         nodes: a.nodes + b.nodes,
         lead: false,
-        leads: both(a.leads, b.leads),
+        leads: a.leads && b.leads,
     }
 }
 
@@ -107,6 +100,7 @@ pub fn exists_facts(t: Facts) -> Facts
 }
 
 // Whether a comparison is `<=` or `<`.
+#[tactic(auto, using(grammar::proofs::Words::op_upper))]
 pub fn is_upper(o: u32) -> bool
     requires { is_op o ≡ true }
     ensures { result ≡ upper (op_word o) }
@@ -115,17 +109,16 @@ pub fn is_upper(o: u32) -> bool
 }
 
 // Whether a lead may have the test: `begin` or `kept`.
+#[tactic(auto, using(grammar::proofs::Words::no_lead_test))]
 pub fn is_lead_test(k: u32) -> bool
     requires { is_test k ≡ true }
     ensures { result ≡ lead_test (test_word k) }
 {
-    if k == words::BEGIN {
-        return true;
-    }
-    k == words::KEPT
+    matches!(k, words::BEGIN | words::KEPT)
 }
 
 // Whether a lead may have the count: `sum`.
+#[tactic(auto, using(grammar::proofs::Words::count_lead))]
 pub fn is_lead_count(k: u32) -> bool
     requires { is_count k ≡ true }
     ensures { result ≡ lead_count (count_word k) }
@@ -138,18 +131,21 @@ pub fn num_kind(n: u32) -> u32
     ensures { result ≡ num_kind (num_word n) }
 {
     if n < words::LITERAL {
-        return formulas::PARAMETER;
+        formulas::PARAMETER
+    } else {
+        formulas::LITERAL
     }
-    formulas::LITERAL
 }
 
 // The literal's value or the parameter's number.
+#[tactic(auto, using(grammar::proofs::Position::num_pos))]
 pub fn num_value(n: u32) -> u32
     requires { is_num n ≡ true }
     ensures { result ≡ num_value (num_word n) }
 {
     if n < words::LITERAL {
-        return n - words::PARAMETER;
+        n - words::PARAMETER
+    } else {
+        n - words::LITERAL
     }
-    n - words::LITERAL
 }

@@ -12,20 +12,20 @@ use borrow.Author.Tests.{leb-true, leb-false}
 use Rattle.limits.specs.Limits.{line_limit}
 use Rattle.lists.specs.Line.{line, line_from}
 use Rattle.cards.specs.declared.Phase.{Phase}
-use Rattle.cards.specs.declared.Phase.TheVariants as P
 use Rattle.lists.proofs.Lines.{line-short}
 use Rattle.cards.proofs.Lines.{one_line}
-use Rattle.player.specs.Card.{World, world_in, over_watch, over_world, Effect, lined}
+use Rattle.player.specs.Card.{WholeLine, World, over_world, Effect, lined}
 use Rattle.player.specs.Card.{broken_bytes, longest_output}
 use Rattle.player.specs.Output.{output_bytes}
 use Rattle.feeder.specs.Feed.{Goes, Short, Room, fed_to, Runs, Feeds, fed_world, left_over, placed}
-use Rattle.feeder.specs.Feed.{tail_bytes, tail_fed}
+use Rattle.feeder.specs.Feed.{tail_bytes, tail_fed, tail_world}
 use Rattle.feeder.specs.declared.Fed.{Fed}
 use Rattle.feeder.proofs.Moving.{put-takes, put_keeps, put-length, rest_of, with_rest, rest_all, with_rest_lem}
 use Rattle.player.proofs.Paying.{debt, debt-small, lined-pays, broken-room}
 use Rattle.feeder.proofs.Resuming.{goes_none, goes-line, goes_on_lem, goes-out, goes-rest, goes-long}
 use Rattle.feeder.proofs.Resuming.{fed-line, left-line, fed-short, left-short, fed-long, left-long}
-use Rattle.feeder.proofs.Resuming.{bytes-short, tail-short, bytes-long, tail-long, short-eq, short_none}
+use Rattle.feeder.proofs.Resuming.{bytes-short, tail-short, world-short, bytes-long, tail-long, world-long}
+use Rattle.feeder.proofs.Resuming.{short-eq, short_none}
 
 -- Of the piece b, u bytes are used up, and what they print are the first `at` bytes of out: w goes on from there.
 pub record Between (w₀ : World) (b out₀ : List ℕ) (w : World) (out : List ℕ) (u at : ℕ) : Type 0 where
@@ -56,7 +56,7 @@ module _ {w₀ w : World} {b out₀ out : List ℕ} {u at : ℕ} (k : Between w�
   written-room = omega (arith, k.within, k.paid, k.room, k.same, debt-small w.watch.stage.phase)
 
   -- The bytes that are left are the start of a line: they are left over.
-  left-short-over : Short (drop u b) → Feeds w₀ b (fed_to w.watch u at) w out₀ out
+  left-short-over : Short (drop u b) → Feeds w₀ b (fed_to u at) w out₀ out
   left-short-over h =
       record {
         goes = k.goes;
@@ -79,16 +79,6 @@ module _ {w₀ w : World} {b out₀ out : List ℕ} {u at : ℕ} (k : Between w�
         (sym (drop-drop (length s) at out)
         ∙ ap (λ (l : List ℕ). drop (length s) l) k.kept
         ∙ drop-drop (length s) at out₀)
-
-  -- At the ticks there is room from here on.
-  pub rest-room : w.watch.stage.phase ≡ P.Ticks → Room (rest_of b u) (rest_of out at)
-  rest-room e =
-      let h = rw e at k.paid in
-      record {
-        room =
-            rw (rest_all b u, rest_all out at)
-            (omega (arith, length-drop u b, length-drop at out, k.within, k.room, k.same));
-      }
 
   -- Lines that are run where the bytes and out are lent from here on.
   module _
@@ -135,11 +125,17 @@ module _ {w₀ w : World} {b out₀ out : List ℕ} {u at : ℕ} (k : Between w�
     pub line-inside : u + n ≤ length b
     line-inside = omega (arith, k.within, m, line-short (drop u b), length-drop u b)
 
-    -- It ends in the piece, and t is what it does.
-    module _ (h : u + n < length b) {t : Effect} (q : t ≡ lined w (line_from b u)) where
-      -- It is whole, and the bytes after it are those after its line end.
+    -- It ends before the end of the piece, with its line end,
+    module _ (apart : u + n ≡ length b → ⊥) where
+      pub line-ends : u + n < length b
+      line-ends = omega (arith, line-inside)
+
+      pub whole-line : WholeLine b u (u + n)
+      whole-line = record { ends = ap (λ (i : ℕ). u + i) m; whole = line-ends }
+
+      -- and the bytes after it are those after its line end.
       whole : length (line (drop u b)) < length (drop u b)
-      whole = omega (arith, m, length-drop u b)
+      whole = omega (arith, line-ends, m, length-drop u b)
 
       rest-after : drop (u + n + 1) b ≡ drop (suc (length (line (drop u b)))) (drop u b)
       rest-after =
@@ -147,46 +143,54 @@ module _ {w₀ w : World} {b out₀ out : List ℕ} {u at : ℕ} (k : Between w�
           let z : u + suc l ≡ u + n + 1 = omega arith in
           sym (drop-drop (suc l) u b ∙ ap (λ (i : ℕ). drop i b) z)
 
-      goes-past : Goes w₀ b (take at out ++ output_bytes t.output) t.world (drop (u + n + 1) b)
-      goes-past = rw (q, rest-after) (goes_on_lem k.goes (goes-line w (drop u b) whole))
+      -- t is what it does.
+      module _ {t : Effect} (q : t ≡ lined w (line_from b u)) where
+        goes-past : Goes w₀ b (take at out ++ output_bytes t.output) t.world (drop (u + n + 1) b)
+        goes-past = rw (q, rest-after) (goes_on_lem k.goes (goes-line w (drop u b) whole))
 
-      world-past : fed_world w₀ b ≡ fed_world t.world (drop (u + n + 1) b)
-      world-past = k.world ∙ rw (q, rest-after) (fed-line w (drop u b) whole)
+        world-past : fed_world w₀ b ≡ fed_world t.world (drop (u + n + 1) b)
+        world-past = k.world ∙ rw (q, rest-after) (fed-line w (drop u b) whole)
 
-      left-past : left_over b ≡ left_over (drop (u + n + 1) b)
-      left-past = k.rest ∙ rw rest-after (left-line (drop u b) whole)
+        left-past : left_over b ≡ left_over (drop (u + n + 1) b)
+        left-past = k.rest ∙ rw rest-after (left-line (drop u b) whole)
 
-      pays : length (output_bytes t.output) + debt w.watch.stage.phase
-          ≤ n + 1 + debt t.world.watch.stage.phase
-      pays = rw (q, m) (lined-pays w (line (drop u b))).paid
+        pays : length (output_bytes t.output) + debt w.watch.stage.phase
+            ≤ n + 1 + debt t.world.watch.stage.phase
+        pays = rw (q, m) (lined-pays w (line (drop u b))).paid
 
-      pub said-room : at + length (output_bytes t.output) ≤ length out
-      said-room = omega (arith, pays, k.paid, k.room, k.same, debt-small t.world.watch.stage.phase)
+        pub said-room : at + length (output_bytes t.output) ≤ length out
+        said-room = omega (arith, line-ends, pays, k.paid, k.room, k.same, debt-small t.world.watch.stage.phase)
 
-      pub after_line : {out' : List ℕ} {at' : ℕ} → at' ≡ at + length (output_bytes t.output)
-          → out' ≡ placed out at (output_bytes t.output) → Between w₀ b out₀ t.world out' (u + n + 1) at'
-      after_line e p =
-          record {
-            goes = goes-out (put-takes out (output_bytes t.output) at e p said-room) goes-past;
-            world = world-past;
-            rest = left-past;
-            within = omega arith;
-            paid = omega (arith, e, pays, k.paid);
-            room = k.room;
-            kept = keeps (output_bytes t.output) said-room e p;
-            same = put-length out (output_bytes t.output) at e p said-room ∙ k.same;
-          }
+        pub after_line : {out' : List ℕ} {at' : ℕ} → at' ≡ at + length (output_bytes t.output)
+            → out' ≡ placed out at (output_bytes t.output) → Between w₀ b out₀ t.world out' (u + n + 1) at'
+        after_line e p =
+            record {
+              goes = goes-out (put-takes out (output_bytes t.output) at e p said-room) goes-past;
+              world = world-past;
+              rest = left-past;
+              within = omega (arith, line-ends);
+              paid = omega (arith, e, pays, k.paid);
+              room = k.room;
+              kept = keeps (output_bytes t.output) said-room e p;
+              same = put-length out (output_bytes t.output) at e p said-room ∙ k.same;
+            }
 
   -- The bytes from u up to the end of the piece are the start of a line.
-  module _ (to : ℕ) (last : to ≡ length b) (one : length (line (drop u b)) ≡ length (drop u b)) where
+  module _ (n : ℕ) (m : n ≡ length (line_from b u)) (last : u + n ≡ length b) where
     abbrev phase : Phase
     phase = w.watch.stage.phase
+
+    abbrev to : ℕ
+    to = u + n
+
+    one : length (line (drop u b)) ≡ length (drop u b)
+    one = omega (arith, m, last, length-drop u b)
 
     size : to - u ≡ length (drop u b)
     size = omega (arith, last, length-drop u b)
 
     -- It is left over where it is short,
-    left_over_lem : to - u < line_limit → Feeds w₀ b (fed_to w.watch u at) w out₀ out
+    left_over_lem : to - u < line_limit → Feeds w₀ b (fed_to u at) w out₀ out
     left_over_lem h = left-short-over (record { one = one_line _ one; below = omega (arith, size) })
 
     kept-so : placed out at [] ≡ out
@@ -210,7 +214,7 @@ module _ {w₀ w : World} {b out₀ out : List ℕ} {u at : ℕ} (k : Between w�
       last-room = omega (arith, k.paid, k.within, k.room, k.same, broken-room phase)
 
       over-long : {out' : List ℕ} → out' ≡ placed out at (broken_bytes phase)
-          → Feeds w₀ b (fed_to over_watch to (at + length (broken_bytes phase))) (over_world w) out₀ out'
+          → Feeds w₀ b (fed_to to (at + length (broken_bytes phase))) (over_world w) out₀ out'
       over-long p =
           record {
             goes = goes-rest nothing_left (goes-out (put-takes out (broken_bytes phase) at refl p last-room) goes_over);
@@ -232,18 +236,18 @@ module _ {w₀ w : World} {b out₀ out : List ℕ} {u at : ℕ} (k : Between w�
     pub tail-room : at + length (tail_bytes phase (to - u)) ≤ length out
     tail-room = room-if (leb line_limit (to - u)) refl
 
-    feeds-if : (t : Bool) → leb line_limit (to - u) ≡ t → {r : Fed} {out' : List ℕ}
-        → r ≡ tail_fed w.watch u to at → out' ≡ placed out at (tail_bytes phase (to - u))
-        → Feeds w₀ b r (world_in w.context r.watch w.parameters w.table w.state w.values) out₀ out'
-    feeds-if true e q p =
+    feeds-if : (t : Bool) → leb line_limit (to - u) ≡ t → {r : Fed} {w' : World} {out' : List ℕ}
+        → r ≡ tail_fed phase u to at → w' ≡ tail_world w (to - u) → out' ≡ placed out at (tail_bytes phase (to - u))
+        → Feeds w₀ b r w' out₀ out'
+    feeds-if true e q v p =
         let h = leb-true line_limit (to - u) e in
-        rw (q, tail-long w.watch u to at h) (over-long h (p ∙ ap (placed out at) (bytes-long phase (to - u) h)))
-    feeds-if false e q p =
+        rw (q, v, tail-long phase u to at h, world-long w (to - u) h)
+        (over-long h (p ∙ ap (placed out at) (bytes-long phase (to - u) h)))
+    feeds-if false e q v p =
         let h = leb-false line_limit (to - u) e in
         let same = p ∙ ap (placed out at) (bytes-short phase (to - u) h) ∙ kept-so in
-        rw (q, tail-short w.watch u to at h, same) (left_over_lem h)
+        rw (q, v, tail-short phase u to at h, world-short w (to - u) h, same) (left_over_lem h)
 
-    pub tail-feeds : {r : Fed} {out' : List ℕ} → r ≡ tail_fed w.watch u to at
-        → out' ≡ placed out at (tail_bytes phase (to - u))
-        → Feeds w₀ b r (world_in w.context r.watch w.parameters w.table w.state w.values) out₀ out'
-    tail-feeds q p = feeds-if (leb line_limit (to - u)) refl q p
+    pub tail-feeds : {r : Fed} {w' : World} {out' : List ℕ} → r ≡ tail_fed phase u to at
+        → w' ≡ tail_world w (to - u) → out' ≡ placed out at (tail_bytes phase (to - u)) → Feeds w₀ b r w' out₀ out'
+    tail-feeds q v p = feeds-if (leb line_limit (to - u)) refl q v p

@@ -1,79 +1,28 @@
 -- Bytes that are moved down in a buffer, bytes that are placed in one, and a buffer that is lent from a place on.
 -- Assumes nothing.
-use mathlib.Core.Path.{◌≡◌, refl, ◌∙◌, sym, ap}
+use mathlib.Core.Path.{◌≡◌, ◌∙◌, sym, ap}
 use mathlib.Core.List.{List, [], ◌∷◌, ◌++◌}
-use Prim.Native.Nat.{ℕ, zero, suc, ◌+◌, ◌-◌, ◌≤◌, ◌<◌}
+use Prim.Native.Nat.{ℕ, zero, suc, ◌+◌, ◌-◌, ◌≤◌}
 use native.Mathlib.Omega.{arith}
-use lib.ListN.{length, get_or, set, take, drop, length-drop, length-set, length-append, drop_of_length-le}
-use lib.Seq.{take-suc, take-suc-set, get_or-drop, drop-set-lt, drop-drop, paste, take-length, take_at}
-use lib.Seq.{length-take-le, take-nil, take_all, drop_at}
+use lib.ListN.{length, take, drop, length-drop, length-append, drop_of_length-le}
+use lib.Seq.{paste-zero, take_at, length-take-le, take-nil, take_all, drop_at}
+use Rattle.std.proofs.Common.{zero-add}
+use Rattle.std.specs.List.{copy_within}
 use Rattle.feeder.specs.Feed.{placed, shifted}
 use Rattle.cards.proofs.Lines.{append-nil}
 
--- The bytes up to i have moved down by `from`, and those from there on are as they were.
-pub record Moved (old new : List ℕ) (from i : ℕ) : Type 0 where
-  pub same : length new ≡ length old
-  pub front : take (i - from) new ≡ take (i - from) (drop from old)
-  pub back : drop (i - from) new ≡ drop (i - from) old
+-- Bytes that are copied to the front are moved there,
+pub moved-front : (old : List ℕ) {new : List ℕ} (from to : ℕ) → new ≡ copy_within old from to 0
+    → new ≡ shifted old from to
+moved-front old from to e =
+    e ∙ ap (λ (n : ℕ). take (to - from) (drop from old) ++ drop n old) (zero-add (to - from))
 
-pub moved_none : (old : List ℕ) (from : ℕ) → Moved old old from from
-moved_none old from = let z : from - from ≡ 0 = omega arith in record { same = refl; front = rw z; back = refl }
-
-module _ {old new : List ℕ} {from i : ℕ} (m : Moved old new from i) (a : from ≤ i) (b : i < length old) where
-  -- The next byte is as it was.
-  there : get_or new i 0 ≡ get_or (drop from old) (i - from) 0
-  there =
-      let z : i - from + from ≡ i = omega arith in
-      let y : from + (i - from) ≡ i = omega arith in
-      sym (ap (λ (k : ℕ). get_or new k 0) z)
-      ∙ sym (get_or-drop (i - from) new from 0)
-      ∙ ap (λ (l : List ℕ). get_or l from 0) m.back
-      ∙ get_or-drop (i - from) old from 0
-      ∙ ap (λ (k : ℕ). get_or old k 0) (z ∙ sym y)
-      ∙ sym (get_or-drop from old (i - from) 0)
-
-  pub moved_more : Moved old (set new (i - from) (get_or new i 0)) from (i + 1)
-  moved_more =
-      let z : i + 1 - from ≡ suc (i - from) = omega arith in
-      let k : i - from < length new = omega (arith, m.same) in
-      let j : i - from < length (drop from old) = omega (arith, length-drop from old) in
-      let x = get_or new i 0 in
-      record {
-        same = length-set new (i - from) _ ∙ m.same;
-        front =
-            rw (z, take-suc-set new (i - from) x k, take-suc (drop from old) (i - from) 0 j, m.front, there);
-        back = rw (z, drop-set-lt (suc (i - from)) new (i - from) x (omega arith)) (drop_more m.back);
-      }
-    where
-      drop_more : drop (i - from) new ≡ drop (i - from) old → drop (suc (i - from)) new ≡ drop (suc (i - from)) old
-      drop_more e =
-          let y : i - from + 1 ≡ suc (i - from) = omega arith in
-          ap (λ (n : ℕ). drop n new) (sym y)
-          ∙ sym (drop-drop 1 (i - from) new)
-          ∙ ap (λ (l : List ℕ). drop 1 l) e
-          ∙ drop-drop 1 (i - from) old
-          ∙ ap (λ (n : ℕ). drop n old) y
-
--- All of them have moved.
-pub moved_all : {old new : List ℕ} {from i to : ℕ} → Moved old new from i → i ≡ to → new ≡ shifted old from to
-moved_all {old} {new} {from} {i} {to} m e =
-    sym (take-drop (i - from) new) ∙ rw (m.front, m.back) (ap (shifted old from) e)
-  where
-    take-drop : (n : ℕ) (l : List ℕ) → take n l ++ drop n l ≡ l
-    take-drop zero l = refl
-    take-drop (suc n) [] = refl
-    take-drop (suc n) (x ∷ l) = ap (λ (k : List ℕ). x ∷ k) (take-drop n l)
-
--- What has moved stands at the front.
+-- and stand there.
 pub take-shifted : (buf : List ℕ) (from to : ℕ) → from ≤ to → to ≤ length buf
     → take (to - from) (shifted buf from to) ≡ take (to - from) (drop from buf)
 take-shifted buf from to h g =
     take_at (take (to - from) (drop from buf)) (drop (to - from) buf) (to - from)
     (length-take-le (to - from) (drop from buf) (omega (arith, length-drop from buf)))
-
--- All of s is copied.
-pub all_placed : (out : List ℕ) (at : ℕ) (s : List ℕ) (k : ℕ) → k ≡ length s → paste out at s k ≡ placed out at s
-all_placed out at s k e = rw (e, take-length s)
 
 -- What is placed after the bytes in front is read with them, and the buffer is as long as it was.
 pub take-placed : (out s : List ℕ) (at : ℕ) → at + length s ≤ length out
@@ -135,3 +84,7 @@ pub with_rest_lem : (l : List ℕ) (i : ℕ) (part : List ℕ) → with_rest l i
 with_rest_lem l i part =
     rw (drop_of_length-le (drop i l) {i = length l - i} (omega (arith, length-drop i l)))
     (ap (λ (k : List ℕ). take i l ++ k) (append-nil part))
+
+-- No bytes are placed.
+pub placed_none : (out : List ℕ) (at : ℕ) → placed out at [] ≡ out
+placed_none out at = sym (paste-zero out at [])

@@ -11,11 +11,12 @@ use Rattle.lists.specs.Line.{line}
 use Rattle.cards.specs.Says.{end_says}
 use Rattle.cards.specs.declared.Phase.{Phase}
 use Rattle.cards.proofs.Lines.{append-nil, cut-first, cut-one, cut-whole, first-long}
-use Rattle.player.specs.Card.{World, over_watch, over_world, lined, last_output, broken_bytes, owed, prints}
+use Rattle.player.specs.Card.{World, over_world, lined, last_output, broken_bytes, owed, prints}
 use Rattle.player.specs.Output.{output_bytes}
 use Rattle.player.proofs.Printing.{over-prints, long-prints}
-use Rattle.player.specs.declared.Watch.{Watch}
 use Rattle.feeder.specs.Feed.{Goes, Short, after_lines, after_tail, fed_world, left_over, fed_to, tail_bytes, tail_fed}
+use Rattle.feeder.specs.Feed.{tail_world}
+use Rattle.feeder.proofs.Moving.{placed_none}
 
 -- The end of the input.
 pub ends : (w : World) (s : List ℕ) → Short s
@@ -103,15 +104,34 @@ pub bytes-long : (p : Phase) (n : ℕ) → line_limit ≤ n → tail_bytes p n �
 unfolding tail_bytes
 bytes-long p n h = rw (le-leb line_limit n h)
 
-module _ (w : Watch) (used to at : ℕ) where
-  pub tail-short : to - used < line_limit → tail_fed w used to at ≡ fed_to w used at
+module _ (p : Phase) (used to at : ℕ) where
+  pub tail-short : to - used < line_limit → tail_fed p used to at ≡ fed_to used at
   unfolding tail_fed
   tail-short h = rw (lt-leb line_limit (to - used) h)
 
-  pub tail-long : line_limit ≤ to - used
-      → tail_fed w used to at ≡ fed_to over_watch to (at + length (broken_bytes w.stage.phase))
+  pub tail-long : line_limit ≤ to - used → tail_fed p used to at ≡ fed_to to (at + length (broken_bytes p))
   unfolding tail_fed
   tail-long h = rw (le-leb line_limit (to - used) h)
+
+module _ (w : World) (n : ℕ) where
+  pub world-short : n < line_limit → tail_world w n ≡ w
+  unfolding tail_world
+  world-short h = rw (lt-leb line_limit n h)
+
+  pub world-long : line_limit ≤ n → tail_world w n ≡ over_world w
+  unfolding tail_world
+  world-long h = rw (le-leb line_limit n h)
+
+-- What `feed_tail` makes of it.
+pub ruleset tails = (
+  tail-short,
+  tail-long,
+  world-short,
+  world-long,
+  bytes-short,
+  bytes-long,
+  placed_none,
+)
 
 -- ---- starts of lines
 

@@ -2,19 +2,18 @@
 use Rattle.std.specs.Prelude.{cond, List, [], ◌∷◌, ◌++◌, ◌≡◌, ℕ, ◌+◌, ◌-◌, ◌≤◌, ◌<◌, leb, length, take, drop}
 use Rattle.limits.specs.Limits.{standard_cap, line_limit}
 use Rattle.flows.specs.Step.{step_checked}
-use Rattle.tables.specs.declared.Checked.TheVariants.{Passed}
 use Rattle.lists.specs.Line.{line}
 use Rattle.cards.specs.Lines.{over_long, cut}
 use Rattle.cards.specs.Place.{tick_first}
 use Rattle.cards.specs.declared.Phase.{Phase}
 use Rattle.cards.specs.declared.Phase.TheVariants as P
-use Rattle.cards.specs.declared.TickLine.TheVariants as T
-use Rattle.player.specs.Card.{World, world_of, velocities_in, over_watch, over_world, lined, broken_bytes, prints}
+use Rattle.player.specs.Card.{World, world_of, velocities_in, over_world, lined, broken_bytes, prints}
 use Rattle.player.specs.Card.{longest_output}
 use Rattle.traces.specs.Trace.{tick_of}
 use Rattle.feeder.specs.declared.Fed.{Fed}
 use Rattle.feeder.specs.declared.Turn.{Turn}
 use Rattle.player.specs.declared.Watch.{Watch}
+use Rattle.std.specs.Prelude.{None, Ok}
 
 -- From w with the bytes s at hand: out is printed, and w' goes on with the bytes s', whatever comes after them.
 pub record Goes (w : World) (s : List ℕ) (out : List ℕ) (w' : World) (s' : List ℕ) : Type 0 where
@@ -52,25 +51,27 @@ tail_bytes p n = cond (leb line_limit n) (broken_bytes p) []
 
 -- No tick line that could be run is left at the front of these bytes.
 abbrev pub Stops : World → List ℕ → Type 0
-Stops w s = 0 < w.watch.stage.left → tick_first (velocities_in w) w.watch.stage.edition s ≡ T.Broken
+Stops w s = 0 < w.watch.stage.left → tick_first (velocities_in w) w.watch.stage.edition s ≡ None
 
 -- The ticks come next, and a step with these parameters has no refusal, whatever its start, signals and velocity.
 pub record Admitted (w : World) : Type 0 where
   pub phase : w.watch.stage.phase ≡ P.Ticks
   pub passes : (start signals velocity : ℕ) → velocity < velocities_in w
       → step_checked standard_cap (velocities_in w) w.table w.watch.n w.state w.values
-      (tick_of start signals velocity w.parameters) ≡ Passed
+      (tick_of start signals velocity w.parameters) ≡ Ok tt
 
-abbrev pub fed_to : Watch → ℕ → ℕ → Fed
-fed_to w used filled = record { watch = w; used = used; filled = filled }
+abbrev pub fed_to : ℕ → ℕ → Fed
+fed_to used filled = record { used = used; filled = filled }
 
 -- After the end of a piece, from the place `used` up to `to`, with so many bytes filled before it: it is left over, or
 -- ends the card.
-unfoldable pub tail_fed : Watch → ℕ → ℕ → ℕ → Fed
-tail_fed w used to at =
-    cond (leb line_limit (to - used))
-    (fed_to over_watch to (at + length (broken_bytes w.stage.phase)))
-    (fed_to w used at)
+unfoldable pub tail_fed : Phase → ℕ → ℕ → ℕ → Fed
+tail_fed p used to at =
+    cond (leb line_limit (to - used)) (fed_to to (at + length (broken_bytes p))) (fed_to used at)
+
+-- The world after it, where it has n bytes.
+unfoldable pub tail_world : World → ℕ → World
+tail_world w n = cond (leb line_limit n) (over_world w) w
 
 -- Of the piece s some lines are used up, and what they print stands at the front of out: no more bytes than they
 -- have. From there w' goes on in the same phase, and all else of out is kept.

@@ -3,28 +3,25 @@
 #![tactic(auto)]
 
 ghost use Rattle.std.specs.Prelude.{◌≡◌, ◌+◌, ◌-◌, ◌≤◌, length, take, drop};
-ghost use Rattle.cards.specs.Says.{stage_at};
-ghost use Rattle.player.specs.Card.{world_of, watch_of, longest_output};
+ghost use Rattle.player.specs.Card.{held_by, SameArrays, longest_output};
 ghost use Rattle.player.specs.Output.{output_bytes};
-ghost use Rattle.feeder.specs.Feed.{Room, Stops, Admitted, fed_to, Runs, tail_bytes, tail_fed, Feeds};
-ghost use Rattle.feeder.specs.Feed.{shifted, Turns, Short, Finishes, placed};
+ghost use Rattle.feeder.specs.Feed.{Room, Stops, Admitted, fed_to, Runs, tail_bytes, tail_fed, tail_world, Feeds};
+ghost use Rattle.feeder.specs.Feed.{Turns, Short, Finishes, placed};
 
-use cards::{Phase, Stage, TickFound};
-use player::{Output, Watch};
-use tables::Checked;
+use cards::{Phase, TickLine};
+use limits::Refusal;
+use player::{Output, Player, Watch};
 
 // After a piece of a card: how many of its bytes are used up, and how many bytes of the output are filled.
 #[derive(Clone, Copy)]
 struct Fed {
-    pub watch: Watch,
-    pub used: usize,
-    pub filled: usize,
+    used: usize,
+    filled: usize,
 }
 
 // After a turn of the program: how many bytes are left for the next one, and how many of the output are filled.
 #[derive(Clone, Copy)]
 pub struct Turn {
-    pub watch: Watch,
     pub rest: usize,
     pub filled: usize,
 }
@@ -35,15 +32,13 @@ fn put_word(out: &mut [u8], at: usize, w: &[u8]) -> usize
     ensures { (result ≡ at + length w.now)
         × (out.new ≡ placed out.old at w.now) }
 {
-    let mut k = 0;
-    while k < w.len() {
-        out[at + k] = w[k];
-        k += 1;
-    }
-    at + k
+    let past = at + w.len();
+    out[at..past].copy_from_slice(w);
+    past
 }
 
 // Puts `verdict=`, the verdict's digit and a byte 10.
+#[tactic(auto, unfolding(player::specs::Output::output_bytes))]
 fn put_verdict(out: &mut [u8], at: usize, v: u32) -> usize
     requires { at + length (output_bytes (Output.Verdict v)) ≤ length out.old }
     ensures { (result ≡ at + length (output_bytes (Output.Verdict v)))
@@ -55,219 +50,151 @@ fn put_verdict(out: &mut [u8], at: usize, v: u32) -> usize
 }
 
 // Puts `refused=`, the refusal's number and a byte 10.
-fn put_refusal(out: &mut [u8], at: usize, refusal: u32) -> usize
+#[tactic(auto, unfolding(player::specs::Output::output_bytes, player::specs::Output::refusal_digits))]
+fn put_refusal(out: &mut [u8], at: usize, refusal: Refusal) -> usize
     requires { at + length (output_bytes (Output.Refused refusal)) ≤ length out.old }
     ensures { (result ≡ at + length (output_bytes (Output.Refused refusal)))
         × (out.new ≡ placed out.old at (output_bytes (Output.Refused refusal))) }
 {
-    if refusal < 10 {
+    let number = u32::from(refusal);
+    if number < 10 {
         let mut short = *b"refused=0\n";
-        short[8] = b'0' + (refusal % 10) as u8;
+        short[8] = b'0' + (number % 10) as u8;
         return put_word(out, at, &short);
     }
     let mut long = *b"refused=00\n";
-    long[8] = b'0' + ((refusal / 10) % 10) as u8;
-    long[9] = b'0' + (refusal % 10) as u8;
+    long[8] = b'0' + ((number / 10) % 10) as u8;
+    long[9] = b'0' + (number % 10) as u8;
     put_word(out, at, &long)
 }
 
 // Puts the line of an output (SPEC 10.10) to a place of out, and answers the place after it.
-fn put(out: &mut [u8], at: usize, d: Output) -> usize
-    requires { at + length (output_bytes d) ≤ length out.old }
-    ensures { (result ≡ at + length (output_bytes d))
-        × (out.new ≡ placed out.old at (output_bytes d)) }
+#[tactic(auto, unfolding(player::specs::Output::output_bytes), using(crate::proofs::Moving::placed_none))]
+fn put(out: &mut [u8], at: usize, output: Output) -> usize
+    requires { at + length (output_bytes output) ≤ length out.old }
+    ensures { (result ≡ at + length (output_bytes output))
+        × (out.new ≡ placed out.old at (output_bytes output)) }
 {
-    match d {
+    match output {
         Output::Quiet => at,
         Output::Verdict(v) => put_verdict(out, at, v),
-        Output::Refused(r) => put_refusal(out, at, r),
-    }
-}
-
-fn watch_at(phase: Phase, edition: u32, left: u32, n: usize) -> Watch
-    ensures { result ≡ watch_of (stage_at phase edition left) n }
-{
-    Watch {
-        stage: Stage {
-            phase,
-            edition,
-            left,
-        },
-        n: n,
-    }
-}
-
-fn fed_to(watch: Watch, used: usize, filled: usize) -> Fed
-    ensures { result ≡ fed_to watch used filled }
-{
-    Fed {
-        watch,
-        used,
-        filled,
+        Output::Refused(refusal) => put_refusal(out, at, refusal),
     }
 }
 
 // Runs the tick lines at the front of a piece, up to the first that is broken or not whole. The steps are known to
 // have no refusal.
-fn run_ticks(
-    watch: Watch,
-    bytes: &[u8],
-    parameters: &[u32; limits::PARAMETERS],
-    table: &[u32],
-    state: &mut [u32],
-    values: &mut [u32],
-    out: &mut [u8],
-) -> Fed
-    requires { Room bytes.now out.old × Admitted (world_of watch parameters.now table.now state.old values.old) }
-    ensures runs { Runs (world_of watch parameters.now table.now state.old values.old) bytes.now result
-        (world_of result.watch parameters.now table.now state.new values.new) out.old out.new }
-    ensures stops { Stops (world_of result.watch parameters.now table.now state.new values.new)
-        (drop result.used bytes.now) }
+fn run_ticks(player: &mut Player<'_>, bytes: &[u8], out: &mut [u8]) -> Fed
+    requires { Room bytes.now out.old × Admitted (held_by player.old) }
+    ensures runs { Runs (held_by player.old) bytes.now result (held_by player.new) out.old out.new }
+    ensures stops { Stops (held_by player.new) (drop result.used bytes.now) }
+    ensures arrays { SameArrays player.old player.new }
 {
-    let stage = watch.stage;
-    let phase = stage.phase;
-    let edition = stage.edition;
-    let n = watch.n;
     let hex = cards::hex_digits();
-    let mut left = stage.left;
     let mut used = 0;
     let mut at = 0;
-    while 0 < left {
-        let found = cards::tick_at(&hex, limits::VELOCITIES, edition, bytes, used);
-        let TickFound::Is(start, signals, velocity, next) = found else {
-            return fed_to(watch_at(phase, edition, left, n), used, at);
+    while 0 < player.watch.stage.left {
+        let edition = player.watch.stage.edition;
+        let Some(found) = cards::tick_at(&hex, limits::VELOCITIES, edition, bytes, used) else {
+            break;
         };
-        let now = traces::tick_of(start, signals, velocity, *parameters);
+        let TickLine {
+            start,
+            signals,
+            velocity,
+        } = found.value;
+        let now = traces::tick_of(start, signals, velocity, player.parameters);
+        let n = player.watch.n;
+        let table = &mut *player.table;
+        let state = &mut *player.state;
+        let values = &mut *player.values;
         let v = flows::step_passed(table, n, state, values, now);
         at = put_verdict(out, at, v);
-        used = next;
-        left -= 1;
+        used = found.next;
+        player.watch.stage.left -= 1;
     }
-    fed_to(watch_at(phase, edition, left, n), used, at)
+    Fed { used, filled: at }
 }
 
 // Where the ticks come next and no step has a refusal, runs the tick lines at the front of a piece: one check for all
 // of them.
-fn feed_ticks(
-    w: Watch,
-    bytes: &[u8],
-    parameters: &[u32; limits::PARAMETERS],
-    table: &[u32],
-    state: &mut [u32],
-    values: &mut [u32],
-    out: &mut [u8],
-) -> Fed
-    requires { w.stage.phase ≡ Phase.Ticks → Room bytes.now out.old }
-    ensures runs { Runs (world_of w parameters.now table.now state.old values.old) bytes.now result
-        (world_of result.watch parameters.now table.now state.new values.new) out.old out.new }
-    ensures stops { Admitted (world_of w parameters.now table.now state.old values.old)
-        → Stops (world_of result.watch parameters.now table.now state.new values.new) (drop result.used bytes.now) }
-    ensures value { (Admitted (world_of w parameters.now table.now state.old values.old) → ⊥) → result ≡ fed_to w 0 0 }
+fn feed_ticks(player: &mut Player<'_>, bytes: &[u8], out: &mut [u8]) -> Fed
+    requires { player.old.watch.stage.phase ≡ Phase.Ticks → Room bytes.now out.old }
+    ensures runs { Runs (held_by player.old) bytes.now result (held_by player.new) out.old out.new }
+    ensures stops { Admitted (held_by player.old) → Stops (held_by player.new) (drop result.used bytes.now) }
+    ensures value { (Admitted (held_by player.old) → ⊥)
+        → (result ≡ fed_to 0 0) × (held_by player.new ≡ held_by player.old) }
+    ensures arrays { SameArrays player.old player.new }
 {
-    let stage = w.stage;
-    let phase = stage.phase;
-    let Phase::Ticks = phase else {
-        return fed_to(w, 0, 0);
-    };
-    let now = traces::tick_of(0, 0, 0, *parameters);
-    let checked = flows::step_checked(table, w.n, state, values, now);
-    let Checked::Passed = checked else {
-        return fed_to(w, 0, 0);
-    };
-    run_ticks(w, bytes, parameters, table, state, values, out)
+    let none = Fed { used: 0, filled: 0 };
+    if player.watch.stage.phase != Phase::Ticks {
+        return none;
+    }
+    let n = player.watch.n;
+    let now = traces::tick_of(0, 0, 0, player.parameters);
+    let table = &mut *player.table;
+    let state = &mut *player.state;
+    let values = &mut *player.values;
+    let checked = flows::step_checked(table, n, state, values, now);
+    if checked.is_err() {
+        return none;
+    }
+    run_ticks(player, bytes, out)
 }
 
 // The end of a piece, from the place `used` up to `to`: the start of a line is left over, and where it is over-long
 // already the card is over.
-fn feed_tail(w: Watch, used: usize, to: usize, out: &mut [u8], at: usize) -> Fed
-    requires { (used ≤ to) × (at + length (tail_bytes w.stage.phase (to - used)) ≤ length out.old) }
-    ensures { (result ≡ tail_fed w used to at)
-        × (out.new ≡ placed out.old at (tail_bytes w.stage.phase (to - used))) }
+#[tactic(auto, using(crate::proofs::Resuming::tails))]
+fn feed_tail(player: &mut Player<'_>, used: usize, to: usize, out: &mut [u8], at: usize) -> Fed
+    requires { (used ≤ to)
+        × (at + length (tail_bytes player.old.watch.stage.phase (to - used)) ≤ length out.old) }
+    ensures fed { (result ≡ tail_fed player.old.watch.stage.phase used to at)
+        × (held_by player.new ≡ tail_world (held_by player.old) (to - used))
+        × (out.new ≡ placed out.old at (tail_bytes player.old.watch.stage.phase (to - used))) }
+    ensures arrays { SameArrays player.old player.new }
 {
     if to - used < limits::LINE {
-        return fed_to(w, used, at);
+        return Fed { used, filled: at };
     }
-    let over = player::end_over_long(w);
-    let last = over.watch;
-    let word = over.output;
-    let past = put(out, at, word);
-    fed_to(last, to, past)
+    let output = player.end_over_long();
+    let filled = put(out, at, output);
+    Fed { used: to, filled }
 }
 
 // Takes the lines that are whole, and has out hold what they print.
-fn feed(
-    watch: Watch,
-    bytes: &[u8],
-    parameters: &mut [u32; limits::PARAMETERS],
-    table: &mut [u32],
-    state: &mut [u32],
-    values: &mut [u32],
-    out: &mut [u8],
-) -> Fed
+fn feed(player: &mut Player<'_>, bytes: &[u8], out: &mut [u8]) -> Fed
     requires { Room bytes.now out.old }
-    ensures { Feeds (world_of watch parameters.old table.old state.old values.old) bytes.now result
-        (world_of result.watch parameters.new table.new state.new values.new) out.old out.new }
+    ensures feeds { Feeds (held_by player.old) bytes.now result (held_by player.new) out.old out.new }
+    ensures arrays { SameArrays player.old player.new }
 {
-    let mut w = watch;
     let mut used = 0;
     let mut at = 0;
     loop {
-        let rest = &bytes[used..];
-        let f = feed_ticks(w, rest, parameters, table, state, values, &mut out[at..]);
-        let ran = f.watch;
-        w = ran;
-        used += f.used;
-        at += f.filled;
+        let ran = feed_ticks(player, &bytes[used..], &mut out[at..]);
+        used += ran.used;
+        at += ran.filled;
         let to = used + lists::line_length(bytes, used);
         if to == bytes.len() {
-            return feed_tail(w, used, to, out, at);
+            return feed_tail(player, used, to, out, at);
         }
-        let t = player::on_line(w, bytes, used, to, parameters, table, state, values);
-        let next = t.watch;
-        let output = t.output;
+        let output = player.on_line(bytes, used, to);
         at = put(out, at, output);
-        w = next;
         used = to + 1;
     }
 }
 
-// Moves the bytes from `from` up to `to` to the front.
-fn shift(buf: &mut [u8], from: usize, to: usize)
-    requires { (from ≤ to) × (to ≤ length buf.old) }
-    ensures { buf.new ≡ shifted buf.old from to }
-{
-    let mut i = from;
-    while i < to {
-        buf[i - from] = buf[i];
-        i += 1;
-    }
-}
-
 // A turn of the program between a read and a write: the first `to` bytes of buf are at hand. What is left over of them
-// is kept at the front of buf.
-pub fn run_turn(
-    watch: Watch,
-    buf: &mut [u8],
-    to: usize,
-    parameters: &mut [u32; limits::PARAMETERS],
-    table: &mut [u32],
-    state: &mut [u32],
-    values: &mut [u32],
-    out: &mut [u8],
-) -> Turn
+// is moved to the front of buf.
+pub fn run_turn(player: &mut Player<'_>, buf: &mut [u8], to: usize, out: &mut [u8]) -> Turn
     requires { (to ≤ length buf.old) × (to + longest_output ≤ length out.old) }
-    ensures { Turns (world_of watch parameters.old table.old state.old values.old) buf.old to result
-        (world_of result.watch parameters.new table.new state.new values.new) buf.new out.old out.new }
+    ensures turns { Turns (held_by player.old) buf.old to result (held_by player.new) buf.new out.old out.new }
+    ensures arrays { SameArrays player.old player.new }
 {
-    let f = feed(watch, &buf[..to], parameters, table, state, values, out);
-    let used = f.used;
-    let next = f.watch;
-    let filled = f.filled;
-    shift(buf, used, to);
+    let Fed { used, filled } = feed(player, &buf[..to], out);
+    buf.copy_within(used..to, 0);
     Turn {
-        watch: next,
         rest: to - used,
-        filled: filled,
+        filled,
     }
 }
 
@@ -276,7 +203,6 @@ pub fn finish(w: Watch, buf: &[u8], to: usize, out: &mut [u8]) -> usize
     requires { (to ≤ length buf.now) × (Short (take to buf.now) × (longest_output ≤ length out.old)) }
     ensures { Finishes w (take to buf.now) result out.old out.new }
 {
-    let stage = w.stage;
-    let d = player::last_output(cards::end(stage, to));
-    put(out, 0, d)
+    let output = player::last_output(cards::end(w.stage, to));
+    put(out, 0, output)
 }

@@ -16,14 +16,10 @@ ghost use Rattle.lustre.specs.Write.{after_write, write_effect, write_reply};
 ghost use Rattle.lustre.specs.Read.{AfterRead, load_reply};
 ghost use Rattle.packing.specs.Packing.{after_pack, packing, pack_reply};
 ghost use Rattle.packing.specs.Laws.{PackAnswer};
-ghost use Rattle.firmware.specs.Face.{answer, Given};
-ghost use Rattle.firmware.specs.Sizes.{small, short, few, slim};
+ghost use Rattle.firmware.specs.Face.{Given};
+ghost use Rattle.firmware.specs.Sizes.{small};
 
-use flows::{Fresh, Stepped};
-use lustre::{Loaded, Written};
-use observers::Compiled;
-use packing::Packed;
-use rules::Same;
+use limits::Refusal;
 
 // An answer as C gets it: the refusal's number, 0 for none, and the result, 0 where there is none (SPEC 1.4).
 #[repr(C)]
@@ -33,36 +29,30 @@ pub struct Answer {
     pub result: u32,
 }
 
-// The answer of a fresh state.
-fn fresh_answer(f: Fresh) -> Answer
-    ensures { result ≡ answer (fresh_reply f) }
-{
-    match f {
-        Fresh::Made => Answer {
-            refusal: 0,
-            result: 0,
-        },
-        Fresh::Refused(number) => Answer {
-            refusal: number,
-            result: 0,
-        },
+// What an operation answers, as C gets it.
+impl From<Result<u32, Refusal>> for Answer {
+    ghost use Rattle.firmware.specs.Face.{answer};
+    ghost use Rattle.firmware.specs.Sizes.{number_reply};
+
+    ghost from_gives = { λ told a. a ≡ answer (number_reply told) };
+
+    fn from(told: Result<u32, Refusal>) -> Answer {
+        match told {
+            Ok(result) => Answer { refusal: 0, result },
+            Err(refusal) => Answer {
+                refusal: u32::from(refusal),
+                result: 0,
+            },
+        }
     }
 }
 
-// The answer of a step.
-fn step_answer(s: Stepped) -> Answer
-    ensures { result ≡ answer (step_reply s) }
+// A number of equations, or the length of a text, in 32 bits.
+fn narrow(told: Result<usize, Refusal>) -> Result<u32, Refusal>
+    requires { small told }
+    ensures { result ≡ told }
 {
-    match s {
-        Stepped::Verdict(verdict) => Answer {
-            refusal: 0,
-            result: verdict,
-        },
-        Stepped::Refused(number) => Answer {
-            refusal: number,
-            result: 0,
-        },
-    }
+    Ok(told? as u32)
 }
 
 // Makes a fresh state of the table's n equations (SPEC 8.4).
@@ -71,7 +61,7 @@ pub extern "C" fn towerwatch_fresh_state(table: &[u32], n: usize, state: &mut [u
     ensures { Given fresh_reply (λ x. after_fresh x state.new
         ≡ freshened velocity_count table.now n state.old) result }
 {
-    fresh_answer(flows::fresh_state(table, n, state))
+    Answer::from(flows::fresh_state(table, n, state).map(|()| 0))
 }
 
 // One step: a tick of the table's n equations (SPEC 8.5).
@@ -91,60 +81,7 @@ pub extern "C" fn towerwatch_step(
         (tick_of start signals velocity parameters.now)) result }
 {
     let now = traces::tick_of(start, signals, velocity, *parameters);
-    step_answer(flows::step(table, n, state, values, now))
-}
-
-// The answer of reading a rule.
-fn read_answer(a: rules::Read) -> Answer
-    ensures { result ≡ answer (read_reply a) }
-{
-    match a {
-        rules::Read::Rule(nodes) => Answer {
-            refusal: 0,
-            result: nodes,
-        },
-        rules::Read::Refused(number) => Answer {
-            refusal: number,
-            result: 0,
-        },
-    }
-}
-
-// The answer of compiling.
-fn compiled_answer(c: Compiled) -> Answer
-    requires { small c }
-    ensures { result ≡ answer (compile_reply c) }
-{
-    match c {
-        Compiled::Equations(n) => Answer {
-            refusal: 0,
-            result: n as u32,
-        },
-        Compiled::Refused(number) => Answer {
-            refusal: number,
-            result: 0,
-        },
-    }
-}
-
-// The answer of comparing two rules.
-fn same_answer(s: Same) -> Answer
-    ensures { result ≡ answer (same_reply s) }
-{
-    match s {
-        Same::Yes => Answer {
-            refusal: 0,
-            result: 1,
-        },
-        Same::No => Answer {
-            refusal: 0,
-            result: 0,
-        },
-        Same::Refused(number) => Answer {
-            refusal: number,
-            result: 0,
-        },
-    }
+    Answer::from(flows::step(table, n, state, values, now))
 }
 
 // Reads a rule: how many nodes (SPEC 8.1).
@@ -153,10 +90,11 @@ pub extern "C" fn towerwatch_read_rule(text: &[u8]) -> Answer
     ensures given { Given read_reply (λ x. x ≡ answer_of (rule_of standard_context text.now)) result }
     ensures given_2 { Given read_reply (Told standard_context text.now) result }
 {
-    read_answer(rules::read_rule(text))
+    Answer::from(rules::read_rule(text))
 }
 
 // Compiles a rule into a table: how many equations (SPEC 8.2).
+#[tactic(auto, using(crate::proofs::Sizes::compiled_small))]
 #[unsafe(no_mangle)]
 pub extern "C" fn towerwatch_compile(text: &[u8], table: &mut [u32]) -> Answer
     ensures given { Given compile_reply (λ x. after_compile x table.new
@@ -164,7 +102,7 @@ pub extern "C" fn towerwatch_compile(text: &[u8], table: &mut [u32]) -> Answer
     ensures given_2 { Given compile_reply (λ x. Compiles standard_context text.now table.old x
         table.new) result }
 {
-    compiled_answer(observers::compile_rule(text, table))
+    Answer::from(narrow(observers::compile_rule(text, table)))
 }
 
 // Compares two texts, each with its parameters: 1 where they are the same rule, else 0 (SPEC 8.3).
@@ -180,41 +118,7 @@ pub extern "C" fn towerwatch_same_rule(
     ensures given_2 { Given same_reply (SameAnswer standard_context first.now ps.now
         second.now qs.now) result }
 {
-    same_answer(rules::same_rule(first, ps, second, qs))
-}
-
-// The answer of writing Lustre text.
-fn written_answer(w: Written) -> Answer
-    requires { short w }
-    ensures { result ≡ answer (write_reply w) }
-{
-    match w {
-        Written::Length(length) => Answer {
-            refusal: 0,
-            result: length as u32,
-        },
-        Written::Refused(number) => Answer {
-            refusal: number,
-            result: 0,
-        },
-    }
-}
-
-// The answer of reading Lustre text.
-fn loaded_answer(l: Loaded) -> Answer
-    requires { few l }
-    ensures { result ≡ answer (load_reply l) }
-{
-    match l {
-        Loaded::Equations(n) => Answer {
-            refusal: 0,
-            result: n as u32,
-        },
-        Loaded::Refused(number) => Answer {
-            refusal: number,
-            result: 0,
-        },
-    }
+    Answer::from(rules::same_rule(first, ps, second, qs).map(u32::from))
 }
 
 // Writes the table's n equations as Lustre text: how many bytes (SPEC 8.6).
@@ -223,36 +127,21 @@ pub extern "C" fn towerwatch_write_lustre(table: &[u32], n: usize, text: &mut [u
     ensures { Given write_reply (λ x. after_write x text.new
         ≡ write_effect velocity_count table.now n text.old) result }
 {
-    written_answer(lustre_write::write_lustre(table, n, text))
+    Answer::from(narrow(lustre_write::write_lustre(table, n, text)))
 }
 
 // Reads Lustre text into a table: how many equations (SPEC 8.7).
+#[tactic(auto, using(crate::proofs::Sizes::loaded_small))]
 #[unsafe(no_mangle)]
 pub extern "C" fn towerwatch_read_lustre(text: &[u8], table: &mut [u32]) -> Answer
     ensures { Given load_reply (λ x. AfterRead velocity_count text.now table.old x
         table.new) result }
 {
-    loaded_answer(lustre_read::read_lustre(text, table))
-}
-
-// The answer of packing.
-fn packed_answer(p: Packed) -> Answer
-    requires { slim p }
-    ensures { result ≡ answer (pack_reply p) }
-{
-    match p {
-        Packed::Equations(n) => Answer {
-            refusal: 0,
-            result: n as u32,
-        },
-        Packed::Refused(number) => Answer {
-            refusal: number,
-            result: 0,
-        },
-    }
+    Answer::from(narrow(lustre_read::read_lustre(text, table)))
 }
 
 // Packs the table's n equations into a second table: how many they are then (SPEC 8.8).
+#[tactic(auto, using(crate::proofs::Sizes::packed_small))]
 #[unsafe(no_mangle)]
 pub extern "C" fn towerwatch_pack(table: &[u32], n: usize, packed: &mut [u32]) -> Answer
     ensures given { Given pack_reply (λ x. after_pack x packed.new
@@ -260,5 +149,5 @@ pub extern "C" fn towerwatch_pack(table: &[u32], n: usize, packed: &mut [u32]) -
     ensures given_2 { Given pack_reply (λ x. PackAnswer velocity_count table.now n packed.old x
         packed.new) result }
 {
-    packed_answer(packer::pack(table, n, packed))
+    Answer::from(narrow(packer::pack(table, n, packed)))
 }

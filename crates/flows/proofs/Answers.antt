@@ -10,22 +10,20 @@ use Rattle.traces.specs.Trace.{nonzero, idle_verdict}
 use Rattle.traces.specs.declared.Tick.{Tick}
 use Rattle.lists.specs.Number.{number_at}
 use Rattle.limits.specs.Limits.{truth_count}
-use Rattle.tables.specs.Table.{all, equation_fits, kind_at, sort_of, same_sort, equations_fit, checked}
+use Rattle.tables.specs.Table.{all, equation_fits, kind_at, sort_of, same_sort, equations_fit, Checked, passed, checked}
 use Rattle.tables.specs.Table.{closing_count, started_of, verdict_of, boolean_at, closes}
 use Rattle.tables.specs.declared.Sort.{Sort}
 use Rattle.tables.specs.declared.Sort.TheVariants.{Boolean, Count}
-use Rattle.tables.specs.declared.Checked.{Checked}
-use Rattle.tables.specs.declared.Checked.TheVariants.{Passed, Refused as Failed}
 use Rattle.tables.proofs.Tests.{and-true}
 use Rattle.tables.proofs.Checks.{passed-both}
 use Rattle.flows.specs.Flow.{flows, answer_of, in_range}
 use Rattle.flows.specs.Step.{after_tick, stepped_if, step_checked, stepped}
-use Rattle.flows.specs.declared.Stepped.TheVariants.{Verdict, Refused}
 use Rattle.flows.proofs.Checks.{step-passed, step-admitted}
 use Rattle.flows.proofs.Ranges.{flows-range}
+use Rattle.std.specs.Prelude.{Ok, Err}
 
 -- The verdict's flow of a table that passes its check is boolean.
-pub verdict-boolean : (velocities : ℕ) (t : List ℕ) (n : ℕ) → checked velocities t n ≡ Passed
+pub verdict-boolean : (velocities : ℕ) (t : List ℕ) (n : ℕ) → checked velocities t n ≡ passed
     → boolean_at t (verdict_of n) ≡ true
 unfolding equations_fit closes
 verdict-boolean velocities t n e =
@@ -49,22 +47,22 @@ answer-low n flow low = go (nonzero (flow (started_of n)))
 
 -- SPEC 8.5: a step that is not refused, of whatever table, answers 0, 1 or 2.
 pub answers-low : (cap velocities : ℕ) (t : List ℕ) (n : ℕ) (state values : List ℕ) (k : Tick) (v : ℕ)
-    → (stepped cap velocities t n state values k).answer ≡ Verdict v → v ≤ idle_verdict
+    → (stepped cap velocities t n state values k).answer ≡ Ok v → v ≤ idle_verdict
 unfolding stepped after_tick
 answers-low cap velocities t n state values k v e = go (step_checked cap velocities t n state values k) refl e
   where
     go : (c : Checked) → step_checked cap velocities t n state values k ≡ c
-        → (stepped_if c cap t n state values k).answer ≡ Verdict v → v ≤ idle_verdict
-    go Passed passed answers =
-        let p = step-passed cap velocities t n state values k passed in
+        → (stepped_if c cap t n state values k).answer ≡ Ok v → v ≤ idle_verdict
+    go (Ok tt) passes answers =
+        let p = step-passed cap velocities t n state values k passes in
         let flow = number_at (flows cap t k state n) in
         let range =
         flows-range cap velocities t n p.0.equations k state p.3 (verdict_of n) (omega (arith, p.0.closed)) in
-        let boolean = verdict-boolean velocities t n (step-admitted cap velocities t n state values k passed).0 in
+        let boolean = verdict-boolean velocities t n (step-admitted cap velocities t n state values k passes).0 in
         let is : answer_of n flow ≡ v = cc in
         subst (λ (x : ℕ). x ≤ idle_verdict) is
         (answer-low n flow (boolean-low cap (sort_of (kind_at t (verdict_of n))) (flow (verdict_of n)) boolean range))
-    go (Failed r) failed answers = absurd (no-verdict answers)
+    go (Err r) failed answers = absurd (no-verdict answers)
       where
-        no-verdict : Refused r ≡ Verdict v → ⊥
+        no-verdict : Err r ≡ Ok v → ⊥
         no-verdict q = let z : ◌≡◌ {A = ℕ} 0 1 = cc in omega arith

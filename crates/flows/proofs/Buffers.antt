@@ -94,34 +94,17 @@ module _ (t : List ℕ) (f : ℕ → ℕ) where
             ∙ set-cell n i state (omega arith) (omega arith) m
       ]
 
--- The loop that writes: the memories among the first i equations are set, and `state` has become `cells`.
-pub record Setting (t : List ℕ) (f : ℕ → ℕ) (n : ℕ) (state cells : List ℕ) (i : ℕ) : Type 0 where
-  pub within : i ≤ n
-  pub long : length cells ≡ length state
-  pub set : cells ≡ memories_set t f i state
-
-pub set-none : (t : List ℕ) (f : ℕ → ℕ) (n : ℕ) (state : List ℕ) → Setting t f n state state 0
+-- The loop that writes: the memories among the first i equations are set, and `state` has become `cells`. The cell of a
+-- memory is set,
+pub set-memory : (t : List ℕ) (f : ℕ → ℕ) (i : ℕ) (state : List ℕ) {cells after : List ℕ} (x : ℕ)
+    → cells ≡ memories_set t f i state → is_memory (kind_at t i) ≡ true → x ≡ f i → after ≡ set cells i x
+    → after ≡ memories_set t f (i + 1) state
 unfolding memories_set
-set-none t f n state = record { within = omega arith; long = refl; set = refl }
+set-memory t f i state x h m e a = a ∙ rw (add-one i, m, h, e)
 
-module _ {t : List ℕ} {f : ℕ → ℕ} {n : ℕ} {state cells : List ℕ} {i : ℕ} (h : Setting t f n state cells i) where
-  -- The cell of a memory is set,
-  pub set-memory : {after : List ℕ} (x : ℕ) → i < n → is_memory (kind_at t i) ≡ true → x ≡ f i → after ≡ set cells i x
-      → Setting t f n state after (i + 1)
-  unfolding memories_set
-  set-memory x l m e a =
-      record {
-        within = omega arith;
-        long = rw (a, length-set) h.long;
-        set = a ∙ rw (add-one i, m, h.set, e);
-      }
-
-  -- and any other is kept.
-  pub set_other : {after : List ℕ} → i < n → is_memory (kind_at t i) ≡ false → after ≡ cells
-      → Setting t f n state after (i + 1)
-  unfolding memories_set
-  set_other l m a =
-      record { within = omega arith; long = ap length a ∙ h.long; set = a ∙ rw (add-one i, m) h.set }
-
-  pub set_all : n ≤ i → cells ≡ memories_set t f n state
-  set_all l = let z : i ≡ n = omega arith in rw z at h.set
+-- and any other is kept.
+pub set_other : (t : List ℕ) (f : ℕ → ℕ) (i : ℕ) (state : List ℕ) {cells after : List ℕ}
+    → cells ≡ memories_set t f i state → is_memory (kind_at t i) ≡ false → after ≡ cells
+    → after ≡ memories_set t f (i + 1) state
+unfolding memories_set
+set_other t f i state h m a = a ∙ rw (add-one i, m) h

@@ -7,15 +7,14 @@ use Rattle.traces.specs.declared.Tick.{Tick}
 use Rattle.flows.specs.Run.{Call, called, Taken, steps, answered, tick_if, ticks, EachTick}
 use Rattle.flows.specs.Run.{admits, refusal_in, CallsDecide}
 use Rattle.flows.specs.Run.EachTick.{none, tick as ticked, refused as skipped}
-use Rattle.tables.specs.declared.Checked.{Checked}
-use Rattle.tables.specs.declared.Checked.TheVariants.{Passed, Refused as Failed}
-use Rattle.flows.specs.declared.Stepped.{Stepped}
-use Rattle.flows.specs.declared.Stepped.TheVariants.{Verdict, Refused}
+use Rattle.tables.specs.Table.{Checked, passed}
+use Rattle.flows.specs.Step.{Stepped}
+use Rattle.std.specs.Prelude.{Ok, Err}
 
 -- The ticks of the calls that are admitted.
 abbrev tick_for : Checked → Tick → List Tick → List Tick
-tick_for Passed k ks = k ∷ ks
-tick_for (Failed r) k ks = ks
+tick_for (Ok tt) k ks = k ∷ ks
+tick_for (Err r) k ks = ks
 
 unfoldable pub admitted : ℕ → ℕ → ℕ → List Call → List Tick
 admitted cap velocities n [] = []
@@ -23,12 +22,12 @@ admitted cap velocities n (x ∷ xs) = tick_for (admits cap velocities n x) x.ti
 
 -- The number of the next tick, after a call at the number k.
 abbrev next_if : Checked → ℕ → ℕ
-next_if Passed k = suc k
-next_if (Failed r) k = k
+next_if (Ok tt) k = suc k
+next_if (Err r) k = k
 
 abbrev verdict_if : Checked → ℕ → Stepped
-verdict_if Passed v = Verdict v
-verdict_if (Failed r) v = Refused r
+verdict_if (Ok tt) v = Ok v
+verdict_if (Err r) v = Err r
 
 -- The answers of a list of calls that begins at the tick numbered k, if v j is the verdict of the tick numbered j.
 unfoldable pub expected : ℕ → ℕ → ℕ → (ℕ → ℕ) → ℕ → List Call → List Stepped
@@ -45,8 +44,8 @@ tails e = cc
 
 -- A step that is not refused is a tick.
 tick-for : (a : Stepped) (k : Tick) (ks : List Tick) → tick_if a k ks ≡ tick_for (refusal_in a) k ks
-tick-for (Verdict v) k ks = refl
-tick-for (Refused r) k ks = refl
+tick-for (Ok v) k ks = refl
+tick-for (Err r) k ks = refl
 
 pub decided-ticks : (cap velocities : ℕ) (t : List ℕ) (n : ℕ) (xs : List Call) (state : List ℕ)
     → CallsDecide cap velocities n xs (steps cap velocities t n state xs)
@@ -60,16 +59,16 @@ decided-ticks cap velocities t n (x ∷ xs) state e =
 
 -- Verdicts at all ticks give the answers.
 pub each-expected : (cap velocities n : ℕ) (v : ℕ → ℕ) (xs : List Call) (ss : List Taken) (k : ℕ)
-    → CallsDecide cap velocities n xs ss → EachTick (λ k s. s.left.answer ≡ Verdict (v k)) k ss
+    → CallsDecide cap velocities n xs ss → EachTick (λ k s. s.left.answer ≡ Ok (v k)) k ss
     → answered ss ≡ expected cap velocities n v k xs
 unfolding expected
 each-expected cap velocities n v [] [] k e none = refl
 each-expected cap velocities n v [] (s ∷ ss) k e h = cc
 each-expected cap velocities n v (x ∷ xs) [] k e h = cc
 each-expected cap velocities n v (x ∷ xs) (s ∷ ss) k e (ticked a p rest) =
-    let c : admits cap velocities n x ≡ Passed = sym (heads e) ∙ ap refusal_in a in
+    let c : admits cap velocities n x ≡ passed = sym (heads e) ∙ ap refusal_in a in
     rw (p, c)
-    (ap (λ (l : List Stepped). Verdict (v k) ∷ l) (each-expected cap velocities n v xs ss (suc k) (tails e) rest))
+    (ap (λ (l : List Stepped). Ok (v k) ∷ l) (each-expected cap velocities n v xs ss (suc k) (tails e) rest))
 each-expected cap velocities n v (x ∷ xs) (s ∷ ss) k e (skipped {r = r} a rest) =
-    let c : admits cap velocities n x ≡ Failed r = sym (heads e) ∙ ap refusal_in a in
-    rw (a, c) (ap (λ (l : List Stepped). Refused r ∷ l) (each-expected cap velocities n v xs ss k (tails e) rest))
+    let c : admits cap velocities n x ≡ Err r = sym (heads e) ∙ ap refusal_in a in
+    rw (a, c) (ap (λ (l : List Stepped). Err r ∷ l) (each-expected cap velocities n v xs ss k (tails e) rest))

@@ -1,5 +1,4 @@
 -- Laws of flows: buffers, checks, ranges, and that a run satisfies its equations.
-pub mod Numbers
 pub mod Buffers
 pub mod Checks
 pub mod Ranges

@@ -13,7 +13,7 @@ use Rattle.traces.specs.declared.Tick.{Tick}
 use Rattle.traces.specs.Trace.{Trace, trace_of, tick_of}
 use Rattle.traces.specs.Parameters.{parameter_fits}
 use Rattle.lists.specs.Number.{number_at}
-use Rattle.tables.specs.Table.{checked}
+use Rattle.tables.specs.Table.{Checked, passed, checked}
 use Rattle.flows.specs.Flow.{flows, operand_at, fresh_state, next_state}
 use Rattle.flows.specs.Step.{cells_fit, fresh_checked, step_checked}
 use Rattle.flows.specs.Step.{AfterFresh, after_fresh, freshened, AfterStep, after_tick, stepped_if, stepped}
@@ -21,22 +21,19 @@ use Rattle.flows.specs.Run.{Call, called, Taken, steps, from_fresh, tick_if, tic
 use Rattle.flows.specs.Run.{call_checked, admits, refusal_in, CallsDecide}
 use Rattle.flows.specs.Run.EachTick.{none, tick as ticked, refused as skipped}
 use Rattle.flows.specs.Lustre.{Solves, firsts, Leaves, RunsAsLustre}
-use Rattle.tables.specs.declared.Checked.{Checked}
-use Rattle.tables.specs.declared.Checked.TheVariants.{Passed, Refused as Failed}
-use Rattle.flows.specs.declared.Fresh.TheVariants.{Made}
-use Rattle.flows.specs.declared.Stepped.TheVariants.{Verdict}
 use Rattle.flows.proofs.Buffers.{length-flows, flows-at, length-memories}
 use Rattle.tables.proofs.Checks.{Fitting, checked-fitting, passed-both}
 use Rattle.flows.proofs.Checks.{step-passed, step-admitted}
 use Rattle.flows.proofs.Ranges.{fresh-fits, next_fits}
 use Rattle.flows.proofs.Runs.{state_at, flow_at, answer-same, state-room, state-fits, lustre, flows-same}
+use Rattle.std.specs.Prelude.{Ok, Err}
 
 -- Where a table passes its check and there is room, the fresh state is made.
-pub made : (velocities : ℕ) (t : List ℕ) (n : ℕ) (old : List ℕ) → checked velocities t n ≡ Passed → n ≤ length old
-    → freshened velocities t n old ≡ after_fresh Made (fresh_state t n old)
+pub made : (velocities : ℕ) (t : List ℕ) (n : ℕ) (old : List ℕ) → checked velocities t n ≡ passed → n ≤ length old
+    → freshened velocities t n old ≡ after_fresh passed (fresh_state t n old)
 unfolding freshened fresh_checked
-made velocities t n old passed room =
-    let both = passed-both velocities t n passed in
+made velocities t n old passes room =
+    let both = passed-both velocities t n passes in
     rw (both.0, both.1, le-leb n (length old) room)
 
 -- What holds of each tick gives what follows from it.
@@ -62,13 +59,13 @@ follows trace d (x ∷ xs) k h = (
 pub follows_itself : (d : Tick) (xs : List Tick) → Follows (trace_of d xs) 0 xs
 follows_itself d xs = follows (trace_of d xs) d xs 0 (λ j. ap (trace_of d xs) (zero-add j))
 
-module _ (cap velocities : ℕ) (t : List ℕ) (n : ℕ) (passed : checked velocities t n ≡ Passed) where
+module _ (cap velocities : ℕ) (t : List ℕ) (n : ℕ) (passes : checked velocities t n ≡ passed) where
   -- Where the table passes its tests and the cells are in range, the call alone decides whether the step is refused.
   pub call-decides : (state values : List ℕ) (k : Tick) → n ≤ length state → cells_fit cap t n state ≡ true
       → step_checked cap velocities t n state values k ≡ call_checked cap velocities n values k
   unfolding step_checked call_checked
   call-decides state values k room fit =
-      let p = passed-both velocities t n passed in
+      let p = passed-both velocities t n passes in
       rw (p.0, p.1, le-leb n (length state) room, fit)
 
   -- The state that a call leaves has room and is in range again,
@@ -76,19 +73,19 @@ module _ (cap velocities : ℕ) (t : List ℕ) (n : ℕ) (passed : checked veloc
     stays : (c : Checked) → (n ≤ length (stepped_if c cap t n state x.values x.tick).state)
         × (cells_fit cap t n (stepped_if c cap t n state x.values x.tick).state ≡ true)
     unfolding after_tick
-    stays Passed =
+    stays (Ok tt) =
         let fs = flows cap t x.tick state n in (
           rw (length-memories t (operand_at t fs) n state) room,
-          next_fits cap velocities t n (checked-fitting velocities t n passed).equations x.tick state room fit,
+          next_fits cap velocities t n (checked-fitting velocities t n passes).equations x.tick state room fit,
         )
-    stays (Failed r) = (room, fit)
+    stays (Err r) = (room, fit)
 
   -- so the calls of a list decide by themselves which are refused.
   refusal-if : (c : Checked) (state : List ℕ) (x : Call)
       → refusal_in (stepped_if c cap t n state x.values x.tick).answer ≡ c
   unfolding after_tick
-  refusal-if Passed state x = refl
-  refusal-if (Failed r) state x = refl
+  refusal-if (Ok tt) state x = refl
+  refusal-if (Err r) state x = refl
 
   decided : (xs : List Call) (state : List ℕ) → n ≤ length state → cells_fit cap t n state ≡ true
       → CallsDecide cap velocities n xs (steps cap velocities t n state xs)
@@ -108,11 +105,11 @@ module _ (cap velocities : ℕ) (t : List ℕ) (n : ℕ) (passed : checked veloc
         ≡ call_checked cap velocities n values tick
     run-decides trace k values tick =
         call-decides (state_at cap t n old trace k) values tick (state-room cap t n old trace room k)
-        (state-fits cap velocities t n old trace room (checked-fitting velocities t n passed).equations k)
+        (state-fits cap velocities t n old trace room (checked-fitting velocities t n passes).equations k)
 
     -- The tick numbered k of a list of calls, on a run of the trace.
     pub record Ran (trace : Trace) (k : ℕ) (s : Taken) : Type 0 where
-      pub admitted : admits cap velocities n s.call ≡ Passed
+      pub admitted : admits cap velocities n s.call ≡ passed
       pub now : trace k ≡ s.call.tick
       pub left : s.left ≡ after_tick cap t n (state_at cap t n old trace k) s.call.values (trace k)
 
@@ -125,7 +122,7 @@ module _ (cap velocities : ℕ) (t : List ℕ) (n : ℕ) (passed : checked veloc
           → EachTick (Ran trace) j (steps cap velocities t n (state_at cap t n old trace j) xs))
           → EachTick (Ran trace) k (record { call = x; left = y } ∷ steps cap velocities t n y.state xs)
       unfolding after_tick state_at
-      one-call k x xs Passed a y e f rest =
+      one-call k x xs (Ok tt) a y e f rest =
           let state = state_at cap t n old trace k in
           let after = after_tick cap t n state x.values in
           let both : (trace k ≡ x.tick)
@@ -141,7 +138,7 @@ module _ (cap velocities : ℕ) (t : List ℕ) (n : ℕ) (passed : checked veloc
           (rest (suc k)
           (subst (λ (z : AfterStep). Follows trace (suc k) (ticks (steps cap velocities t n z.state xs))) (sym next)
           both.1)))
-      one-call k x xs (Failed r) a y e f rest =
+      one-call k x xs (Err r) a y e f rest =
           let state = state_at cap t n old trace k in
           let same : ticks (steps cap velocities t n state xs)
           ≡ tick_if y.answer x.tick (ticks (steps cap velocities t n y.state xs)) =
@@ -171,7 +168,7 @@ module _ (cap velocities : ℕ) (t : List ℕ) (n : ℕ) (passed : checked veloc
         let state = fresh_state t n old in
         let ks = ticks (steps cap velocities t n state calls) in
         subst (λ (z : AfterFresh). EachTick (Ran (trace_of d (ticks (steps cap velocities t n z.state calls)))) 0
-        (steps cap velocities t n z.state calls)) (sym (made velocities t n old passed room))
+        (steps cap velocities t n z.state calls)) (sym (made velocities t n old passes room))
         (ran-from (trace_of d ks) calls 0 (follows_itself d ks))
 
     pub calls-decide : (calls : List Call) → CallsDecide cap velocities n calls
@@ -180,9 +177,9 @@ module _ (cap velocities : ℕ) (t : List ℕ) (n : ℕ) (passed : checked veloc
     calls-decide calls =
         let trace : Trace = λ k. tick_of 0 0 0 [] in
         subst (λ (z : AfterFresh). CallsDecide cap velocities n calls (steps cap velocities t n z.state calls))
-        (sym (made velocities t n old passed room))
+        (sym (made velocities t n old passes room))
         (decided calls (fresh_state t n old) (state-room cap t n old trace room 0)
-        (fresh-fits cap velocities t n (checked-fitting velocities t n passed).equations old room))
+        (fresh-fits cap velocities t n (checked-fitting velocities t n passes).equations old room))
 
 -- The flows of a tick as a list.
 module _ (cap : ℕ) (t : List ℕ) (k : Tick) (state : List ℕ) (n : ℕ) (f : ℕ → ℕ)
@@ -199,23 +196,23 @@ module _ (cap : ℕ) (t : List ℕ) (k : Tick) (state : List ℕ) (n : ℕ) (f :
 
 -- ---- SPEC 12.2, demand 2
 
-module _ (cap velocities : ℕ) (t : List ℕ) (n : ℕ) (passed : checked velocities t n ≡ Passed) where
+module _ (cap velocities : ℕ) (t : List ℕ) (n : ℕ) (passes : checked velocities t n ≡ passed) where
   fits : Fitting velocities t n
-  fits = checked-fitting velocities t n passed
+  fits = checked-fitting velocities t n passes
 
   -- Cells for a run that nobody looks at.
   abbrev noughts : List ℕ
   noughts = replicate n 0
 
   module _ (old : List ℕ) (room : n ≤ length old) (trace : Trace) (f : ℕ → ℕ → ℕ) (F : Solves cap t n trace f) where
-    tick-leaves : (k : ℕ) (s : Taken) → Ran cap velocities t n passed old room trace k s → Leaves n f k s
+    tick-leaves : (k : ℕ) (s : Taken) → Ran cap velocities t n passes old room trace k s → Leaves n f k s
     unfolding after_tick flow_at
     tick-leaves k s r =
         let state = state_at cap t n old trace k in
         let fs = flows cap t (trace k) state n in
         let same : (i : ℕ) → i < n → number_at fs i ≡ f k i =
         λ i l. flows-same cap velocities t n trace fits.equations (flow_at cap t n old trace) f
-        (λ j m h. (lustre cap velocities t n old trace passed room j m h).equation) F k i l in
+        (λ j m h. (lustre cap velocities t n old trace passes room j m h).equation) F k i l in
         record {
           values =
               ap (λ (z : AfterStep). z.values) r.left
@@ -223,37 +220,37 @@ module _ (cap velocities : ℕ) (t : List ℕ) (n : ℕ) (passed : checked veloc
               (flows-firsts cap t (trace k) state n (f k) same);
           answer =
               ap (λ (z : AfterStep). z.answer) r.left
-              ∙ ap Verdict (answer-same n (number_at fs) (f k) fits.closed same);
+              ∙ ap Ok (answer-same n (number_at fs) (f k) fits.closed same);
         }
 
   pub runs-as-lustre : RunsAsLustre cap velocities t n
   runs-as-lustre =
       record {
         flow = flow_at cap t n noughts;
-        solves = λ trace. lustre cap velocities t n noughts trace passed (omega (arith, length-replicate {A = ℕ} n 0));
+        solves = λ trace. lustre cap velocities t n noughts trace passes (omega (arith, length-replicate {A = ℕ} n 0));
         one = λ trace f g F G. flows-same cap velocities t n trace fits.equations f g F G;
         leaves =
             λ old room calls d f F. each_map (tick-leaves old room _ f F)
-            (ran cap velocities t n passed old room calls d);
-        decides = λ old room calls. calls-decide cap velocities t n passed old room calls;
+            (ran cap velocities t n passes old room calls d);
+        decides = λ old room calls. calls-decide cap velocities t n passes old room calls;
       }
 
 -- A step that is not refused,
 module _ (cap velocities : ℕ) (t : List ℕ) (n : ℕ) (c v : List ℕ) (k : Tick)
-    (e : step_checked cap velocities t n c v k ≡ Passed) where
+    (e : step_checked cap velocities t n c v k ≡ passed) where
   pub step-ticks : stepped cap velocities t n c v k ≡ after_tick cap t n c v k
   unfolding stepped
   step-ticks = rw e
 
   -- and after it any further step with the same parameters, and with one of the velocities, is not refused.
   admitted-on : (k' : Tick) → k'.parameters ≡ k.parameters → k'.velocity < velocities → (v' : List ℕ)
-      → n ≤ length v' → call_checked cap velocities n v' k' ≡ Passed
+      → n ≤ length v' → call_checked cap velocities n v' k' ≡ passed
   unfolding call_checked parameter_fits
   admitted-on k' q low v' room =
       rw (le-leb n (length v') room, q, (step-admitted cap velocities t n c v k e).1, lt-ltb _ velocities low)
 
   tick-on : (k' : Tick) → k'.parameters ≡ k.parameters → k'.velocity < velocities
-      → step_checked cap velocities t n (after_tick cap t n c v k).state (after_tick cap t n c v k).values k' ≡ Passed
+      → step_checked cap velocities t n (after_tick cap t n c v k).state (after_tick cap t n c v k).values k' ≡ passed
   unfolding after_tick
   tick-on k' q low =
       let p = step-passed cap velocities t n c v k e in
@@ -266,5 +263,5 @@ module _ (cap velocities : ℕ) (t : List ℕ) (n : ℕ) (c v : List ℕ) (k : T
 
   pub step-on : (k' : Tick) → k'.parameters ≡ k.parameters → k'.velocity < velocities → (
       let after = stepped cap velocities t n c v k in
-      step_checked cap velocities t n after.state after.values k' ≡ Passed)
+      step_checked cap velocities t n after.state after.values k' ≡ passed)
   step-on k' q low = rw step-ticks (tick-on k' q low)

@@ -13,11 +13,9 @@ use Rattle.traces.specs.declared.Tick.{Tick}
 use Rattle.traces.specs.Trace.{truth, nonzero, signal_at, parameter_at, starts}
 use Rattle.traces.specs.Compare.{op_of, compares}
 use Rattle.lists.specs.Number.{number_at}
-use Rattle.tables.specs.Table.{all, Equation, equation_at, Kind, kind_at, shape_of, sort_of}
+use Rattle.tables.specs.Table.{all, equation_at, kind_at, shape_of, sort_of}
 use Rattle.tables.specs.Table.{same_sort, is_flow, operand_fits, shape_fits, equation_fits}
 use Rattle.limits.specs.Limits.{truth_count}
-use Rattle.tables.specs.Table.Kind.{signal, start, constant, negation, conjunction, disjunction, boolean_pre}
-use Rattle.tables.specs.Table.Kind.{count_pre, capped, if_else, compare_literal, compare_parameter, velocity, unknown}
 use Rattle.flows.specs.Flow.{increased, value_of, flows, memories_set, initial, initial_at, fresh_state}
 use Rattle.tables.specs.Table.{is_memory}
 use Rattle.flows.specs.Flow.{operand_at, next_state, in_range}
@@ -26,24 +24,29 @@ use Rattle.tables.specs.declared.Sort.{Sort}
 use Rattle.tables.specs.declared.Sort.TheVariants.{Boolean, Count}
 use Rattle.tables.proofs.Tests.{and-true, all-at, all_of}
 use Rattle.flows.proofs.Buffers.{flows-kept, flows-at, set-cell}
+use Rattle.std.specs.Prelude.{Option, Some, None}
+use Rattle.tables.specs.declared.Kind.TheVariants.{Signal, Start, Constant, Not, And, Or, BooleanPre}
+use Rattle.tables.specs.declared.Kind.TheVariants.{CountPre, Capped, If, CompareLiteral, CompareParameter, Velocity}
+use Rattle.tables.specs.declared.Equation.{Equation}
+use Rattle.tables.specs.declared.Kind.{Kind}
 
 -- The memories are the kinds of the two `pre`.
-pub memory-kind : (q : Kind) → is_memory q ≡ true → (q ≡ boolean_pre) ⊎ (q ≡ count_pre)
+pub memory-kind : (q : Option Kind) → is_memory q ≡ true → (q ≡ (Some BooleanPre)) ⊎ (q ≡ (Some CountPre))
 unfolding is_memory
-memory-kind signal e = inl cc
-memory-kind start e = inl cc
-memory-kind constant e = inl cc
-memory-kind negation e = inl cc
-memory-kind conjunction e = inl cc
-memory-kind disjunction e = inl cc
-memory-kind boolean_pre e = inl refl
-memory-kind count_pre e = inr refl
-memory-kind capped e = inl cc
-memory-kind if_else e = inl cc
-memory-kind compare_literal e = inl cc
-memory-kind compare_parameter e = inl cc
-memory-kind velocity e = inl cc
-memory-kind unknown e = inl cc
+memory-kind (Some Signal) e = inl cc
+memory-kind (Some Start) e = inl cc
+memory-kind (Some Constant) e = inl cc
+memory-kind (Some Not) e = inl cc
+memory-kind (Some And) e = inl cc
+memory-kind (Some Or) e = inl cc
+memory-kind (Some BooleanPre) e = inl refl
+memory-kind (Some CountPre) e = inr refl
+memory-kind (Some Capped) e = inl cc
+memory-kind (Some If) e = inl cc
+memory-kind (Some CompareLiteral) e = inl cc
+memory-kind (Some CompareParameter) e = inl cc
+memory-kind (Some Velocity) e = inl cc
+memory-kind None e = inl cc
 
 -- An operand is one of the first m equations, of its sort.
 pub flow-below : (t : List ℕ) (m : ℕ) (s : Sort) (x : ℕ) → is_flow t m s x ≡ true → x < m
@@ -88,64 +91,64 @@ module _ (cap : ℕ) where
   chosen-range false x h = le-leb 0 cap (omega arith)
 
   -- A memory's cell that passes its test is in range.
-  cell-range : (q : Kind) (x : ℕ) → is_memory q ≡ true → cell_fits cap q x ≡ true → in_range cap (sort_of q) x ≡ true
+  cell-range : (q : Option Kind) (x : ℕ) → is_memory q ≡ true → cell_fits cap q x ≡ true → in_range cap (sort_of q) x ≡ true
   unfolding cell_fits
   cell-range q x m e = rw m at e
 
   -- The value of an equation that fits is in range, if the flows that it reads and its cell are.
   module _ (velocities : ℕ) (t : List ℕ) (n i : ℕ) (k : Tick) (flow : ℕ → ℕ) (cell : ℕ)
       (earlier : Ranged t i flow) where
-    value-range : (q : Kind) (e : Equation) → shape_fits velocities t n i (shape_of q) e ≡ true
+    value-range : (q : Option Kind) (e : Equation) → shape_fits velocities t n i (shape_of q) e ≡ true
         → cell_fits cap q cell ≡ true → in_range cap (sort_of q) (value_of cap k flow cell q e) ≡ true
     unfolding shape_fits shape_of operand_fits value_of is_memory in_range
-    value-range signal e f h = truth-range (signal_at k e.a)
-    value-range start e f h = truth-range (starts k)
-    value-range constant e f h = (and-true (ltb e.a truth_count) _ f).0
-    value-range negation e f h = truth-range (not (nonzero (flow e.a)))
-    value-range conjunction e f h = truth-range (nonzero (flow e.a) && nonzero (flow e.b))
-    value-range disjunction e f h = truth-range (nonzero (flow e.a) || nonzero (flow e.b))
-    value-range boolean_pre e f h = cell-range boolean_pre cell refl h
-    value-range count_pre e f h = cell-range count_pre cell refl h
-    value-range capped e f h =
+    value-range (Some Signal) e f h = truth-range (signal_at k e.a)
+    value-range (Some Start) e f h = truth-range (starts k)
+    value-range (Some Constant) e f h = (and-true (ltb e.a truth_count) _ f).0
+    value-range (Some Not) e f h = truth-range (not (nonzero (flow e.a)))
+    value-range (Some And) e f h = truth-range (nonzero (flow e.a) && nonzero (flow e.b))
+    value-range (Some Or) e f h = truth-range (nonzero (flow e.a) || nonzero (flow e.b))
+    value-range (Some BooleanPre) e f h = cell-range (Some BooleanPre) cell refl h
+    value-range (Some CountPre) e f h = cell-range (Some CountPre) cell refl h
+    value-range (Some Capped) e f h =
         increased-range (flow e.a) (nonzero (flow e.b))
         (operand-range t i flow earlier Count e.a (and-true (is_flow t i Count e.a) _ f).0)
-    value-range if_else e f h =
+    value-range (Some If) e f h =
         let g = (and-true (is_flow t i Boolean e.a) _ f).1 in
         chosen-range (nonzero (flow e.a)) (flow e.b)
         (operand-range t i flow earlier Count e.b (and-true (is_flow t i Count e.b) _ g).0)
-    value-range compare_literal e f h = truth-range (compares (op_of e.b) (flow e.a) e.c)
-    value-range compare_parameter e f h = truth-range (compares (op_of e.b) (flow e.a) (parameter_at k e.c))
-    value-range velocity e f h = truth-range (compares (op_of e.a) k.velocity e.b)
-    value-range unknown e f h = truth-range false
+    value-range (Some CompareLiteral) e f h = truth-range (compares (op_of e.b) (flow e.a) e.c)
+    value-range (Some CompareParameter) e f h = truth-range (compares (op_of e.b) (flow e.a) (parameter_at k e.c))
+    value-range (Some Velocity) e f h = truth-range (compares (op_of e.a) k.velocity e.b)
+    value-range None e f h = truth-range false
 
   -- What is written to a memory's cell, the initial value or the flow of the operand, is in range.
   module _ (velocities : ℕ) (t : List ℕ) (n i : ℕ) (e : Equation) where
-    boolean-initial : shape_fits velocities t n i (shape_of boolean_pre) e ≡ true
-        → in_range cap (sort_of boolean_pre) (initial (sort_of boolean_pre) e.c) ≡ true
+    boolean-initial : shape_fits velocities t n i (shape_of (Some BooleanPre)) e ≡ true
+        → in_range cap (sort_of (Some BooleanPre)) (initial (sort_of (Some BooleanPre)) e.c) ≡ true
     unfolding shape_fits shape_of operand_fits initial in_range
     boolean-initial f = (and-true (eqb e.b 0) _ (and-true (is_flow t n Boolean e.a) _ f).1).1
 
-    count-initial : in_range cap (sort_of count_pre) (initial (sort_of count_pre) e.c) ≡ true
+    count-initial : in_range cap (sort_of (Some CountPre)) (initial (sort_of (Some CountPre)) e.c) ≡ true
     unfolding shape_of initial in_range
     count-initial = le-leb 0 cap (omega arith)
 
-    initial-range : (q : Kind) → shape_fits velocities t n i (shape_of q) e ≡ true → is_memory q ≡ true
+    initial-range : (q : Option Kind) → shape_fits velocities t n i (shape_of q) e ≡ true → is_memory q ≡ true
         → in_range cap (sort_of q) (initial (sort_of q) e.c) ≡ true
     initial-range q f m =
         ⊎_elim (λ z. rw z (boolean-initial (rw z at f))) (λ z. rw z count-initial) (memory-kind q m)
 
     module _ (flow : ℕ → ℕ) (ranged : Ranged t n flow) where
-      boolean-next : shape_fits velocities t n i (shape_of boolean_pre) e ≡ true
-          → in_range cap (sort_of boolean_pre) (flow e.a) ≡ true
+      boolean-next : shape_fits velocities t n i (shape_of (Some BooleanPre)) e ≡ true
+          → in_range cap (sort_of (Some BooleanPre)) (flow e.a) ≡ true
       unfolding shape_fits shape_of operand_fits
       boolean-next f = operand-range t n flow ranged Boolean e.a (and-true (is_flow t n Boolean e.a) _ f).0
 
-      count_next : shape_fits velocities t n i (shape_of count_pre) e ≡ true
-          → in_range cap (sort_of count_pre) (flow e.a) ≡ true
+      count_next : shape_fits velocities t n i (shape_of (Some CountPre)) e ≡ true
+          → in_range cap (sort_of (Some CountPre)) (flow e.a) ≡ true
       unfolding shape_fits shape_of operand_fits
       count_next f = operand-range t n flow ranged Count e.a (and-true (is_flow t n Count e.a) _ f).0
 
-      next-range : (q : Kind) → shape_fits velocities t n i (shape_of q) e ≡ true → is_memory q ≡ true
+      next-range : (q : Option Kind) → shape_fits velocities t n i (shape_of q) e ≡ true → is_memory q ≡ true
           → in_range cap (sort_of q) (flow e.a) ≡ true
       next-range q f m =
           ⊎_elim (λ z. rw z (boolean-next (rw z at f))) (λ z. rw z (count_next (rw z at f))) (memory-kind q m)

@@ -10,22 +10,24 @@ use lib.ListN.{length}
 use Rattle.traces.specs.declared.Tick.{Tick}
 use Rattle.traces.specs.Trace.{Trace}
 use Rattle.lists.specs.Number.{number_at}
-use Rattle.tables.specs.Table.{all, Equation, equation_at, Kind, kind_at, shape_of}
-use Rattle.tables.specs.Table.{is_flow, operand_fits, shape_fits, equation_fits, checked}
+use Rattle.tables.specs.Table.{all, equation_at, kind_at, shape_of}
+use Rattle.tables.specs.Table.{is_flow, operand_fits, shape_fits, equation_fits, passed, checked}
 use Rattle.tables.specs.Table.{closing_count, started_of, verdict_of}
-use Rattle.tables.specs.Table.Kind.{signal, start, constant, negation, conjunction, disjunction, boolean_pre}
-use Rattle.tables.specs.Table.Kind.{count_pre, capped, if_else, compare_literal, compare_parameter, velocity, unknown}
 use Rattle.flows.specs.Flow.{value_of, flows, answer_of, initial_at, operand_at, fresh_state, next_state}
 use Rattle.tables.specs.Table.{is_memory}
 use Rattle.flows.specs.Step.{cells_fit}
 use Rattle.flows.specs.Lustre.{remembered, Satisfied, Lustre, Solves}
 use Rattle.tables.specs.declared.Sort.{Sort}
 use Rattle.tables.specs.declared.Sort.TheVariants.{Boolean, Count}
-use Rattle.tables.specs.declared.Checked.TheVariants.{Passed}
 use Rattle.tables.proofs.Tests.{and-true, all-at}
 use Rattle.flows.proofs.Buffers.{flows-kept, flows-at, length-memories, set-cell}
 use Rattle.tables.proofs.Checks.{checked-fitting}
 use Rattle.flows.proofs.Ranges.{memory-kind, flow-below, flows-range, fresh-fits, next_fits}
+use Rattle.std.specs.Prelude.{Option, Some, None}
+use Rattle.tables.specs.declared.Kind.TheVariants.{Signal, Start, Constant, Not, And, Or, BooleanPre}
+use Rattle.tables.specs.declared.Kind.TheVariants.{CountPre, Capped, If, CompareLiteral, CompareParameter, Velocity}
+use Rattle.tables.specs.declared.Equation.{Equation}
+use Rattle.tables.specs.declared.Kind.{Kind}
 
 -- The state after a tick.
 abbrev pub moved : ℕ → List ℕ → ℕ → Tick → List ℕ → List ℕ
@@ -59,31 +61,31 @@ module _ (cap velocities : ℕ) (t : List ℕ) (n i : ℕ) (k : Tick) (flow flow
   same_operand : (s : Sort) (x : ℕ) (b : Bool) → (is_flow t i s x && b) ≡ true → flow x ≡ flow' x
   same_operand s x b e = same x (flow-below t i s x (and-true (is_flow t i s x) b e).0)
 
-  pub value_same : (q : Kind) (e : Equation) → shape_fits velocities t n i (shape_of q) e ≡ true
+  pub value_same : (q : Option Kind) (e : Equation) → shape_fits velocities t n i (shape_of q) e ≡ true
       → (is_memory q ≡ true → cell ≡ cell') → value_of cap k flow cell q e ≡ value_of cap k flow' cell' q e
   unfolding shape_fits shape_of operand_fits value_of is_memory
-  value_same signal e f h = refl
-  value_same start e f h = refl
-  value_same constant e f h = refl
-  value_same negation e f h = rw (same_operand Boolean e.a _ f)
-  value_same conjunction e f h =
+  value_same (Some Signal) e f h = refl
+  value_same (Some Start) e f h = refl
+  value_same (Some Constant) e f h = refl
+  value_same (Some Not) e f h = rw (same_operand Boolean e.a _ f)
+  value_same (Some And) e f h =
       let g = (and-true (is_flow t i Boolean e.a) _ f).1 in
       rw (same_operand Boolean e.a _ f, same_operand Boolean e.b _ g)
-  value_same disjunction e f h =
+  value_same (Some Or) e f h =
       let g = (and-true (is_flow t i Boolean e.a) _ f).1 in
       rw (same_operand Boolean e.a _ f, same_operand Boolean e.b _ g)
-  value_same boolean_pre e f h = h refl
-  value_same count_pre e f h = h refl
-  value_same capped e f h =
+  value_same (Some BooleanPre) e f h = h refl
+  value_same (Some CountPre) e f h = h refl
+  value_same (Some Capped) e f h =
       let g = (and-true (is_flow t i Count e.a) _ f).1 in
       rw (same_operand Count e.a _ f, same_operand Boolean e.b _ g)
-  value_same if_else e f h =
+  value_same (Some If) e f h =
       let g = (and-true (is_flow t i Boolean e.a) _ f).1 in
       rw (same_operand Boolean e.a _ f, same_operand Count e.b _ g)
-  value_same compare_literal e f h = rw (same_operand Count e.a _ f)
-  value_same compare_parameter e f h = rw (same_operand Count e.a _ f)
-  value_same velocity e f h = refl
-  value_same unknown e f h = refl
+  value_same (Some CompareLiteral) e f h = rw (same_operand Count e.a _ f)
+  value_same (Some CompareParameter) e f h = rw (same_operand Count e.a _ f)
+  value_same (Some Velocity) e f h = refl
+  value_same None e f h = refl
 
 module _ (cap : ℕ) (t : List ℕ) (n : ℕ) (old : List ℕ) (trace : Trace) (room : n ≤ length old) where
   pub length-state : (k : ℕ) → length (state_at cap t n old trace k) ≡ length old
@@ -132,14 +134,14 @@ module _ (cap velocities : ℕ) (t : List ℕ) (n : ℕ) (old : List ℕ) (trace
 
 -- The flows of a run satisfy the equations of the table.
 pub lustre : (cap velocities : ℕ) (t : List ℕ) (n : ℕ) (old : List ℕ) (trace : Trace)
-    → checked velocities t n ≡ Passed → n ≤ length old → Lustre cap t n trace (flow_at cap t n old trace)
+    → checked velocities t n ≡ passed → n ≤ length old → Lustre cap t n trace (flow_at cap t n old trace)
 lustre cap velocities t n old trace e room i k h =
     satisfied cap velocities t n old trace room (checked-fitting velocities t n e).equations i k h
 
 -- ---- no other flows satisfy them
 
 -- The operand of a memory is one of the n flows.
-memory-operand : (velocities : ℕ) (t : List ℕ) (n i : ℕ) (q : Kind) (e : Equation) → is_memory q ≡ true
+memory-operand : (velocities : ℕ) (t : List ℕ) (n i : ℕ) (q : Option Kind) (e : Equation) → is_memory q ≡ true
     → shape_fits velocities t n i (shape_of q) e ≡ true → e.a < n
 unfolding shape_fits shape_of operand_fits
 memory-operand velocities t n i q e m f =

@@ -4,12 +4,15 @@ use Rattle.traces.specs.declared.Tick.{Tick}
 use Rattle.traces.specs.Trace.{truth, idle_verdict, nonzero, signal_at, parameter_at, starts}
 use Rattle.traces.specs.Compare.{op_of, compares}
 use Rattle.lists.specs.Number.{number_at}
-use Rattle.tables.specs.Table.{is_memory, Equation, equation_at, Kind, kind_at, sort_of, started_of, verdict_of}
+use Rattle.tables.specs.Table.{is_memory, equation_at, kind_at, sort_of, started_of, verdict_of}
 use Rattle.limits.specs.Limits.{truth_count}
-use Rattle.tables.specs.Table.Kind.{signal, start, constant, negation, conjunction, disjunction, boolean_pre}
-use Rattle.tables.specs.Table.Kind.{count_pre, capped, if_else, compare_literal, compare_parameter, velocity, unknown}
 use Rattle.tables.specs.declared.Sort.{Sort}
 use Rattle.tables.specs.declared.Sort.TheVariants.{Boolean, Count}
+use Rattle.std.specs.Prelude.{Option, Some, None}
+use Rattle.tables.specs.declared.Kind.TheVariants.{Signal, Start, Constant, Not, And, Or, BooleanPre}
+use Rattle.tables.specs.declared.Kind.TheVariants.{CountPre, Capped, If, CompareLiteral, CompareParameter, Velocity}
+use Rattle.tables.specs.declared.Equation.{Equation}
+use Rattle.tables.specs.declared.Kind.{Kind}
 
 -- SPEC 5.3, kind 8: one more where it is asked for, up to the cap.
 unfoldable pub increased : ℕ → ℕ → Bool → ℕ
@@ -17,21 +20,21 @@ increased cap x more = cond more (min cap (x + 1)) x
 
 -- SPEC 5.3, the column of values: the value of an equation of that kind, from the tick, the flows that it reads and
 -- its cell.
-unfoldable pub value_of : ℕ → Tick → (ℕ → ℕ) → ℕ → Kind → Equation → ℕ
-value_of cap k flow cell signal e = truth (signal_at k e.a)
-value_of cap k flow cell start e = truth (starts k)
-value_of cap k flow cell constant e = e.a
-value_of cap k flow cell negation e = truth (not (nonzero (flow e.a)))
-value_of cap k flow cell conjunction e = truth (nonzero (flow e.a) && nonzero (flow e.b))
-value_of cap k flow cell disjunction e = truth (nonzero (flow e.a) || nonzero (flow e.b))
-value_of cap k flow cell boolean_pre e = cell
-value_of cap k flow cell count_pre e = cell
-value_of cap k flow cell capped e = increased cap (flow e.a) (nonzero (flow e.b))
-value_of cap k flow cell if_else e = cond (nonzero (flow e.a)) (flow e.b) 0
-value_of cap k flow cell compare_literal e = truth (compares (op_of e.b) (flow e.a) e.c)
-value_of cap k flow cell compare_parameter e = truth (compares (op_of e.b) (flow e.a) (parameter_at k e.c))
-value_of cap k flow cell velocity e = truth (compares (op_of e.a) k.velocity e.b)
-value_of cap k flow cell unknown e = 0
+unfoldable pub value_of : ℕ → Tick → (ℕ → ℕ) → ℕ → Option Kind → Equation → ℕ
+value_of cap k flow cell (Some Signal) e = truth (signal_at k e.a)
+value_of cap k flow cell (Some Start) e = truth (starts k)
+value_of cap k flow cell (Some Constant) e = e.a
+value_of cap k flow cell (Some Not) e = truth (not (nonzero (flow e.a)))
+value_of cap k flow cell (Some And) e = truth (nonzero (flow e.a) && nonzero (flow e.b))
+value_of cap k flow cell (Some Or) e = truth (nonzero (flow e.a) || nonzero (flow e.b))
+value_of cap k flow cell (Some BooleanPre) e = cell
+value_of cap k flow cell (Some CountPre) e = cell
+value_of cap k flow cell (Some Capped) e = increased cap (flow e.a) (nonzero (flow e.b))
+value_of cap k flow cell (Some If) e = cond (nonzero (flow e.a)) (flow e.b) 0
+value_of cap k flow cell (Some CompareLiteral) e = truth (compares (op_of e.b) (flow e.a) e.c)
+value_of cap k flow cell (Some CompareParameter) e = truth (compares (op_of e.b) (flow e.a) (parameter_at k e.c))
+value_of cap k flow cell (Some Velocity) e = truth (compares (op_of e.a) k.velocity e.b)
+value_of cap k flow cell None e = 0
 
 -- The value of equation i, after the flows before it.
 abbrev pub value_at : ℕ → List ℕ → Tick → List ℕ → List ℕ → ℕ → ℕ

@@ -1,13 +1,12 @@
 -- What it is for flows to satisfy the equations of a table, as Lustre reads them (SPEC 6.3), and demand 2 of a run
 -- (SPEC 12.2): what its steps leave are these flows. Definitions only; the theorem is `runs-as-lustre` in
 -- proofs/Lists.antt.
-use Rattle.std.specs.Prelude.{true, List, [], ◌∷◌, ◌++◌, ◌≡◌, ℕ, zero, suc, ◌≤◌, ◌<◌, length, drop}
+use Rattle.std.specs.Prelude.{true, List, [], ◌∷◌, ◌++◌, ◌≡◌, ℕ, zero, suc, ◌≤◌, ◌<◌, length, drop, Ok}
 use Rattle.traces.specs.declared.Tick.{Tick}
 use Rattle.traces.specs.Trace.{Trace, trace_of}
 use Rattle.tables.specs.Table.{equation_at, kind_at, sort_of}
 use Rattle.flows.specs.Flow.{value_of, answer_of, initial_at, in_range}
 use Rattle.flows.specs.Run.{Call, Taken, from_fresh, ticks, EachTick, CallsDecide}
-use Rattle.flows.specs.declared.Stepped.TheVariants.{Verdict}
 
 -- SPEC 6.3: Lustre's `x -> pre(y)`, x at the first tick, then y of the tick before.
 abbrev pub arrow_pre : ℕ → (ℕ → ℕ) → ℕ → ℕ
@@ -45,7 +44,7 @@ firsts f (suc n) = firsts f n ++ (f n ∷ [])
 -- them (SPEC 1.5), and answers what they say.
 pub record Leaves (n : ℕ) (flow : ℕ → ℕ → ℕ) (k : ℕ) (s : Taken) : Type 0 where
   pub values : s.left.values ≡ firsts (flow k) n ++ drop n s.call.values
-  pub answer : s.left.answer ≡ Verdict (answer_of n (flow k))
+  pub answer : s.left.answer ≡ Ok (answer_of n (flow k))
 
 -- SPEC 6.4, SPEC 12.2 (demand 2), of a table of n equations with counts up to the cap and so many velocities:
 pub record RunsAsLustre (cap velocities : ℕ) (t : List ℕ) (n : ℕ) : Type 0 where

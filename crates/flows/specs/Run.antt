@@ -1,13 +1,11 @@
 -- Lists of calls of a step (SPEC 6.1), and their ticks (SPEC 6.2). Definitions only.
-use Rattle.std.specs.Prelude.{List, [], ◌∷◌, map, ◌≡◌, ℕ, suc, leb, length}
+use Rattle.std.specs.Prelude.{List, [], ◌∷◌, map, ◌≡◌, ℕ, suc, leb, length, Ok, Err}
 use Rattle.traces.specs.declared.Tick.{Tick}
 use Rattle.traces.specs.Parameters.{with_parameters}
-use Rattle.tables.specs.Table.{test, first_failed}
-use Rattle.flows.specs.Step.{freshened, AfterStep, parameter_test, velocity_test, stepped}
-use Rattle.tables.specs.declared.Checked.{Checked}
-use Rattle.tables.specs.declared.Checked.TheVariants.{Passed, Refused as Failed}
-use Rattle.flows.specs.declared.Stepped.{Stepped}
-use Rattle.flows.specs.declared.Stepped.TheVariants.{Verdict, Refused}
+use Rattle.tables.specs.Table.{test, Checked, passed, first_failed}
+use Rattle.flows.specs.Step.{freshened, Stepped, AfterStep, parameter_test, velocity_test, stepped}
+use Rattle.limits.specs.declared.Refusal.{Refusal}
+use Rattle.limits.specs.declared.Refusal.TheVariants.{ShortState}
 
 -- SPEC 6.1: what a step gets besides the table, n and the state. It may be anything.
 pub record Call : Type 0 where
@@ -43,8 +41,8 @@ answered ss = map (λ (s : Taken). s.left.answer) ss
 
 -- SPEC 6.2: the ticks of the steps that are not refused.
 abbrev pub tick_if : Stepped → Tick → List Tick → List Tick
-tick_if (Verdict v) k ks = k ∷ ks
-tick_if (Refused r) k ks = ks
+tick_if (Ok v) k ks = k ∷ ks
+tick_if (Err r) k ks = ks
 
 abbrev pub ticks : List Taken → List Tick
 ticks [] = []
@@ -53,22 +51,22 @@ ticks (s ∷ ss) = tick_if s.left.answer s.call.tick (ticks ss)
 -- SPEC 6.2: P holds of each tick's number and its step, from the number k on; a refused step has no number.
 pub data EachTick (P : ℕ → Taken → Type 0) : ℕ → List Taken → Type 0 where
   none : {k : ℕ} → EachTick P k []
-  tick : {k v : ℕ} {s : Taken} {ss : List Taken} → s.left.answer ≡ Verdict v → P k s → EachTick P (suc k) ss
+  tick : {k v : ℕ} {s : Taken} {ss : List Taken} → s.left.answer ≡ Ok v → P k s → EachTick P (suc k) ss
       → EachTick P k (s ∷ ss)
-  refused : {k r : ℕ} {s : Taken} {ss : List Taken} → s.left.answer ≡ Refused r → EachTick P k ss
+  refused : {k : ℕ} {r : Refusal} {s : Taken} {ss : List Taken} → s.left.answer ≡ Err r → EachTick P k ss
       → EachTick P k (s ∷ ss)
 
 -- The tests of a step that its call alone decides.
 unfoldable pub call_checked : ℕ → ℕ → ℕ → List ℕ → Tick → Checked
 call_checked cap velocities n values k =
-    first_failed (test 12 (leb n (length values)) ∷ parameter_test cap k ∷ velocity_test velocities k ∷ [])
+    first_failed (test ShortState (leb n (length values)) ∷ parameter_test cap k ∷ velocity_test velocities k ∷ [])
 
 abbrev pub admits : ℕ → ℕ → ℕ → Call → Checked
 admits cap velocities n x = call_checked cap velocities n x.values x.tick
 
 abbrev pub refusal_in : Stepped → Checked
-refusal_in (Verdict v) = Passed
-refusal_in (Refused r) = Failed r
+refusal_in (Ok v) = passed
+refusal_in (Err r) = Err r
 
 -- SPEC 6.5: each step is refused, or not, as these tests of its call say.
 abbrev pub CallsDecide : ℕ → ℕ → ℕ → List Call → List Taken → Type 0

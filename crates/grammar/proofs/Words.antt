@@ -1,9 +1,10 @@
 -- What a word's class says of its number, and what the number says of what the word stands for. Assumes nothing.
-use mathlib.Core.Bool.{true, ◌||◌}
-use mathlib.Core.Path.{◌≡◌, refl, subst}
+use mathlib.Core.Bool.{true, false, ◌||◌}
+use mathlib.Core.Path.{◌≡◌, refl, sym, subst, ◌∙◌}
 use Prim.Native.Nat.{ℕ, zero, suc, ◌+◌, ◌-◌, ◌≤◌}
 use native.Mathlib.Omega.{arith}
 use lib.Dec.{eqb, leb}
+use borrow.Author.Tests.{ne_eqb}
 use Rattle.traces.specs.Trace.{truth}
 use Rattle.traces.specs.Compare.{op_number}
 use Rattle.traces.proofs.Laws.{number-op, truth-nonzero}
@@ -71,15 +72,18 @@ pub count-number : (w : ℕ) → is_count w ≡ true → count_number (count_wor
 count-number w e = two (λ x. count_number (count_word x) ≡ x - SUM) SUM refl refl w (count-pos w e) (count-high w e)
 
 -- SPEC 3.9: the comparisons of a lead are those up to `<`.
-pub op-upper : (w : ℕ) → is_op w ≡ true → leb w LT ≡ upper (op_word w)
-op-upper w e = five (λ x. leb x LT ≡ upper (op_word x)) LE refl refl refl refl refl w (op-pos w e) (op-high w e)
+pub op_upper : (w : ℕ) → is_op w ≡ true → leb w LT ≡ upper (op_word w)
+op_upper w e = five (λ x. leb x LT ≡ upper (op_word x)) LE refl refl refl refl refl w (op-pos w e) (op-high w e)
 
 -- The tests of a lead are the first and the last of them,
-pub test-lead : (w : ℕ) → is_test w ≡ true → (eqb w BEGIN || eqb w KEPT) ≡ lead_test (test_word w)
-test-lead w e =
+pub test_lead : (w : ℕ) → is_test w ≡ true → (eqb w BEGIN || eqb w KEPT) ≡ lead_test (test_word w)
+test_lead w e =
     five (λ x. (eqb x BEGIN || eqb x KEPT) ≡ lead_test (test_word x)) BEGIN refl refl refl refl refl
     w (test-pos w e) (test-high w e)
 
+pub no_lead_test : (w : ℕ) → is_test w ≡ true → (w ≡ BEGIN → ⊥) → (w ≡ KEPT → ⊥) → lead_test (test_word w) ≡ false
+no_lead_test w e b k = sym (test_lead w e) ∙ simp (ne_eqb w BEGIN b, ne_eqb w KEPT k)
+
 -- and of the counts it is the first.
-pub count-lead : (w : ℕ) → is_count w ≡ true → eqb w SUM ≡ lead_count (count_word w)
-count-lead w e = two (λ x. eqb x SUM ≡ lead_count (count_word x)) SUM refl refl w (count-pos w e) (count-high w e)
+pub count_lead : (w : ℕ) → is_count w ≡ true → eqb w SUM ≡ lead_count (count_word w)
+count_lead w e = two (λ x. eqb x SUM ≡ lead_count (count_word x)) SUM refl refl w (count-pos w e) (count-high w e)

@@ -2,3 +2,4 @@
 pub mod Limits
 pub mod Context
 pub mod Reply
+pub mod Refusal

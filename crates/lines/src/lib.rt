@@ -17,5 +17,5 @@ pub fn next_line(s: &[u8], end: usize) -> usize
     requires { end ≤ length s.now }
     ensures { result ≡ min (end + 1) (length s.now) }
 {
-    if end < s.len() { end + 1 } else { end }
+    s.len().min(end + 1)
 }

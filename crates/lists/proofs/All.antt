@@ -2,10 +2,15 @@
 use mathlib.Core.Path.{◌≡◌, refl, sym, ◌∙◌, ap}
 use mathlib.Core.Bool.{Bool, true, false, true≢false, ◌&&◌}
 use mathlib.Core.Logic.{⊎_elim}
-use Prim.Native.Nat.{ℕ, zero, suc, ◌+◌, ◌<◌}
+use mathlib.Core.List.{List}
+use Prim.Native.Nat.{ℕ, zero, suc, ◌+◌, ◌≤◌, ◌<◌}
 use native.Mathlib.Omega.{arith}
 use native.Mathlib.Nat.{not-suc-le-zero, eq-or-lt_of_le, le_of_suc-le-suc}
 use native.Mathlib.Numerals.{add-one}
+use lib.ListN.{length, get_or, take}
+use Rattle.std.specs.List.{list_all}
+use Rattle.std.proofs.lemmas.List.{take_all}
+use Rattle.std.proofs.lemmas.List.Folds.{list_all_more}
 use Rattle.lists.specs.All.{all}
 
 pub and-true : (a b : Bool) → (a && b) ≡ true → (a ≡ true) × (b ≡ true)
@@ -59,3 +64,13 @@ module _ (f : ℕ → Bool) where
       go true p true q earlier = absurd (true≢false (sym (rw (p, q)) ∙ e))
       go true p false q earlier = (k, omega arith, q)
       go false p b q earlier = let w = earlier p in (w.0, omega (arith, w.1), w.2)
+
+-- A test of each number below the length of a list, by what the list has there, is the test of its elements.
+module _ {A : Type 0} (f : A → Bool) (xs : List A) (d : A) where
+  pub all-taken : (k : ℕ) → k ≤ length xs → all (λ j. f (get_or xs j d)) k ≡ list_all f (take k xs)
+  unfolding all
+  all-taken zero h = refl
+  all-taken (suc k) h = rw (all-taken k (omega arith), ← add-one k) (sym (list_all_more f xs k d (omega arith)))
+
+  pub all-listed : all (λ j. f (get_or xs j d)) (length xs) ≡ list_all f xs
+  all-listed = all-taken (length xs) (omega arith) ∙ ap (list_all f) (take_all (length xs) xs (omega arith))

@@ -8,7 +8,7 @@ use native.Mathlib.Nat.{zero-add, add-zero, add-suc, suc-add}
 use native.Mathlib.Numerals.{add-one}
 use native.Mathlib.Omega.{arith}
 use lib.ListN.{length, get_or, take, drop, set, drop_of_length-le}
-use lib.Seq.{sets, length-sets, sets-eq, set_out, take-add, take-suc, take-nil, drop-cons, length-take-le}
+use lib.Seq.{sets, length-sets, sets-eq, set_out, take-add, take-nil, drop-cons, length-take-le}
 
 -- Storing xs and then, right after them, ys is storing both at once.
 pub sets-append : (o : List ℕ) (i : ℕ) (xs ys : List ℕ) → sets (sets o i xs) (i + length xs) ys ≡ sets o i (xs ++ ys)
@@ -64,27 +64,10 @@ module _ (o xs : List ℕ) (k n : ℕ) where
   pub front-stored : n ≡ min k (min (length xs) (length o)) → sets o 0 (take n xs) ≡ sets o 0 (take k xs)
   front-stored e = sym (none_left (λ p q. omega arith)) ∙ front-split (omega arith) (omega arith)
 
--- The loop of a copy: the first i numbers of xs are stored in o, which has become u.
-pub record Copying (xs o u : List ℕ) (i : ℕ) : Type 0 where
-  pub stored : u ≡ sets o 0 (take i xs)
-  pub within : i ≤ length xs
-
-module _ {xs o u : List ℕ} {i : ℕ} (h : Copying xs o u i) where
-  pub copy-length : length u ≡ length o
-  copy-length = ap length h.stored ∙ length-sets o 0 (take i xs)
-
-  pub copy_more : i < length xs → Copying xs o (set u i (get_or xs i 0)) (i + 1)
-  copy_more p =
-      let long : 0 + length (take i xs) ≡ i = zero-add _ ∙ length-take-le i xs h.within in
-      let one = get_or xs i 0 ∷ [] in
-      record {
-        stored =
-            ap (λ (l : List ℕ). set l i (get_or xs i 0)) h.stored
-            ∙ ap (λ (m : ℕ). sets (sets o 0 (take i xs)) m one) (sym long)
-            ∙ sets-append o 0 (take i xs) one
-            ∙ rw (add-one i, take-suc xs i 0 p);
-        within = omega arith;
-      }
+-- The front of xs copied over the front of o.
+pub copied : (o xs : List ℕ) (k n : ℕ) → n ≡ min (min k (length xs)) (length o)
+    → take n xs ++ drop n o ≡ sets o 0 (take k xs)
+copied o xs k n e = sym (sets-front o xs n (omega arith) (omega arith)) ∙ front-stored o xs k n (omega arith)
 
 -- The numbers from place i on: the one at i and those after it.
 pub drop_more : (l : List ℕ) (i : ℕ) → i < length l → drop i l ≡ get_or l i 0 ∷ drop (i + 1) l

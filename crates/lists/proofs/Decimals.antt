@@ -3,6 +3,7 @@ use mathlib.Core.Bool.{Bool, true, false, cond, and-eq-true_iff}
 use mathlib.Core.List.{List, [], ◌∷◌}
 use mathlib.Core.Path.{◌≡◌, refl, sym, ap, ◌∙◌}
 use Prim.Native.Nat.{ℕ, ◌+◌, ◌-◌, ◌*◌, ◌≤◌, ◌<◌}
+use native.Mathlib.Decide.{dec_le}
 use native.Mathlib.Numerals.{add-one}
 use native.Mathlib.Omega.{arith}
 use lib.Dec.{eqb, leb}
@@ -94,17 +95,23 @@ module _ {s : List ℕ} {at max v i : ℕ} (h : DigitsRead s at max v i) where
       unfolding digits_after
       digit-read = sym (rw (add-one i, drop-cons s i 0 p, e)) ∙ h.rest
 
-      pub digits_more : (w : ℕ) → v ≤ max → w ≡ v * 10 + (get_or s i 0 - 48) → DigitsRead s at max w (i + 1)
-      digits_more w q f =
-          record { rest = rw f digit-read; within = omega arith; held = omega (arith, digit-range _ e) }
-
-      pub digits-held : (w : ℕ) → max < v → w ≡ v → DigitsRead s at max w (i + 1)
-      digits-held w q f =
-          record {
-            rest = rw f (above-alike max v _ (drop (i + 1) s) q (omega arith) ∙ digit-read);
-            within = omega arith;
-            held = omega (arith, h.held);
-          }
+      -- A value up to max gets the digit; one above it is held.
+      pub digits_more : (w : ℕ) → (v ≤ max → w ≡ v * 10 + (get_or s i 0 - 48)) → (max < v → w ≡ v)
+          → DigitsRead s at max w (i + 1)
+      digits_more w q r =
+          elim (dec_le v max) [
+            | yes l ↦ record {
+              rest = rw (q l) digit-read;
+              within = omega arith;
+              held = omega (arith, q l, digit-range _ e);
+            }
+            | no l ↦ (let over : max < v = omega arith in
+                record {
+                  rest = rw (r over) (above-alike max v _ (drop (i + 1) s) over (omega arith) ∙ digit-read);
+                  within = omega arith;
+                  held = omega (arith, r over, h.held);
+                })
+          ]
 
 -- What an answer says of the number, by its cases.
 module _ {s : List ℕ} {at max : ℕ} {r : Decimal} (h : DecimalAt s at max r) where
@@ -123,9 +130,6 @@ module _ {s : List ℕ} {at max : ℕ} {r : Decimal} (h : DecimalAt s at max r) 
 
     pub above_of : r ≡ Above n → numeral max (drop at s) ≡ above (drop n s)
     above_of e = numeral-of e
-
-    pub above-next : r ≡ Above n → n ≤ length s
-    above-next e = rw e at h.within
 
 -- A number that is read is at most max.
 abbrev Bounded : ℕ → Numeral → Type 0
@@ -149,3 +153,14 @@ numeral-bounded max (b ∷ l) =
 
 pub is-bounded : (max : ℕ) (l : List ℕ) {v : ℕ} {r : List ℕ} → numeral max l ≡ is v r → v ≤ max
 is-bounded max l e = rw e at (numeral-bounded max l)
+
+-- The steps of the reader.
+pub ruleset decimal_steps = (
+  numeral-past,
+  numeral-zero,
+  numeral-none,
+  digits-begun,
+  digits-past,
+  digits-stop,
+  digits_more,
+)

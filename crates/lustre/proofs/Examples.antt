@@ -7,11 +7,12 @@ use Prim.Native.Nat.{ℕ}
 use Rattle.lists.specs.Text.{bytes}
 use Rattle.tables.specs.Table.{all, kind_of, shape_of, same_sort, is_flow, operand_fits, shape_fits}
 use Rattle.tables.specs.Table.{length_fits, closes, equations_fit, checked}
-use Rattle.tables.specs.declared.Checked.TheVariants.{Passed, Refused as Failed}
 use Rattle.lustre.specs.Numerals.{digits, number_text}
 use Rattle.lustre.specs.Text.{value_text, line_rest, line_text, lines, foot, text_of}
 use Rattle.lustre.specs.Write.{write_checked, after_write, write_effect}
-use Rattle.lustre.specs.declared.Written.TheVariants.{Refused}
+use Rattle.std.specs.Prelude.{Ok, Err}
+use Rattle.limits.specs.declared.Refusal.{Refusal}
+use Rattle.limits.specs.declared.Refusal.TheVariants.{BadEquation, EquationCount}
 
 -- What follows `fN=` for an equation of these four numbers.
 abbrev end_of : ℕ → ℕ → ℕ → ℕ → List ℕ
@@ -83,14 +84,14 @@ twelve = refl
 
 -- SPEC 8.6, whatever buffer is lent, and however many velocities there are: no equation is refused by 10 (SPEC 7.10),
 -- one alone by 11 (SPEC 7.11), and so are two of which the started flow's, or the verdict's, is a count.
-abbrev refuses : ℕ → List ℕ → ℕ → Type 0
-refuses r t n = (velocities : ℕ) (buffer : List ℕ) → write_effect velocities t n buffer ≡ after_write (Refused r) buffer
+abbrev refuses : Refusal → List ℕ → ℕ → Type 0
+refuses r t n = (velocities : ℕ) (buffer : List ℕ) → write_effect velocities t n buffer ≡ after_write (Err r) buffer
 
 record Unclosed : Type 0 where
-  none : refuses 10 (1 ∷ 0 ∷ 0 ∷ 0 ∷ []) 0
-  alone : refuses 11 (1 ∷ 0 ∷ 0 ∷ 0 ∷ []) 1
-  started-count : refuses 11 (7 ∷ 0 ∷ 0 ∷ 0 ∷ 1 ∷ 0 ∷ 0 ∷ 0 ∷ []) 2
-  verdict-count : refuses 11 (1 ∷ 0 ∷ 0 ∷ 0 ∷ 7 ∷ 1 ∷ 0 ∷ 0 ∷ []) 2
+  none : refuses EquationCount (1 ∷ 0 ∷ 0 ∷ 0 ∷ []) 0
+  alone : refuses BadEquation (1 ∷ 0 ∷ 0 ∷ 0 ∷ []) 1
+  started-count : refuses BadEquation (7 ∷ 0 ∷ 0 ∷ 0 ∷ 1 ∷ 0 ∷ 0 ∷ 0 ∷ []) 2
+  verdict-count : refuses BadEquation (1 ∷ 0 ∷ 0 ∷ 0 ∷ 7 ∷ 1 ∷ 0 ∷ 0 ∷ []) 2
 
 unclosed : Unclosed
 unfolding write_effect write_checked length_fits equations_fit closes all is_flow operand_fits shape_fits shape_of
@@ -105,8 +106,8 @@ unclosed =
 
 -- SPEC 7.11: the literal of kind 12 is a velocity; of eight, 7 is the highest.
 record Highest : Type 0 where
-  seven : checked 8 (12 ∷ 4 ∷ 7 ∷ 0 ∷ 1 ∷ 0 ∷ 0 ∷ 0 ∷ []) 2 ≡ Passed
-  eight : checked 8 (12 ∷ 4 ∷ 8 ∷ 0 ∷ 1 ∷ 0 ∷ 0 ∷ 0 ∷ []) 2 ≡ Failed 11
+  seven : checked 8 (12 ∷ 4 ∷ 7 ∷ 0 ∷ 1 ∷ 0 ∷ 0 ∷ 0 ∷ []) 2 ≡ Ok tt
+  eight : checked 8 (12 ∷ 4 ∷ 8 ∷ 0 ∷ 1 ∷ 0 ∷ 0 ∷ 0 ∷ []) 2 ≡ Err BadEquation
 
 highest : Highest
 unfolding checked length_fits equations_fit closes all is_flow operand_fits shape_fits shape_of same_sort kind_of

@@ -16,22 +16,21 @@ use Rattle.lists.specs.Decimal.{is_digit}
 use Rattle.lists.proofs.Choice.{false-true}
 use Rattle.tables.specs.Kind.{SIGNAL, START, CONSTANT, NOT, AND, OR, BOOLEAN-PRE, COUNT-PRE, CAPPED, IF}
 use Rattle.tables.specs.Kind.{COMPARE-LITERAL, COMPARE-PARAMETER, VELOCITY, kind_count}
-use Rattle.tables.specs.Table.{all, Equation, kind_of, shape_of, is_flow, operand_fits, shape_fits}
+use Rattle.tables.specs.Table.{all, kind_of, shape_of, is_flow, operand_fits, shape_fits}
 use Rattle.limits.specs.Limits.{equation_limit, literal_count, last_literal, truth_count, comparison_count}
 use Rattle.tables.specs.declared.Operand.{Operand}
 use Rattle.tables.specs.declared.Operand.TheVariants.{Unused, Earlier, Anywhere, Below, Velocity}
 use Rattle.tables.proofs.Tests.{and-true, all-at}
-use Rattle.tables.proofs.Numbers.{kind-beyond}
+use Rattle.tables.proofs.Numbers.{kind_beyond}
 use Rattle.lustre.specs.Text.{value_text, line_rest}
 use Rattle.tables.specs.Table.{equation}
-use Rattle.lustre.specs.Form.{equation_of, letter_a, letter_b, letter_c, Letter, is_a, is_b, is_c}
+use Rattle.lustre.specs.Form.{letter_a, letter_b, letter_c, Letter, is_a, is_b, is_c}
 use Rattle.lustre.specs.Form.{slot, render, absent}
-use Rattle.lustre.specs.Form.{Agree, Small, padded, form_width, forms, form_count, form_at}
-use Rattle.lustre.specs.Form.{form_text, Fits, first_of, first_form, form_number, form_of, Plain}
+use Rattle.lustre.specs.Form.{Agree, Small, Form, form_width, forms, form_count, form_at}
+use Rattle.lustre.specs.Form.{Fits, first_form, form_number, form_of, Plain}
 use Rattle.lustre.specs.Scan.{scanned, scan}
-use Rattle.lustre.specs.declared.Form.{Form}
-use Rattle.lustre.specs.declared.Numbers.{Numbers}
 use Rattle.lustre.proofs.Scans.{closed, once, small, scans, apart, never}
+use Rattle.tables.specs.declared.Equation.{Equation}
 
 -- A fact for each number from i up to n, as a list of proofs.
 data Each (P : ℕ → Type 0) (n : ℕ) : ℕ → Type 0 where
@@ -43,62 +42,53 @@ each : {P : ℕ → Type 0} {n i : ℕ} → Each P n i → (x : ℕ) → i ≤ x
 each end x h g = absurd (omega arith)
 each {P} (p also w) x h g = ⊎_elim (λ q. subst P q p) (λ q. each w x q g) (eq-or-lt_of_le h)
 
--- What every form has, as a test that computes: room for its text, numbers that end where they should, no letter
--- twice, and a digit for each number that it settles.
-abbrev settles : Numbers → Bool
+-- What every form has, as a test that computes: a short text, numbers that end where they should, no letter twice, and
+-- a digit for each number that it settles.
+abbrev settles : Equation → Bool
 settles e = ltb e.a 10 && (ltb e.b 10 && ltb e.c 10)
 
 abbrev form_fine : ℕ → Bool
 form_fine f =
-    eqb (length (form_at f).text) form_width
-    && (leb (form_at f).len form_width
-    && (closed (form_text (form_at f)) && (once (form_text (form_at f)) && settles (form_at f).settled)))
+    leb (length (form_at f).text) form_width
+    && (closed (form_at f).text && (once (form_at f).text && settles (form_at f).settled))
 
 forms-fine : all form_fine form_count ≡ true
-unfolding all form_at forms padded closed once absent is_digit
+unfolding all form_at forms closed once absent is_digit
 forms-fine = refl
 
 pub record Fine (f : Form) : Type 0 where
-  pub width : length f.text ≡ form_width
-  pub room : f.len ≤ form_width
-  pub closes : closed (form_text f) ≡ true
-  pub single : once (form_text f) ≡ true
-  pub settled-small : Small (equation_of f.settled)
+  pub room : length f.text ≤ form_width
+  pub closes : closed f.text ≡ true
+  pub single : once f.text ≡ true
+  pub settled-small : Small f.settled
 
 pub form-fine : (f : ℕ) → f < form_count → Fine (form_at f)
 form-fine f h =
-    let p = and-true (eqb (length (form_at f).text) form_width) _ (all-at form_fine form_count forms-fine f h) in
-    let q = and-true (leb (form_at f).len form_width) _ p.1 in
-    let r = and-true (closed (form_text (form_at f))) _ q.1 in
-    let s = and-true (once (form_text (form_at f))) _ r.1 in
+    let p = and-true (leb (length (form_at f).text) form_width) _ (all-at form_fine form_count forms-fine f h) in
+    let q = and-true (closed (form_at f).text) _ p.1 in
+    let r = and-true (once (form_at f).text) _ q.1 in
     let e = (form_at f).settled in
-    let t = and-true (ltb e.a 10) _ s.1 in
-    let u = and-true (ltb e.b 10) _ t.1 in
-    let ha = ltb-true e.a 10 t.0 in
-    let hb = ltb-true e.b 10 u.0 in
-    let hc = ltb-true e.c 10 u.1 in
+    let s = and-true (ltb e.a 10) _ r.1 in
+    let t = and-true (ltb e.b 10) _ s.1 in
+    let ha = ltb-true e.a 10 s.0 in
+    let hb = ltb-true e.b 10 t.0 in
+    let hc = ltb-true e.c 10 t.1 in
     record {
-      width = eqb-true (length (form_at f).text) form_width p.0;
-      room = leb-true (form_at f).len form_width q.0;
-      closes = r.0;
-      single = s.0;
+      room = leb-true (length (form_at f).text) form_width p.0;
+      closes = q.0;
+      single = r.0;
       settled-small = small e.kind e.a e.b e.c (omega arith) (omega arith) (omega arith);
     }
 
--- A form has room for its text.
-pub form-room : (f : ℕ) → f < form_count → (form_at f).len ≤ length (form_at f).text
-form-room f h = let w = form-fine f h in omega (arith, w.width, w.room)
-
 -- No two forms share a text.
 abbrev apart_from : ℕ → ℕ → Bool
-apart_from f g = cond (eqb f g) true (apart (form_text (form_at f)) (form_text (form_at g)))
+apart_from f g = cond (eqb f g) true (apart (form_at f).text (form_at g).text)
 
 no_sharing : all (λ f. all (apart_from f) form_count) form_count ≡ true
-unfolding all form_at forms padded apart is_digit
+unfolding all form_at forms apart is_digit
 no_sharing = refl
 
-forms-apart : (f g : ℕ) → f < form_count → g < form_count → (f ≡ g → ⊥)
-    → apart (form_text (form_at f)) (form_text (form_at g)) ≡ true
+forms-apart : (f g : ℕ) → f < form_count → g < form_count → (f ≡ g → ⊥) → apart (form_at f).text (form_at g).text ≡ true
 forms-apart f g hf hg d =
     let p = all-at (apart_from f) form_count (all-at (λ f. all (apart_from f) form_count) form_count no_sharing f hf) g
     hg in
@@ -107,10 +97,10 @@ forms-apart f g hf hg d =
 -- A form is the one of each equation that agrees with it, and gives its text.
 record Given (f : ℕ) (e : Equation) : Type 0 where
   form : form_of e ≡ f
-  text : line_rest e ≡ render e (form_text (form_at f))
+  text : line_rest e ≡ render e (form_at f).text
 
 abbrev Gives : ℕ → Type 0
-Gives f = (e : Equation) → Agree e (equation_of (form_at f).settled) (form_text (form_at f)) → Given f e
+Gives f = (e : Equation) → Agree e (form_at f).settled (form_at f).text → Given f e
 
 -- A number that the form settles.
 module _ {e e₀ : Equation} {f : List ℕ} (w : Agree e e₀ f) where
@@ -128,7 +118,7 @@ of-form f p = p
 
 -- In the order of the forms. Forms of one kind are told apart by a number that they settle.
 each-gives : Each Gives form_count 0
-unfolding form_at forms padded absent kind_of first_of first_form form_number line_rest value_text render
+unfolding form_at forms absent kind_of form_number line_rest value_text render
 each-gives =
     of-form 0 (λ e w. rw w.kinds (record { form = refl; text = refl }))
     also of-form 1 (λ e w. rw w.kinds (record { form = refl; text = refl }))
@@ -169,11 +159,10 @@ form-plain f e h w =
     record { known = rw n h; fits = rw n w }
 
 -- The text of an equation after `fN=` is its form's.
-pub end-form : (e : Equation) → Plain e → line_rest e ≡ render e (form_text (form_at (form_of e)))
+pub end-form : (e : Equation) → Plain e → line_rest e ≡ render e (form_at (form_of e)).text
 end-form e w = (gives (form_of e) w.known e w.fits.agrees).text
 
-pub end-as : (f : ℕ) (e : Equation) → f < form_count → Fits (form_at f) e → line_rest e
-    ≡ render e (form_text (form_at f))
+pub end-as : (f : ℕ) (e : Equation) → f < form_count → Fits (form_at f) e → line_rest e ≡ render e (form_at f).text
 end-as f e h w = (gives f h e w.agrees).text
 
 -- What a kind's row says of a number, without the table, where no velocity is above the highest literal.
@@ -218,9 +207,9 @@ free false x y e = tt
 having : (k n a b c : ℕ) →
     let f = form_at (first_form k + n) in
     k ≡ f.settled.kind
-    → Keeps (absent letter_a (form_text f)) a f.settled.a
-    → Keeps (absent letter_b (form_text f)) b f.settled.b
-    → Keeps (absent letter_c (form_text f)) c f.settled.c
+    → Keeps (absent letter_a f.text) a f.settled.a
+    → Keeps (absent letter_b f.text) b f.settled.b
+    → Keeps (absent letter_c f.text) c f.settled.c
     → (first_form k + n < form_count) × (a ≤ last_literal) × (b ≤ last_literal) × (c ≤ last_literal)
     → Plain (equation k a b c)
 having k n a b c hk ka kb kc h = form-plain (first_form k + n) (equation k a b c) h.0 (record {
@@ -229,10 +218,10 @@ having k n a b c hk ka kb kc h = form-plain (first_form k + n) (equation k a b c
 })
   where
     text : List ℕ
-    text = form_text (form_at (first_form k + n))
+    text = (form_at (first_form k + n)).text
 
     others : (x : ℕ) → Letter x → absent x text ≡ true
-        → slot (equation k a b c) x ≡ slot (equation_of (form_at (first_form k + n)).settled) x
+        → slot (equation k a b c) x ≡ slot (form_at (first_form k + n)).settled x
     others x is_a e = kept (absent letter_a text) ka e
     others x is_b e = kept (absent letter_b text) kb e
     others x is_c e = kept (absent letter_c text) kc e
@@ -249,14 +238,14 @@ of-kind k p = p
 
 -- A constant and a boolean memory have two forms,
 constants : (b c : ℕ) → b ≡ 0 → c ≡ 0 → Each (λ a. Plain (equation CONSTANT a b c)) truth_count 0
-unfolding form_at forms padded absent first_of first_form
+unfolding form_at forms absent
 constants b c q r =
     having CONSTANT 0 0 b c refl refl q r (omega arith)
     also having CONSTANT 1 1 b c refl refl q r (omega arith)
     also end
 
 pres : (a b : ℕ) → a < equation_limit → b ≡ 0 → Each (λ c. Plain (equation BOOLEAN-PRE a b c)) truth_count 0
-unfolding form_at forms padded absent first_of first_form
+unfolding form_at forms absent
 pres a b p q =
     having BOOLEAN-PRE 0 a b 0 refl tt q refl (omega arith)
     also having BOOLEAN-PRE 1 a b 1 refl tt q refl (omega arith)
@@ -264,7 +253,7 @@ pres a b p q =
 
 -- a test of the velocity has five,
 tests : (b c : ℕ) → b < literal_count → c ≡ 0 → Each (λ a. Plain (equation VELOCITY a b c)) comparison_count 0
-unfolding form_at forms padded absent first_of first_form
+unfolding form_at forms absent
 tests b c q r =
     having VELOCITY 0 0 b c refl refl tt r (omega arith)
     also having VELOCITY 1 1 b c refl refl tt r (omega arith)
@@ -280,7 +269,7 @@ comparing k b =
     let f = form_at (first_form k + b) in
     ltb (first_form k + b) form_count
     && (eqb k f.settled.kind
-    && (eqb b f.settled.b && (not (absent letter_a (form_text f)) && not (absent letter_c (form_text f)))))
+    && (eqb b f.settled.b && (not (absent letter_a f.text) && not (absent letter_c f.text))))
 
 compared : (k : ℕ) → all (comparing k) comparison_count ≡ true
     → (a b c : ℕ) → a < equation_limit → b < comparison_count → c < literal_count → Plain (equation k a b c)
@@ -289,24 +278,24 @@ compared k t a b c p q r =
     let known = and-true (ltb (first_form k + b) form_count) _ (all-at (comparing k) comparison_count t b q) in
     let kind = and-true (eqb k f.settled.kind) _ known.1 in
     let op = and-true (eqb b f.settled.b) _ kind.1 in
-    let letters = and-true (not (absent letter_a (form_text f))) _ op.1 in
+    let letters = and-true (not (absent letter_a f.text)) _ op.1 in
     let below = ltb-true (first_form k + b) form_count known.0 in
     having k b a b c (eqb-true k f.settled.kind kind.0)
-    (free (absent letter_a (form_text f)) a f.settled.a letters.0)
-    (keeps (absent letter_b (form_text f)) (eqb-true b f.settled.b op.0))
-    (free (absent letter_c (form_text f)) c f.settled.c letters.1)
+    (free (absent letter_a f.text) a f.settled.a letters.0)
+    (keeps (absent letter_b f.text) (eqb-true b f.settled.b op.0))
+    (free (absent letter_c f.text) c f.settled.c letters.1)
     (below, omega arith, omega arith, omega arith)
 
 literals : all (comparing COMPARE-LITERAL) comparison_count ≡ true
-unfolding all form_at forms padded absent first_of first_form
+unfolding all form_at forms absent
 literals = refl
 
 parameters : all (comparing COMPARE-PARAMETER) comparison_count ≡ true
-unfolding all form_at forms padded absent first_of first_form
+unfolding all form_at forms absent
 parameters = refl
 
 each-formed : Each Formed kind_count 0
-unfolding form_at forms padded absent kind_of first_of first_form shape_of
+unfolding form_at forms absent kind_of shape_of
 each-formed =
     of-kind SIGNAL (λ a b c p q r. having SIGNAL 0 a b c refl tt q r (omega arith))
     also of-kind START (λ a b c p q r. having START 0 a b c refl p q r (omega arith))
@@ -325,7 +314,7 @@ each-formed =
 
 no_kind : (k a : ℕ) → kind_count ≤ k → Admits (shape_of (kind_of k)).a a → ⊥
 unfolding shape_of
-no_kind k a h p = let z = rw (kind-beyond k h) at p in omega (arith, z)
+no_kind k a h p = let z = rw (kind_beyond k h) at p in omega (arith, z)
 
 pub fitting-plain : (velocities : ℕ) (t : List ℕ) (n i : ℕ) (e : Equation) → velocities ≤ literal_count
     → n ≤ equation_limit → i ≤ equation_limit → shape_fits velocities t n i (shape_of (kind_of e.kind)) e ≡ true
@@ -349,26 +338,26 @@ pub one_end : (e e' : Equation) (l r : List ℕ) → Plain e → Plain e' → li
 one_end e e' l r w w' h = go (ℕ_discrete (form_of e) (form_of e'))
   where
     scans-back : (d : Equation) (k : List ℕ) → Plain d
-        → scan (form_text (form_at (form_of d))) (line_rest d ++ k) (equation_of (form_at (form_of d)).settled)
+        → scan (form_at (form_of d)).text (line_rest d ++ k) (form_at (form_of d)).settled
         ≡ scanned d k
     scans-back d k p =
         let f = form-fine (form_of d) p.known in
-        rw (end-form d p) (scans d p.fits.small (form_text (form_at (form_of d))) k _ f.closes p.fits.agrees)
+        rw (end-form d p) (scans d p.fits.small (form_at (form_of d)).text k _ f.closes p.fits.agrees)
 
-    rendered : render e (form_text (form_at (form_of e))) ++ l ≡ render e' (form_text (form_at (form_of e'))) ++ r
+    rendered : render e (form_at (form_of e)).text ++ l ≡ render e' (form_at (form_of e')).text ++ r
     rendered = rw (← end-form e w, ← end-form e' w') h
 
     go : Dec (form_of e ≡ form_of e') → (e ≡ e') × (l ≡ r)
     go (yes p) =
         let a = scans-back e l w in
         let b = scans-back e' r w' in
-        let c : scan (form_text (form_at (form_of e))) (line_rest e ++ l) (equation_of (form_at (form_of e)).settled)
-        ≡ scan (form_text (form_at (form_of e'))) (line_rest e' ++ r) (equation_of (form_at (form_of e')).settled) =
+        let c : scan (form_at (form_of e)).text (line_rest e ++ l) (form_at (form_of e)).settled
+        ≡ scan (form_at (form_of e')).text (line_rest e' ++ r) (form_at (form_of e')).settled =
         rw (p, h) in
         let d : scanned e l ≡ scanned e' r = sym a ∙ c ∙ b in
         (cc, cc)
     go (no p) = absurd
-        (never e e' w.fits.small w'.fits.small (form_text (form_at (form_of e)))
-        (form_text (form_at (form_of e'))) l r
+        (never e e' w.fits.small w'.fits.small (form_at (form_of e)).text
+        (form_at (form_of e')).text l r
         (form-fine (form_of e) w.known).closes (form-fine (form_of e') w'.known).closes
         (forms-apart (form_of e) (form_of e') w.known w'.known p) rendered)

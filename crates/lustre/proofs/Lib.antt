@@ -2,6 +2,7 @@
 pub mod Differ
 pub mod Numerals
 pub mod Scans
+pub mod Values
 pub mod Forms
 pub mod Parts
 pub mod Tables

@@ -5,9 +5,9 @@ use mathlib.Core.List.{List, ◌++◌}
 use mathlib.Core.List.{append_assoc as assoc}
 use Prim.Native.Nat.{ℕ}
 use Rattle.lists.specs.Text.{bytes}
-use Rattle.tables.specs.Table.{Equation}
 use Rattle.lustre.specs.Text.{line_rest, line_text, foot}
 use Rattle.lustre.specs.Form.{own, last_two, render}
+use Rattle.tables.specs.declared.Equation.{Equation}
 
 -- The first line and the last three, as forms.
 abbrev pub opening : List ℕ

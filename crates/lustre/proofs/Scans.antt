@@ -11,7 +11,6 @@ use Rattle.lists.specs.Decimal.{Numeral, is_digit, numeral}
 use Rattle.lists.specs.Decimal.Numeral.{is, above, missing}
 use Rattle.lists.proofs.Choice.{false-true}
 use Rattle.limits.specs.Limits.{last_literal}
-use Rattle.tables.specs.Table.{Equation}
 use Rattle.tables.proofs.Tests.{and-true}
 use Rattle.lustre.specs.Numerals.{number_text}
 use Rattle.tables.specs.Table.{equation}
@@ -20,6 +19,7 @@ use Rattle.lustre.specs.Form.{slot, put, render, absent, Agree, Small}
 use Rattle.lustre.specs.Scan.{Scanned, unlike, scanned, after_number, after_byte, scan}
 use Rattle.lustre.proofs.Numerals.{stops, reads-back, Stood, stood, higher, nothing, number-stood}
 use Rattle.lustre.proofs.Numerals.{same_number_lem, no-clash}
+use Rattle.tables.specs.declared.Equation.{Equation}
 
 -- The letters.
 pub letter : (x : ℕ) → letter? x ≡ true → Letter x

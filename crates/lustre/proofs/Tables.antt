@@ -13,7 +13,7 @@ use borrow.Author.Tests.{ltb-true}
 use Rattle.lists.specs.Text.{bytes}
 use Rattle.lists.specs.Decimal.{is_digit}
 use Rattle.lists.specs.Number.{number_at}
-use Rattle.tables.specs.Table.{all, Equation, equation_at, kind_of, kind_at, shape_of, is_flow}
+use Rattle.tables.specs.Table.{all, equation_at, kind_of, kind_at, shape_of, is_flow}
 use Rattle.tables.specs.Table.{operand_fits, shape_fits, equation_fits, equations_fit, checked}
 use Rattle.tables.specs.Table.{started_of, verdict_of, closes}
 use Rattle.limits.specs.Limits.{equation_limit, literal_count, last_literal}
@@ -21,7 +21,6 @@ use Rattle.tables.specs.declared.Sort.{Sort}
 use Rattle.tables.specs.declared.Shape.{Shape}
 use Rattle.tables.specs.declared.Operand.{Operand}
 use Rattle.tables.specs.declared.Operand.TheVariants.{Unused, Earlier, Anywhere, Below, Velocity}
-use Rattle.tables.specs.declared.Checked.TheVariants.{Passed}
 use Rattle.tables.proofs.Tests.{and-true, all-at, all_of}
 use Rattle.tables.proofs.Checks.{checked-fitting, passed-both, long-enough}
 use Rattle.lustre.specs.Numerals.{number_text}
@@ -29,9 +28,11 @@ use Rattle.lustre.specs.Text.{line_rest, line_text, lines, foot, text_of}
 use Rattle.lustre.specs.Form.{Plain, PlainTable, NoLine}
 use Rattle.lustre.proofs.Numerals.{same_number_lem}
 use Rattle.lustre.proofs.Forms.{fitting-plain, one_end}
+use Rattle.std.specs.Prelude.{Ok}
+use Rattle.tables.specs.declared.Equation.{Equation}
 
 -- Every equation of a well-formed table has a form, if velocities are literals.
-pub well-plain : (velocities : ℕ) (t : List ℕ) (n : ℕ) → velocities ≤ literal_count → checked velocities t n ≡ Passed
+pub well-plain : (velocities : ℕ) (t : List ℕ) (n : ℕ) → velocities ≤ literal_count → checked velocities t n ≡ Ok tt
     → PlainTable t n
 well-plain velocities t n v e =
     let w = checked-fitting velocities t n e in
@@ -201,7 +202,7 @@ module _ (velocities : ℕ) (t u : List ℕ) (n : ℕ) (same : (j : ℕ) → j <
       subst (λ (e : Equation). shape_fits velocities u n i (shape_of (kind_of e.kind)) e ≡ true) (same i h)
       (shape_same i (shape_of (kind_at t i)) (equation_at t i) (omega arith) f)
 
-  pub same_check : 4 * n ≤ length u → checked velocities t n ≡ Passed → checked velocities u n ≡ Passed
+  pub same_check : 4 * n ≤ length u → checked velocities t n ≡ Ok tt → checked velocities u n ≡ Ok tt
   unfolding equations_fit closes
   same_check l e =
       let w = checked-fitting velocities t n e in

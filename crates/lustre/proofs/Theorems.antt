@@ -11,22 +11,21 @@ use Rattle.limits.specs.Limits.{literal_count, table_room}
 use borrow.Author.Tests.{le-leb}
 use Rattle.lists.specs.Number.{number_at}
 use Rattle.tables.specs.Table.{equation_at, Test, test, checked}
-use Rattle.tables.specs.declared.Checked.{Checked}
-use Rattle.tables.specs.declared.Checked.TheVariants.{Passed, Refused as Failed}
+use Rattle.tables.specs.Table.{Checked}
 use Rattle.tables.proofs.Checks.{checked-fitting, passed-both, refused-table}
 use Rattle.lustre.specs.Text.{text_of}
 use Rattle.lustre.specs.Write.{write_checked, after_write, after_text, effect_if, write_effect}
 use Rattle.lustre.specs.Read.{AfterRead, unread, no_room, read}
-use Rattle.lustre.specs.declared.Written.TheVariants.{Length}
-use Rattle.lustre.specs.declared.Loaded.{Loaded}
-use Rattle.lustre.specs.declared.Loaded.TheVariants.{Equations}
+use Rattle.lustre.specs.Read.{Loaded}
 use Rattle.lustre.proofs.Tables.{well-plain, same-equations, same_numbers, same_text, same_check}
-use Rattle.lustre.proofs.Differ.{refused-length, refused-equations}
+use Rattle.lustre.proofs.Differ.{refused-answered}
+use Rattle.std.specs.Prelude.{Ok, Err}
+use Rattle.limits.specs.declared.Refusal.TheVariants.{ShortText}
 
 -- Two well-formed tables with the same text are the same table, if velocities are literals.
 pub same-table : (velocities : ℕ) (t u : List ℕ) (n m : ℕ) → velocities ≤ literal_count → checked velocities t n
-    ≡ Passed
-    → checked velocities u m ≡ Passed → text_of t n ≡ text_of u m → (n ≡ m) × (take (4 * n) t ≡ take (4 * m) u)
+    ≡ Ok tt
+    → checked velocities u m ≡ Ok tt → text_of t n ≡ text_of u m → (n ≡ m) × (take (4 * n) t ≡ take (4 * m) u)
 same-table velocities t u n m v p q e =
     let r = same-equations (well-plain velocities t n v p) (well-plain velocities u m v q) e in
     let a = (checked-fitting velocities t n p).whole in
@@ -47,19 +46,19 @@ one_answer velocities text table r r' a a' v (read {t} {n} w l) (unread h) = abs
 one_answer velocities text table r r' a a' v (read w l) (no_room w' l') = absurd (omega arith)
 one_answer velocities text table r r' a a' v (read {t} {n} w l) (read {t = u} {n = m} w' l') =
     let s = same-table velocities t u n m v w.well-formed w'.well-formed (w.exactly ∙ sym w'.exactly) in
-    (ap Equations s.0, rw (s.1, s.0))
+    (ap Ok s.0, rw (s.1, s.0))
 
 -- A table whose text is read is left in the lent table.
 text-read : (velocities : ℕ) (t : List ℕ) (n : ℕ) (table : List ℕ) (r : Loaded) (after : List ℕ)
-    → velocities ≤ literal_count → checked velocities t n ≡ Passed → table_room ≤ length table
+    → velocities ≤ literal_count → checked velocities t n ≡ Ok tt → table_room ≤ length table
     → AfterRead velocities (text_of t n) table r after
-    → (r ≡ Equations n) × (after ≡ take (4 * n) t ++ drop (4 * n) table)
+    → (r ≡ Ok n) × (after ≡ take (4 * n) t ++ drop (4 * n) table)
 text-read velocities t n table r after v e h w =
-    one_answer velocities (text_of t n) table r (Equations n) after (take (4 * n) t ++ drop (4 * n) table) v w
+    one_answer velocities (text_of t n) table r (Ok n) after (take (4 * n) t ++ drop (4 * n) table) v w
     (read (record { well-formed = e; exactly = refl }) h)
 
 -- A well-formed table whose text has room is written.
-pub write-passed : (velocities : ℕ) (t b : List ℕ) (n : ℕ) → checked velocities t n ≡ Passed
+pub write-passed : (velocities : ℕ) (t b : List ℕ) (n : ℕ) → checked velocities t n ≡ Ok tt
     → length (text_of t n) ≤ length b → write_effect velocities t n b ≡ after_text (text_of t n) b
 unfolding write_effect write_checked
 write-passed velocities t b n e h =
@@ -68,31 +67,31 @@ write-passed velocities t b n e h =
 
 -- What was written is the text of a well-formed table.
 pub text-written : (velocities : ℕ) (t : List ℕ) (n l : ℕ) (buffer : List ℕ)
-    → (write_effect velocities t n buffer).answer ≡ Length l
-    → (checked velocities t n ≡ Passed) × (take l (write_effect velocities t n buffer).buffer ≡ text_of t n)
+    → (write_effect velocities t n buffer).answer ≡ Ok l
+    → (checked velocities t n ≡ Ok tt) × (take l (write_effect velocities t n buffer).buffer ≡ text_of t n)
 unfolding write_effect write_checked after_text
 text-written velocities t n l buffer e = go (write_checked velocities t n buffer) refl e
   where
     room_test : Test
-    room_test = test 15 (leb (length (text_of t n)) (length buffer))
+    room_test = test ShortText (leb (length (text_of t n)) (length buffer))
 
-    well : (c : Checked) → checked velocities t n ≡ c → write_checked velocities t n buffer ≡ Passed
-        → checked velocities t n ≡ Passed
-    well Passed p q = p
-    well (Failed r) p q = p ∙ sym (refused-table velocities t n r (room_test ∷ []) p) ∙ q
+    well : (c : Checked) → checked velocities t n ≡ c → write_checked velocities t n buffer ≡ Ok tt
+        → checked velocities t n ≡ Ok tt
+    well (Ok tt) p q = p
+    well (Err r) p q = p ∙ sym (refused-table velocities t n r (room_test ∷ []) p) ∙ q
 
-    go : (c : Checked) → write_checked velocities t n buffer ≡ c → (effect_if c t n buffer).answer ≡ Length l
-        → (checked velocities t n ≡ Passed) × (take l (effect_if c t n buffer).buffer ≡ text_of t n)
-    go Passed p q =
+    go : (c : Checked) → write_checked velocities t n buffer ≡ c → (effect_if c t n buffer).answer ≡ Ok l
+        → (checked velocities t n ≡ Ok tt) × (take l (effect_if c t n buffer).buffer ≡ text_of t n)
+    go (Ok tt) p q =
         let k : length (text_of t n) ≡ l = cc in
         (well (checked velocities t n) refl p, take_at (text_of t n) _ l k)
-    go (Failed r) p q = absurd (refused-length q)
+    go (Err r) p q = absurd (refused-answered q)
 
 -- Read of written is the table: what a call wrote, read into a table with room, is n and the table that was written.
 pub read-of-written : (velocities : ℕ) (t : List ℕ) (n l : ℕ) (buffer table : List ℕ) (r : Loaded) (after : List ℕ)
-    → velocities ≤ literal_count → (write_effect velocities t n buffer).answer ≡ Length l → table_room ≤ length table
+    → velocities ≤ literal_count → (write_effect velocities t n buffer).answer ≡ Ok l → table_room ≤ length table
     → AfterRead velocities (take l (write_effect velocities t n buffer).buffer) table r after
-    → (r ≡ Equations n) × (after ≡ take (4 * n) t ++ drop (4 * n) table)
+    → (r ≡ Ok n) × (after ≡ take (4 * n) t ++ drop (4 * n) table)
 read-of-written velocities t n l buffer table r after v e h w =
     let p = text-written velocities t n l buffer e in
     text-read velocities t n table r after v p.0 h (rw p.1 at w)
@@ -113,15 +112,15 @@ front_same u r n j h g = rw (
 
 -- Written of read is the text, byte for byte: the table that a call read, written to a buffer with room, is the text.
 pub written-of-read : (velocities : ℕ) (text table buffer : List ℕ) (n : ℕ) (after : List ℕ)
-    → AfterRead velocities text table (Equations n) after → length text ≤ length buffer
-    → write_effect velocities after n buffer ≡ after_write (Length (length text)) (text ++ drop (length text) buffer)
+    → AfterRead velocities text table (Ok n) after → length text ≤ length buffer
+    → write_effect velocities after n buffer ≡ after_write (Ok (length text)) (text ++ drop (length text) buffer)
 unfolding after_text
-written-of-read velocities text table buffer n after w h = go (Equations n) after w refl
+written-of-read velocities text table buffer n after w h = go (Ok n) after w refl
   where
-    go : (r : Loaded) (a : List ℕ) → AfterRead velocities text table r a → r ≡ Equations n
-        → write_effect velocities a n buffer ≡ after_write (Length (length text)) (text ++ drop (length text) buffer)
-    go r a (unread k) e = absurd (refused-equations e)
-    go r a (no_room v l) e = absurd (refused-equations e)
+    go : (r : Loaded) (a : List ℕ) → AfterRead velocities text table r a → r ≡ Ok n
+        → write_effect velocities a n buffer ≡ after_write (Ok (length text)) (text ++ drop (length text) buffer)
+    go r a (unread k) e = absurd (refused-answered e)
+    go r a (no_room v l) e = absurd (refused-answered e)
     go r a (read {t = u} {n = m} v l) e =
         let y : m ≡ n = cc in
         let f = (checked-fitting velocities u m v.well-formed).whole in

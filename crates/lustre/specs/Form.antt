@@ -1,8 +1,8 @@
 -- Forms: the texts that can follow `fN=` in a line (SPEC 5.3), with the letters A, B and C where numbers stand.
 -- Definitions only.
 -- The one line writer and the one line parser both walk them; that they give the text of specs/Text.antt is proved.
-use Rattle.std.specs.Prelude.{Bool, true, not, ◌&&◌, cond, List, [], ◌∷◌, ◌++◌, ◌≡◌, ℕ, zero, suc, ◌+◌, ◌≤◌, ◌<◌, leb}
-use Rattle.std.specs.Prelude.{eqb, length, get_or, take}
+use Rattle.std.specs.Prelude.{Bool, true, not, ◌&&◌, cond, List, [], ◌∷◌, ◌++◌, ◌≡◌, ℕ, suc, ◌+◌, ◌≤◌, ◌<◌, leb}
+use Rattle.std.specs.Prelude.{eqb, get_or, take, Option, Some, None}
 use Prim.Native.String.{String}
 use Rattle.lists.specs.Text.{bytes, byte}
 use Rattle.traces.specs.Compare.{op_number}
@@ -10,17 +10,14 @@ use Rattle.traces.specs.declared.Op.TheVariants.{AtMost as le, Below as lt, Equa
 use Rattle.limits.specs.Limits.{equation_limit, last_literal}
 use Rattle.tables.specs.Kind.{SIGNAL, START, CONSTANT, NOT, AND, OR, BOOLEAN-PRE, COUNT-PRE, CAPPED, IF}
 use Rattle.tables.specs.Kind.{COMPARE-LITERAL, COMPARE-PARAMETER, VELOCITY}
-use Rattle.tables.specs.Table.{Equation, equation, equation_at, Kind, kind_of, closing_count, started_of, verdict_of}
-use Rattle.tables.specs.Table.Kind.{signal, start, constant, negation, conjunction, disjunction, boolean_pre}
-use Rattle.tables.specs.Table.Kind.{count_pre, capped, if_else, compare_literal, compare_parameter, velocity, unknown}
+use Rattle.tables.specs.Table.{equation, equation_at, kind_of, closing_count, started_of, verdict_of}
+use Rattle.tables.specs.declared.Equation.{Equation}
+use Rattle.tables.specs.declared.Kind.{Kind}
+use Rattle.tables.specs.declared.Kind.TheVariants.{Signal, Start, Constant, Not, And, Or, BooleanPre}
+use Rattle.tables.specs.declared.Kind.TheVariants.{CountPre, Capped, If, CompareLiteral, CompareParameter, Velocity}
 use Rattle.lustre.specs.Numerals.{number_text}
 use Rattle.lustre.specs.Text.{line_text}
-use Rattle.lustre.specs.declared.Numbers.{Numbers}
-use Rattle.lustre.specs.declared.Form.{Form}
-
--- The equation of four numbers.
-abbrev pub equation_of : Numbers → Equation
-equation_of e = equation e.kind e.a e.b e.c
+use Rattle.lustre.specs.declared.Form.{Form as CodeForm}
 
 -- The number i where A stands, as in `fN=`.
 abbrev pub own : ℕ → Equation
@@ -82,96 +79,93 @@ pub record Agree (e e₀ : Equation) (f : List ℕ) : Type 0 where
 abbrev pub Small : Equation → Type 0
 Small e = (x : ℕ) → slot e x ≤ last_literal
 
--- A form in 22 bytes, filled up with spaces.
-unfoldable pub padded : ℕ → List ℕ → List ℕ
-padded zero f = []
-padded (suc k) [] = byte " " ∷ padded k []
-padded (suc k) (x ∷ f) = x ∷ padded k f
+-- A form: its text, and the kind and the numbers that it settles.
+pub record Form : Type 0 where
+  pub settled : Equation
+  pub text : List ℕ
 
+-- The form of these numbers and this text.
+abbrev pub form : Equation → String → Form
+form e f = record { settled = e; text = bytes f }
+
+-- A form of the code, in which a slice holds the text.
+abbrev pub form_value : CodeForm → Form
+form_value f = record { settled = f.settled; text = take f.len f.bytes }
+
+-- No form has more bytes.
 abbrev pub form_width : ℕ
 form_width = 22
-
-abbrev pub numbers : ℕ → ℕ → ℕ → ℕ → Numbers
-numbers k a b c = record { kind = k; a = a; b = b; c = c }
-
--- A form with the kind and the numbers that it settles.
-abbrev pub form : Numbers → String → Form
-form e f = record { settled = e; len = length (bytes f); text = padded form_width (bytes f) }
 
 -- Every form; those of one kind stand together, by the number that tells them apart.
 unfoldable pub forms : List Form
 forms =
-    form (numbers SIGNAL 0 0 0) "sA;\n"
-    ∷ form (numbers START 0 0 0) "b;\n"
-    ∷ form (numbers CONSTANT 0 0 0) "false;\n"
-    ∷ form (numbers CONSTANT 1 0 0) "true;\n"
-    ∷ form (numbers NOT 0 0 0) "not fA;\n"
-    ∷ form (numbers AND 0 0 0) "fA and fB;\n"
-    ∷ form (numbers OR 0 0 0) "fA or fB;\n"
-    ∷ form (numbers BOOLEAN-PRE 0 0 0) "false->pre(fA);\n"
-    ∷ form (numbers BOOLEAN-PRE 0 0 1) "true->pre(fA);\n"
-    ∷ form (numbers COUNT-PRE 0 0 0) "0->pre(fA);\n"
-    ∷ form (numbers CAPPED 0 0 0) "cap(fA,fB);\n"
-    ∷ form (numbers IF 0 0 0) "if fA then fB else 0;\n"
-    ∷ form (numbers COMPARE-LITERAL 0 (op_number le) 0) "fA<=C;\n"
-    ∷ form (numbers COMPARE-LITERAL 0 (op_number lt) 0) "fA<C;\n"
-    ∷ form (numbers COMPARE-LITERAL 0 (op_number eq) 0) "fA=C;\n"
-    ∷ form (numbers COMPARE-LITERAL 0 (op_number gt) 0) "fA>C;\n"
-    ∷ form (numbers COMPARE-LITERAL 0 (op_number ge) 0) "fA>=C;\n"
-    ∷ form (numbers COMPARE-PARAMETER 0 (op_number le) 0) "fA<=kC;\n"
-    ∷ form (numbers COMPARE-PARAMETER 0 (op_number lt) 0) "fA<kC;\n"
-    ∷ form (numbers COMPARE-PARAMETER 0 (op_number eq) 0) "fA=kC;\n"
-    ∷ form (numbers COMPARE-PARAMETER 0 (op_number gt) 0) "fA>kC;\n"
-    ∷ form (numbers COMPARE-PARAMETER 0 (op_number ge) 0) "fA>=kC;\n"
-    ∷ form (numbers VELOCITY (op_number le) 0 0) "v<=B;\n"
-    ∷ form (numbers VELOCITY (op_number lt) 0 0) "v<B;\n"
-    ∷ form (numbers VELOCITY (op_number eq) 0 0) "v=B;\n"
-    ∷ form (numbers VELOCITY (op_number gt) 0 0) "v>B;\n"
-    ∷ form (numbers VELOCITY (op_number ge) 0 0) "v>=B;\n"
+    form (equation SIGNAL 0 0 0) "sA;\n"
+    ∷ form (equation START 0 0 0) "b;\n"
+    ∷ form (equation CONSTANT 0 0 0) "false;\n"
+    ∷ form (equation CONSTANT 1 0 0) "true;\n"
+    ∷ form (equation NOT 0 0 0) "not fA;\n"
+    ∷ form (equation AND 0 0 0) "fA and fB;\n"
+    ∷ form (equation OR 0 0 0) "fA or fB;\n"
+    ∷ form (equation BOOLEAN-PRE 0 0 0) "false->pre(fA);\n"
+    ∷ form (equation BOOLEAN-PRE 0 0 1) "true->pre(fA);\n"
+    ∷ form (equation COUNT-PRE 0 0 0) "0->pre(fA);\n"
+    ∷ form (equation CAPPED 0 0 0) "cap(fA,fB);\n"
+    ∷ form (equation IF 0 0 0) "if fA then fB else 0;\n"
+    ∷ form (equation COMPARE-LITERAL 0 (op_number le) 0) "fA<=C;\n"
+    ∷ form (equation COMPARE-LITERAL 0 (op_number lt) 0) "fA<C;\n"
+    ∷ form (equation COMPARE-LITERAL 0 (op_number eq) 0) "fA=C;\n"
+    ∷ form (equation COMPARE-LITERAL 0 (op_number gt) 0) "fA>C;\n"
+    ∷ form (equation COMPARE-LITERAL 0 (op_number ge) 0) "fA>=C;\n"
+    ∷ form (equation COMPARE-PARAMETER 0 (op_number le) 0) "fA<=kC;\n"
+    ∷ form (equation COMPARE-PARAMETER 0 (op_number lt) 0) "fA<kC;\n"
+    ∷ form (equation COMPARE-PARAMETER 0 (op_number eq) 0) "fA=kC;\n"
+    ∷ form (equation COMPARE-PARAMETER 0 (op_number gt) 0) "fA>kC;\n"
+    ∷ form (equation COMPARE-PARAMETER 0 (op_number ge) 0) "fA>=kC;\n"
+    ∷ form (equation VELOCITY (op_number le) 0 0) "v<=B;\n"
+    ∷ form (equation VELOCITY (op_number lt) 0 0) "v<B;\n"
+    ∷ form (equation VELOCITY (op_number eq) 0 0) "v=B;\n"
+    ∷ form (equation VELOCITY (op_number gt) 0 0) "v>B;\n"
+    ∷ form (equation VELOCITY (op_number ge) 0 0) "v>=B;\n"
     ∷ []
 
 abbrev pub form_count : ℕ
 form_count = 27
 
 abbrev pub no_form : Form
-no_form = record { settled = numbers 0 0 0 0; len = 0; text = [] }
+no_form = record { settled = equation 0 0 0 0; text = [] }
 
 unfoldable pub form_at : ℕ → Form
 form_at f = get_or forms f no_form
 
--- The bytes of a form that count.
-abbrev pub form_text : Form → List ℕ
-form_text f = take f.len f.text
-
 -- The equation fits the form: it has the numbers that the form settles, and no number above the highest literal.
 pub record Fits (f : Form) (e : Equation) : Type 0 where
-  pub agrees : Agree e (equation_of f.settled) (form_text f)
+  pub agrees : Agree e f.settled f.text
   pub small : Small e
 
 -- The first form of a kind.
-unfoldable pub first_of : ℕ → List Form → ℕ
+abbrev pub first_of : ℕ → List Form → ℕ
 first_of k [] = 0
 first_of k (f ∷ fs) = cond (eqb f.settled.kind k) 0 (suc (first_of k fs))
 
-unfoldable pub first_form : ℕ → ℕ
+abbrev pub first_form : ℕ → ℕ
 first_form k = first_of k forms
 
 -- The number of the form of an equation.
-unfoldable pub form_number : Kind → Equation → ℕ
-form_number signal e = first_form SIGNAL
-form_number start e = first_form START
-form_number constant e = first_form CONSTANT + e.a
-form_number negation e = first_form NOT
-form_number conjunction e = first_form AND
-form_number disjunction e = first_form OR
-form_number boolean_pre e = first_form BOOLEAN-PRE + e.c
-form_number count_pre e = first_form COUNT-PRE
-form_number capped e = first_form CAPPED
-form_number if_else e = first_form IF
-form_number compare_literal e = first_form COMPARE-LITERAL + e.b
-form_number compare_parameter e = first_form COMPARE-PARAMETER + e.b
-form_number velocity e = first_form VELOCITY + e.a
-form_number unknown e = 0
+unfoldable pub form_number : Option Kind → Equation → ℕ
+form_number (Some Signal) e = first_form SIGNAL
+form_number (Some Start) e = first_form START
+form_number (Some Constant) e = first_form CONSTANT + e.a
+form_number (Some Not) e = first_form NOT
+form_number (Some And) e = first_form AND
+form_number (Some Or) e = first_form OR
+form_number (Some BooleanPre) e = first_form BOOLEAN-PRE + e.c
+form_number (Some CountPre) e = first_form COUNT-PRE
+form_number (Some Capped) e = first_form CAPPED
+form_number (Some If) e = first_form IF
+form_number (Some CompareLiteral) e = first_form COMPARE-LITERAL + e.b
+form_number (Some CompareParameter) e = first_form COMPARE-PARAMETER + e.b
+form_number (Some Velocity) e = first_form VELOCITY + e.a
+form_number None e = 0
 
 abbrev pub form_of : Equation → ℕ
 form_of e = form_number (kind_of e.kind) e

@@ -4,8 +4,8 @@ use Rattle.std.specs.Prelude.{cond, List, [], ◌∷◌, ℕ, eqb}
 use Rattle.lists.specs.Decimal.{Numeral, numeral}
 use Rattle.lists.specs.Decimal.Numeral.{is, above, missing}
 use Rattle.limits.specs.Limits.{last_literal}
-use Rattle.tables.specs.Table.{Equation}
 use Rattle.lustre.specs.Form.{letter?, put}
+use Rattle.tables.specs.declared.Equation.{Equation}
 
 -- A form at the front of a text: the equation with the numbers found at its letters, and what follows it.
 pub data Scanned : Type 0 where

@@ -5,10 +5,13 @@ use Rattle.traces.specs.Trace.{nonzero}
 use Rattle.traces.specs.Compare.{op_of}
 use Rattle.traces.specs.declared.Op.{Op}
 use Rattle.traces.specs.declared.Op.TheVariants.{AtMost as le, Below as lt, Equal as eq, Above as gt, AtLeast as ge}
-use Rattle.tables.specs.Table.{Equation, equation_at, Kind, kind_of, started_of, verdict_of}
-use Rattle.tables.specs.Table.Kind.{signal, start, constant, negation, conjunction, disjunction, boolean_pre}
-use Rattle.tables.specs.Table.Kind.{count_pre, capped, if_else, compare_literal, compare_parameter, velocity, unknown}
+use Rattle.tables.specs.Table.{equation_at, kind_of, started_of, verdict_of}
 use Rattle.lustre.specs.Numerals.{number_text}
+use Rattle.std.specs.Prelude.{Option, Some, None}
+use Rattle.tables.specs.declared.Kind.TheVariants.{Signal, Start, Constant, Not, And, Or, BooleanPre}
+use Rattle.tables.specs.declared.Kind.TheVariants.{CountPre, Capped, If, CompareLiteral, CompareParameter, Velocity}
+use Rattle.tables.specs.declared.Equation.{Equation}
+use Rattle.tables.specs.declared.Kind.{Kind}
 
 -- The name of the flow of equation x (SPEC 9.2).
 abbrev pub flow : ℕ → List ℕ
@@ -29,21 +32,21 @@ op_text ge = bytes ">="
 
 -- The texts of SPEC 5.3, by kind, which stand after `fN=` (SPEC 9.2). No number is that of an unknown kind in a
 -- well-formed table.
-unfoldable pub value_text : Kind → Equation → List ℕ
-value_text signal e = bytes "s" ++ number_text e.a
-value_text start e = bytes "b"
-value_text constant e = truth_text (nonzero e.a)
-value_text negation e = bytes "not " ++ flow e.a
-value_text conjunction e = flow e.a ++ bytes " and " ++ flow e.b
-value_text disjunction e = flow e.a ++ bytes " or " ++ flow e.b
-value_text boolean_pre e = truth_text (nonzero e.c) ++ bytes "->pre(" ++ flow e.a ++ bytes ")"
-value_text count_pre e = bytes "0->pre(" ++ flow e.a ++ bytes ")"
-value_text capped e = bytes "cap(" ++ flow e.a ++ bytes "," ++ flow e.b ++ bytes ")"
-value_text if_else e = bytes "if " ++ flow e.a ++ bytes " then " ++ flow e.b ++ bytes " else 0"
-value_text compare_literal e = flow e.a ++ op_text (op_of e.b) ++ number_text e.c
-value_text compare_parameter e = flow e.a ++ op_text (op_of e.b) ++ bytes "k" ++ number_text e.c
-value_text velocity e = bytes "v" ++ op_text (op_of e.a) ++ number_text e.b
-value_text unknown e = []
+unfoldable pub value_text : Option Kind → Equation → List ℕ
+value_text (Some Signal) e = bytes "s" ++ number_text e.a
+value_text (Some Start) e = bytes "b"
+value_text (Some Constant) e = truth_text (nonzero e.a)
+value_text (Some Not) e = bytes "not " ++ flow e.a
+value_text (Some And) e = flow e.a ++ bytes " and " ++ flow e.b
+value_text (Some Or) e = flow e.a ++ bytes " or " ++ flow e.b
+value_text (Some BooleanPre) e = truth_text (nonzero e.c) ++ bytes "->pre(" ++ flow e.a ++ bytes ")"
+value_text (Some CountPre) e = bytes "0->pre(" ++ flow e.a ++ bytes ")"
+value_text (Some Capped) e = bytes "cap(" ++ flow e.a ++ bytes "," ++ flow e.b ++ bytes ")"
+value_text (Some If) e = bytes "if " ++ flow e.a ++ bytes " then " ++ flow e.b ++ bytes " else 0"
+value_text (Some CompareLiteral) e = flow e.a ++ op_text (op_of e.b) ++ number_text e.c
+value_text (Some CompareParameter) e = flow e.a ++ op_text (op_of e.b) ++ bytes "k" ++ number_text e.c
+value_text (Some Velocity) e = bytes "v" ++ op_text (op_of e.a) ++ number_text e.b
+value_text None e = []
 
 -- What follows `fN=` in the line of an equation, up to its end: `;` and, as in every line, byte 10 (SPEC 9.1).
 unfoldable pub line_rest : Equation → List ℕ

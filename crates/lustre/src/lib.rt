@@ -4,36 +4,19 @@
 // writer and the one reader both walk, are here.
 #![tactic(auto)]
 
-ghost use Rattle.std.specs.Prelude.{◌≡◌, ◌≤◌, ◌<◌};
+ghost use Rattle.std.specs.Prelude.{◌≡◌, ◌≤◌, ◌<◌, map};
 ghost use Rattle.limits.specs.Limits.{equation_limit};
 ghost use Rattle.tables.specs.Table.{closing_count};
-ghost use Rattle.lustre.specs.Form.{equation_of, own, last_two, letter?, forms, form_count, form_at};
+ghost use Rattle.lustre.specs.Form.{own, last_two, letter?, form_value, forms, form_count, form_at};
 
-// What writing answers: the length of the text in bytes, or the number of a refusal.
-#[derive(Clone, Copy)]
-pub enum Written {
-    Length(usize),
-    Refused(u32),
-}
+use tables::{Equation, Kind};
 
-// What reading answers: the number of equations, or the number of a refusal.
-#[derive(Clone, Copy)]
-pub enum Loaded {
-    Equations(usize),
-    Refused(u32),
-}
-
-// The four numbers of an equation (SPEC 5.1).
-#[derive(Clone, Copy)]
-pub struct Numbers {
-    pub kind: u32,
-    pub a: u32,
-    pub b: u32,
-    pub c: u32,
-}
-
-// The bytes of the longest form.
-const FORM_WIDTH: usize = 22;
+const ZEROS: Equation = Equation {
+    kind: 0,
+    a: 0,
+    b: 0,
+    c: 0,
+};
 
 // The forms that a kind can have: two if a truth value tells them apart, five if a comparison does, else one.
 const TRUTH_FORMS: usize = limits::TRUTHS as usize;
@@ -70,346 +53,132 @@ pub const VELOCITY_FORM: usize = PARAMETER_FORM + COMPARISON_FORMS;
 // How many forms there are.
 pub const FORM_COUNT: usize = VELOCITY_FORM + COMPARISON_FORMS;
 
+// The bytes of the longest form.
+const FORM_WIDTH: usize = 22;
+
 // A form: a text that can follow `fN=` in a line, with the letters A, B and C where numbers stand, and the kind and the
-// numbers that it settles. The first len bytes of its text count.
+// numbers that it settles. The first `len` bytes of its text count: a table of references to texts would be writable
+// data, and the archive for C has none (docs/FIRMWARE.md).
 #[derive(Clone, Copy)]
 pub struct Form {
-    pub settled: Numbers,
-    pub len: usize,
-    pub text: [u8; FORM_WIDTH],
+    pub settled: Equation,
+    len: usize,
+    bytes: [u8; FORM_WIDTH],
+}
+
+impl Form {
+    ghost use Rattle.lustre.specs.Form.{form_value};
+
+    // Its text.
+    pub fn text(&self) -> &[u8]
+        ensures { result.now ≡ (form_value self.now).text }
+    {
+        &self.bytes[..self.len.min(FORM_WIDTH)]
+    }
+}
+
+// A form by its text, its kind and the number that tells it from the others of its kind; what else it settles is 0.
+macro_rules! form {
+    ($len:literal, $text:literal, $kind:ident $(, $letter:ident: $number:expr)?) => {
+        Form {
+            settled: Equation {
+                kind: Kind::$kind as u32,
+                $($letter: $number,)?
+                ..ZEROS
+            },
+            len: $len,
+            bytes: *$text,
+        }
+    };
 }
 
 // Every form, by the kinds of SPEC 5.3; those of one kind stand together, by the number that tells them apart.
 const FORMS: [Form; FORM_COUNT] = [
     // 0: a signal.
-    Form {
-        settled: Numbers {
-            kind: tables::SIGNAL,
-            a: 0,
-            b: 0,
-            c: 0,
-        },
-        len: 4,
-        text: *b"sA;\n                  ",
-    },
+    form!(4, b"sA;\n                  ", Signal),
     // 1: the start.
-    Form {
-        settled: Numbers {
-            kind: tables::START,
-            a: 0,
-            b: 0,
-            c: 0,
-        },
-        len: 3,
-        text: *b"b;\n                   ",
-    },
+    form!(3, b"b;\n                   ", Start),
     // 2: a constant, a form for each.
-    Form {
-        settled: Numbers {
-            kind: tables::CONSTANT,
-            a: 0,
-            b: 0,
-            c: 0,
-        },
-        len: 7,
-        text: *b"false;\n               ",
-    },
-    Form {
-        settled: Numbers {
-            kind: tables::CONSTANT,
-            a: 1,
-            b: 0,
-            c: 0,
-        },
-        len: 6,
-        text: *b"true;\n                ",
-    },
+    form!(7, b"false;\n               ", Constant, a: 0),
+    form!(6, b"true;\n                ", Constant, a: 1),
     // 3: not.
-    Form {
-        settled: Numbers {
-            kind: tables::NOT,
-            a: 0,
-            b: 0,
-            c: 0,
-        },
-        len: 8,
-        text: *b"not fA;\n              ",
-    },
+    form!(8, b"not fA;\n              ", Not),
     // 4: and.
-    Form {
-        settled: Numbers {
-            kind: tables::AND,
-            a: 0,
-            b: 0,
-            c: 0,
-        },
-        len: 11,
-        text: *b"fA and fB;\n           ",
-    },
+    form!(11, b"fA and fB;\n           ", And),
     // 5: or.
-    Form {
-        settled: Numbers {
-            kind: tables::OR,
-            a: 0,
-            b: 0,
-            c: 0,
-        },
-        len: 10,
-        text: *b"fA or fB;\n            ",
-    },
+    form!(10, b"fA or fB;\n            ", Or),
     // 6: a memory of a boolean, a form for each first value.
-    Form {
-        settled: Numbers {
-            kind: tables::BOOLEAN_PRE,
-            a: 0,
-            b: 0,
-            c: 0,
-        },
-        len: 16,
-        text: *b"false->pre(fA);\n      ",
-    },
-    Form {
-        settled: Numbers {
-            kind: tables::BOOLEAN_PRE,
-            a: 0,
-            b: 0,
-            c: 1,
-        },
-        len: 15,
-        text: *b"true->pre(fA);\n       ",
-    },
+    form!(16, b"false->pre(fA);\n      ", BooleanPre, c: 0),
+    form!(15, b"true->pre(fA);\n       ", BooleanPre, c: 1),
     // 7: a memory of a count.
-    Form {
-        settled: Numbers {
-            kind: tables::COUNT_PRE,
-            a: 0,
-            b: 0,
-            c: 0,
-        },
-        len: 12,
-        text: *b"0->pre(fA);\n          ",
-    },
+    form!(12, b"0->pre(fA);\n          ", CountPre),
     // 8: a count that is increased, up to the cap.
-    Form {
-        settled: Numbers {
-            kind: tables::CAPPED,
-            a: 0,
-            b: 0,
-            c: 0,
-        },
-        len: 12,
-        text: *b"cap(fA,fB);\n          ",
-    },
+    form!(12, b"cap(fA,fB);\n          ", Capped),
     // 9: a count or 0.
-    Form {
-        settled: Numbers {
-            kind: tables::IF,
-            a: 0,
-            b: 0,
-            c: 0,
-        },
-        len: 22,
-        text: *b"if fA then fB else 0;\n",
-    },
+    form!(22, b"if fA then fB else 0;\n", If),
     // 10: a count and a literal, a form for each comparison.
-    Form {
-        settled: Numbers {
-            kind: tables::COMPARE_LITERAL,
-            a: 0,
-            b: traces::AT_MOST,
-            c: 0,
-        },
-        len: 7,
-        text: *b"fA<=C;\n               ",
-    },
-    Form {
-        settled: Numbers {
-            kind: tables::COMPARE_LITERAL,
-            a: 0,
-            b: traces::BELOW,
-            c: 0,
-        },
-        len: 6,
-        text: *b"fA<C;\n                ",
-    },
-    Form {
-        settled: Numbers {
-            kind: tables::COMPARE_LITERAL,
-            a: 0,
-            b: traces::EQUAL,
-            c: 0,
-        },
-        len: 6,
-        text: *b"fA=C;\n                ",
-    },
-    Form {
-        settled: Numbers {
-            kind: tables::COMPARE_LITERAL,
-            a: 0,
-            b: traces::ABOVE,
-            c: 0,
-        },
-        len: 6,
-        text: *b"fA>C;\n                ",
-    },
-    Form {
-        settled: Numbers {
-            kind: tables::COMPARE_LITERAL,
-            a: 0,
-            b: traces::AT_LEAST,
-            c: 0,
-        },
-        len: 7,
-        text: *b"fA>=C;\n               ",
-    },
+    form!(7, b"fA<=C;\n               ", CompareLiteral, b: traces::AT_MOST),
+    form!(6, b"fA<C;\n                ", CompareLiteral, b: traces::BELOW),
+    form!(6, b"fA=C;\n                ", CompareLiteral, b: traces::EQUAL),
+    form!(6, b"fA>C;\n                ", CompareLiteral, b: traces::ABOVE),
+    form!(7, b"fA>=C;\n               ", CompareLiteral, b: traces::AT_LEAST),
     // 11: a count and a parameter, a form for each comparison.
-    Form {
-        settled: Numbers {
-            kind: tables::COMPARE_PARAMETER,
-            a: 0,
-            b: traces::AT_MOST,
-            c: 0,
-        },
-        len: 8,
-        text: *b"fA<=kC;\n              ",
-    },
-    Form {
-        settled: Numbers {
-            kind: tables::COMPARE_PARAMETER,
-            a: 0,
-            b: traces::BELOW,
-            c: 0,
-        },
-        len: 7,
-        text: *b"fA<kC;\n               ",
-    },
-    Form {
-        settled: Numbers {
-            kind: tables::COMPARE_PARAMETER,
-            a: 0,
-            b: traces::EQUAL,
-            c: 0,
-        },
-        len: 7,
-        text: *b"fA=kC;\n               ",
-    },
-    Form {
-        settled: Numbers {
-            kind: tables::COMPARE_PARAMETER,
-            a: 0,
-            b: traces::ABOVE,
-            c: 0,
-        },
-        len: 7,
-        text: *b"fA>kC;\n               ",
-    },
-    Form {
-        settled: Numbers {
-            kind: tables::COMPARE_PARAMETER,
-            a: 0,
-            b: traces::AT_LEAST,
-            c: 0,
-        },
-        len: 8,
-        text: *b"fA>=kC;\n              ",
-    },
+    form!(8, b"fA<=kC;\n              ", CompareParameter, b: traces::AT_MOST),
+    form!(7, b"fA<kC;\n               ", CompareParameter, b: traces::BELOW),
+    form!(7, b"fA=kC;\n               ", CompareParameter, b: traces::EQUAL),
+    form!(7, b"fA>kC;\n               ", CompareParameter, b: traces::ABOVE),
+    form!(8, b"fA>=kC;\n              ", CompareParameter, b: traces::AT_LEAST),
     // 12: the velocity and a literal, a form for each comparison.
-    Form {
-        settled: Numbers {
-            kind: tables::VELOCITY,
-            a: traces::AT_MOST,
-            b: 0,
-            c: 0,
-        },
-        len: 6,
-        text: *b"v<=B;\n                ",
-    },
-    Form {
-        settled: Numbers {
-            kind: tables::VELOCITY,
-            a: traces::BELOW,
-            b: 0,
-            c: 0,
-        },
-        len: 5,
-        text: *b"v<B;\n                 ",
-    },
-    Form {
-        settled: Numbers {
-            kind: tables::VELOCITY,
-            a: traces::EQUAL,
-            b: 0,
-            c: 0,
-        },
-        len: 5,
-        text: *b"v=B;\n                 ",
-    },
-    Form {
-        settled: Numbers {
-            kind: tables::VELOCITY,
-            a: traces::ABOVE,
-            b: 0,
-            c: 0,
-        },
-        len: 5,
-        text: *b"v>B;\n                 ",
-    },
-    Form {
-        settled: Numbers {
-            kind: tables::VELOCITY,
-            a: traces::AT_LEAST,
-            b: 0,
-            c: 0,
-        },
-        len: 6,
-        text: *b"v>=B;\n                ",
-    },
+    form!(6, b"v<=B;\n                ", Velocity, a: traces::AT_MOST),
+    form!(5, b"v<B;\n                 ", Velocity, a: traces::BELOW),
+    form!(5, b"v=B;\n                 ", Velocity, a: traces::EQUAL),
+    form!(5, b"v>B;\n                 ", Velocity, a: traces::ABOVE),
+    form!(6, b"v>=B;\n                ", Velocity, a: traces::AT_LEAST),
 ];
 
-// All of them: a copy, for one that needs many.
-pub fn all_forms() -> [Form; FORM_COUNT]
-    ensures { result ≡ forms }
+// All of them.
+#[tactic(auto, unfolding(crate::specs::Form::forms))]
+pub fn all_forms() -> &'static [Form]
+    ensures { map form_value result.now ≡ forms }
 {
-    FORMS
+    &FORMS
 }
 
 // A form by its number.
-pub fn form_at(f: usize) -> Form
+#[tactic(auto, using(crate::proofs::Values::values_length, crate::proofs::Values::value_at))]
+pub fn form_at(f: usize) -> &'static Form
     requires { f < form_count }
-    ensures { result ≡ form_at f }
+    ensures { form_value result.now ≡ form_at f }
 {
-    FORMS[f]
+    &all_forms()[f]
 }
 
 // Whether a byte of a form stands for a number: A, B or C.
 pub fn is_letter(x: u8) -> bool
     ensures { result ≡ letter? x }
 {
-    if b'A' <= x { x <= b'C' } else { false }
+    matches!(x, b'A'..=b'C')
 }
 
 // Numbers that stand for i alone, as in `fN=`.
-pub fn only(i: usize) -> Numbers
+pub fn only(i: usize) -> Equation
     requires { i < equation_limit }
-    ensures { equation_of result ≡ own i }
+    ensures { result ≡ own i }
 {
-    Numbers {
-        kind: 0,
+    Equation {
         a: i as u32,
-        b: 0,
-        c: 0,
+        ..ZEROS
     }
 }
 
 // The numbers of the last two of n flows, as in `w=fN;` and in `a=fN;`.
-pub fn last_two(n: usize) -> Numbers
+pub fn last_two(n: usize) -> Equation
     requires { (closing_count ≤ n) × (n ≤ equation_limit) }
-    ensures { equation_of result ≡ last_two n }
+    ensures { result ≡ last_two n }
 {
-    Numbers {
-        kind: 0,
+    Equation {
         a: (n - tables::CLOSING) as u32,
         b: (n - 1) as u32,
-        c: 0,
+        ..ZEROS
     }
 }

@@ -8,56 +8,46 @@ use lib.ListN.{length, drop, get_or, drop_of_length-le}
 use borrow.Author.Tests.{eq-eqb, ne_eqb}
 use Rattle.lists.specs.Decimal.{Numeral, numeral}
 use Rattle.lists.specs.Decimal.Numeral.{is, above, missing}
+use Rattle.lists.specs.Place.{DecimalAt}
+use Rattle.lists.specs.declared.Decimal.{Decimal}
+use Rattle.lists.specs.declared.Decimal.TheVariants.{Is, Above, Missing}
 use Rattle.lists.proofs.Buffers.{drop_more}
 use Rattle.limits.specs.Limits.{last_literal}
-use Rattle.tables.specs.Table.{Equation}
-use Rattle.lustre.specs.Form.{letter?, put, equation_of}
+use Rattle.tables.specs.declared.Equation.{Equation}
+use Rattle.lustre.specs.Form.{letter?, put}
 use Rattle.lustre.specs.Scan.{Scanned, after_number, after_byte, scan}
 use Rattle.lustre.specs.Scan.Scanned.{unlike, scanned}
-use Rattle.lustre_read.specs.Inner.{scan_piece, scan_seen}
-use Rattle.lustre.specs.declared.Numbers.{Numbers}
-use Rattle.lustre_read.specs.declared.Scan.{Scan}
-use Rattle.lustre_read.specs.declared.Scan.TheVariants.{Unlike, Found}
-
--- What the scanner's answers say, by their cases.
-pub found-told : (text : List ℕ) (r : Scan) (e : Numbers) (q : ℕ) {s : Scanned} → r ≡ Found e q → scan_seen text r ≡ s
-    → scanned (equation_of e) (drop q text) ≡ s
-found-told text r e q h w = sym (ap (scan_seen text) h) ∙ w
-
-pub unlike-told : (text : List ℕ) (r : Scan) {s : Scanned} → r ≡ Unlike → scan_seen text r ≡ s → unlike ≡ s
-unlike-told text r h w = sym (ap (scan_seen text) h) ∙ w
+use Rattle.lustre_read.specs.Inner.{scan_piece}
 
 -- One byte of a form at p.
 module _ (x : ℕ) (l : List ℕ) (p : ℕ) (e : Equation) where
-  pub piece-number : (b : Bool) (v q : ℕ) (s : Equation) → b ≡ letter? x → b ≡ true
-      → numeral last_literal (drop p l) ≡ is v (drop q l) → s ≡ put e x v
+  pub piece_number : (v q : ℕ) (s : Equation) → letter? x ≡ true → DecimalAt l p last_literal (Is v q) → s ≡ put e x v
       → scanned s (drop q l) ≡ scan_piece x (drop p l) e
   unfolding scan_piece
-  piece-number b v q s h k m g = rw (← h, k, m, g)
+  piece_number v q s h k m = rw (h, ← k.means, m)
 
-  pub piece-above : (b : Bool) (r : List ℕ) → b ≡ letter? x → b ≡ true → numeral last_literal (drop p l) ≡ above r
-      → unlike ≡ scan_piece x (drop p l) e
+  pub piece_none : (r : Decimal) → letter? x ≡ true → DecimalAt l p last_literal r
+      → ((v q : ℕ) → r ≡ Is v q → ⊥) → unlike ≡ scan_piece x (drop p l) e
   unfolding scan_piece
-  piece-above b r h k m = rw (← h, k, m)
+  piece_none (Is v q) h k d = absurd (d v q refl)
+  piece_none (Above q) h k d = rw (h, ← k.means)
+  piece_none Missing h k d = rw (h, ← k.means)
 
-  pub piece-missing : (b : Bool) → b ≡ letter? x → b ≡ true → numeral last_literal (drop p l) ≡ missing
-      → unlike ≡ scan_piece x (drop p l) e
+  pub piece_end : letter? x ≡ false → length l ≤ p → unlike ≡ scan_piece x (drop p l) e
   unfolding scan_piece
-  piece-missing b h k m = rw (← h, k, m)
+  piece_end h g = rw (h, drop_of_length-le l g)
 
-  pub piece-end : (b : Bool) → b ≡ letter? x → b ≡ false → length l ≤ p → unlike ≡ scan_piece x (drop p l) e
+  pub piece_other : letter? x ≡ false → p < length l → (get_or l p 0 ≡ x → ⊥) → unlike ≡ scan_piece x (drop p l) e
   unfolding scan_piece
-  piece-end b h k g = rw (← h, k, drop_of_length-le l g)
+  piece_other h g d = rw (h, drop_more l p g, ne_eqb x (get_or l p 0) (λ q. d (sym q)))
 
-  pub piece-other : (b : Bool) → b ≡ letter? x → b ≡ false → p < length l → (get_or l p 0 ≡ x → ⊥)
-      → unlike ≡ scan_piece x (drop p l) e
-  unfolding scan_piece
-  piece-other b h k g d = rw (← h, k, drop_more l p g, ne_eqb x (get_or l p 0) (λ q. d (sym q)))
-
-  pub piece-same : (b : Bool) → b ≡ letter? x → b ≡ false → p < length l → get_or l p 0 ≡ x
+  pub piece_same : letter? x ≡ false → p < length l → get_or l p 0 ≡ x
       → scanned e (drop (p + 1) l) ≡ scan_piece x (drop p l) e
   unfolding scan_piece
-  piece-same b h k g d = rw (← h, k, drop_more l p g, eq-eqb x (get_or l p 0) (sym d))
+  piece_same h g d = rw (h, drop_more l p g, eq-eqb x (get_or l p 0) (sym d))
+
+-- All of these.
+pub ruleset pieces = (piece_number, piece_none, piece_end, piece_other, piece_same)
 
 -- One byte of a form, and then the rest of it.
 abbrev go_on : Scanned → List ℕ → Scanned
@@ -88,14 +78,17 @@ module _ (f l : List ℕ) (j p : ℕ) (e : Equation) where
       sym (ap (λ (k : List ℕ). scan k (drop p l) e) (drop_more f j h)
       ∙ scan_step (get_or f j 0) (drop (j + 1) f) (drop p l) e)
 
-  pub scan-goes : (q : ℕ) (m : Equation) → j < length f → scanned m (drop q l) ≡ scan_piece (get_or f j 0) (drop p l) e
+  pub scan_goes : (q : ℕ) (m : Equation) → j < length f → scanned m (drop q l) ≡ scan_piece (get_or f j 0) (drop p l) e
       → scan (drop (j + 1) f) (drop q l) m ≡ scan (drop j f) (drop p l) e
-  scan-goes q m h g = ap (λ (s : Scanned). go_on s (drop (j + 1) f)) g ∙ steps h
+  scan_goes q m h g = ap (λ (s : Scanned). go_on s (drop (j + 1) f)) g ∙ steps h
 
-  pub scan-stuck : j < length f → unlike ≡ scan_piece (get_or f j 0) (drop p l) e → unlike
+  pub scan_stuck : j < length f → unlike ≡ scan_piece (get_or f j 0) (drop p l) e → unlike
       ≡ scan (drop j f) (drop p l) e
-  scan-stuck h g = ap (λ (s : Scanned). go_on s (drop (j + 1) f)) g ∙ steps h
+  scan_stuck h g = ap (λ (s : Scanned). go_on s (drop (j + 1) f)) g ∙ steps h
 
-  pub scan-ends : length f ≤ j → scanned e (drop p l) ≡ scan (drop j f) (drop p l) e
+  pub scan_ends : length f ≤ j → scanned e (drop p l) ≡ scan (drop j f) (drop p l) e
   unfolding scan
-  scan-ends h = rw (drop_of_length-le f h)
+  scan_ends h = rw (drop_of_length-le f h)
+
+-- All of these.
+pub ruleset forms = (scan_goes, scan_stuck, scan_ends)

@@ -2,13 +2,13 @@
 use mathlib.Core.Path.{◌≡◌, refl, ◌∙◌, sym, ap}
 use mathlib.Core.Bool.{true}
 use mathlib.Core.List.{List, [], ◌++◌, append-nil}
-use Prim.Native.Nat.{ℕ, ◌+◌, ◌≤◌, ◌<◌}
+use Prim.Native.Nat.{ℕ, ◌≤◌, ◌<◌}
 use native.Mathlib.Omega.{arith}
 use lib.ListN.{length, drop, length-drop, drop_of_length-le}
 use Rattle.lists.specs.Decimal.{is_digit}
 use Rattle.lists.proofs.Choice.{false-true}
 use Rattle.limits.specs.Limits.{equation_limit}
-use Rattle.tables.specs.Table.{Equation, closing_count, started_of, verdict_of}
+use Rattle.tables.specs.Table.{closing_count, started_of, verdict_of}
 use Rattle.lustre.specs.Text.{lines, foot, text_of}
 use Rattle.lustre.specs.Form.{own, last_two, slot, render, absent, Letter, Agree, Small}
 use Rattle.lustre.specs.Form.Letter.{is_a, is_b, is_c}
@@ -20,12 +20,13 @@ use Rattle.lustre.proofs.Tables.{foot-stops, same_lines, after-let}
 use Rattle.lustre_read.specs.Inner.{AllLinesAt, Proposed}
 use Rattle.lustre_read.proofs.Lined.{own-small, scanned-text}
 use Rattle.lustre.proofs.Differ.{unlike-scanned}
+use Rattle.tables.specs.declared.Equation.{Equation}
 
 -- The first line: where it is not found, no table's text stands.
-pub no-opening : (text : List ℕ) (d : Equation) → d ≡ own 0 → unlike ≡ scan opening (drop 0 text) d
+pub no_opening : (text : List ℕ) (d : Equation) → d ≡ own 0 → unlike ≡ scan opening text d
     → (t : List ℕ) (m : ℕ) → Proposed text t m → ⊥
 unfolding closed absent
-no-opening text d e h t m s =
+no_opening text d e h t m s =
     let a : text ≡ render (own 0) opening ++ (lines t m ++ foot m) =
     sym s.says ∙ after-let t m ∙ rw (opening-text (own 0)) in
     let b = own-small 0 (omega arith) in
@@ -35,7 +36,7 @@ no-opening text d e h t m s =
     let f : unlike ≡ scan opening text (own 0) = h ∙ ap (scan opening text) e in
     unlike-scanned (f ∙ c)
 
-pub opening-found : (text : List ℕ) (p : ℕ) (d e : Equation) → scanned e (drop p text) ≡ scan opening (drop 0 text) d
+opening-found : (text : List ℕ) (p : ℕ) (d e : Equation) → scanned e (drop p text) ≡ scan opening text d
     → text ≡ opening ++ drop p text
 unfolding once
 opening-found text p d e h = scanned-text opening text (drop p text) d e refl h ∙ rw (opening-text e)
@@ -53,8 +54,12 @@ last-agrees n = record { kinds = refl; others = others }
     others x is_b e = absurd (false-true e)
     others x is_c e = refl
 
--- The last lines, after all the equations' lines were found.
-module _ {text u : List ℕ} {p n q : ℕ} (start : text ≡ opening ++ drop p text) (w : AllLinesAt text p u n q) where
+-- The last lines, after the first line and all the equations' lines were found.
+module _ {text u : List ℕ} {e₀ : Equation} {p n q : ℕ} (d₀ : Equation)
+    (head : scanned e₀ (drop p text) ≡ scan opening text d₀) (w : AllLinesAt text p u n q) where
+  start : text ≡ opening ++ drop p text
+  start = opening-found text p d₀ e₀ head
+
   -- A table that has the text has n equations, and its last lines stand there.
   reached : (t : List ℕ) (m : ℕ) → Proposed text t m → (n ≡ m) × (drop q text ≡ foot m)
   reached t m s =
@@ -75,58 +80,46 @@ module _ {text u : List ℕ} {p n q : ℕ} (start : text ≡ opening ++ drop p t
       (reached t m s).1 ∙ sym (foot-text m) ∙ sym (append-nil (render (last_two m) closing)) in
       rw a (scans (last_two m) (last-small m v.few) closing [] (own 0) refl (last-agrees m))
 
-  -- They are not there,
-  pub no-closing : (d : Equation) → d ≡ own 0 → unlike ≡ scan closing (drop q text) d
-      → (t : List ℕ) (m : ℕ) → Proposed text t m → ⊥
-  no-closing d e g t m s =
-      let k = last-scans t m s in
-      let f = g ∙ ap (scan closing (drop q text)) e in
-      unlike-scanned (f ∙ k)
+  module _ (d : Equation) (is-own : d ≡ own 0) where
+    -- They are not there,
+    pub no_closing : unlike ≡ scan closing (drop q text) d → (t : List ℕ) (m : ℕ) → Proposed text t m → ⊥
+    no_closing g t m s =
+        let k = last-scans t m s in
+        let f = g ∙ ap (scan closing (drop q text)) is-own in
+        unlike-scanned (f ∙ k)
 
-  -- bytes follow them,
-  pub bytes_left : (d e : Equation) (end : ℕ) → d ≡ own 0 → scanned e (drop end text) ≡ scan closing (drop q text) d
-      → end < length text → (t : List ℕ) (m : ℕ) → Proposed text t m → ⊥
-  bytes_left d e end h g l t m s =
-      let k = last-scans t m s in
-      let f = g ∙ ap (scan closing (drop q text)) h in
-      let y : drop end text ≡ [] = cc in
-      omega (arith, length-drop end text, ap length y)
+    module _ (e : Equation) (end : ℕ) (g : scanned e (drop end text) ≡ scan closing (drop q text) d) where
+      -- bytes follow them,
+      pub bytes_left : end < length text → (t : List ℕ) (m : ℕ) → Proposed text t m → ⊥
+      bytes_left l t m s =
+          let k = last-scans t m s in
+          let f = g ∙ ap (scan closing (drop q text)) is-own in
+          let y : drop end text ≡ [] = cc in
+          omega (arith, length-drop end text, ap length y)
 
-  -- they have other numbers,
-  pub other_last : (d e : Equation) (end : ℕ) → d ≡ own 0 → scanned e (drop end text) ≡ scan closing (drop q text) d
-      → ((e.a + closing_count ≡ n) × (e.b + 1 ≡ n) → ⊥) → (t : List ℕ) (m : ℕ) → Proposed text t m → ⊥
-  other_last d e end h g o t m s =
-      let k = last-scans t m s in
-      let f = g ∙ ap (scan closing (drop q text)) h in
-      let y : e ≡ last_two m = cc in
-      let x : e.a ≡ started_of m = ap (λ (z : Equation). z.a) y in
-      let v : e.b ≡ verdict_of m = ap (λ (z : Equation). z.b) y in
-      let same = (reached t m s).0 in
-      let two = s.table.closed in
-      o (omega arith, omega arith)
+      -- they have other numbers,
+      pub other_last : (closing_count ≤ n → e ≡ last_two n → ⊥) → (t : List ℕ) (m : ℕ) → Proposed text t m → ⊥
+      other_last o t m s =
+          let k = last-scans t m s in
+          let f = g ∙ ap (scan closing (drop q text)) is-own in
+          let y : e ≡ last_two m = cc in
+          let same = (reached t m s).0 in
+          o (rw same s.table.closed) (rw same y)
 
-  -- or the text is that of the table.
-  pub proposes : (d e : Equation) (end : ℕ) → scanned e (drop end text) ≡ scan closing (drop q text) d
-      → length text ≤ end → e.a + closing_count ≡ n → e.b + 1 ≡ n → Proposed text u n
-  unfolding text_of once absent render
-  proposes d e end g l o o' = record {
-    table = record { closed = omega arith; few = w.lines_at.few; plain = w.lines_at.plain };
-    says =
-        sym (start ∙ ap (λ (x : List ℕ). opening ++ x) (w.lines_at.says ∙ ap (λ (x : List ℕ). lines u n ++ x) tail));
-  }
-    where
-      started : e.a ≡ started_of n
-      started = omega arith
-
-      verdict : e.b ≡ verdict_of n
-      verdict = omega arith
-
-      same-foot : render e closing ≡ foot n
-      same-foot = rw (started, verdict) (foot-text n)
-
-      tail : drop q text ≡ foot n
-      tail =
-          scanned-text closing (drop q text) (drop end text) d e refl g
-          ∙ ap (λ (x : List ℕ). render e closing ++ x) (drop_of_length-le text l)
-          ∙ append-nil (render e closing)
-          ∙ same-foot
+      -- or the text is that of the table.
+      pub proposes : length text ≤ end → closing_count ≤ n → e ≡ last_two n → Proposed text u n
+      unfolding text_of once absent render
+      proposes l o same = record {
+        table = record { closed = o; few = w.lines_at.few; plain = w.lines_at.plain };
+        says =
+            sym
+            (start ∙ ap (λ (x : List ℕ). opening ++ x) (w.lines_at.says ∙ ap (λ (x : List ℕ). lines u n ++ x) tail));
+      }
+        where
+          tail : drop q text ≡ foot n
+          tail =
+              scanned-text closing (drop q text) (drop end text) d e refl g
+              ∙ ap (λ (x : List ℕ). render e closing ++ x) (drop_of_length-le text l)
+              ∙ append-nil (render e closing)
+              ∙ ap (λ (x : Equation). render x closing) same
+              ∙ foot-text n

@@ -1,19 +1,16 @@
 -- What the readers' answers say of the text. Definitions only; no public contract names them.
-use Rattle.std.specs.Prelude.{cond, List, [], ◌∷◌, ◌++◌, ◌≡◌, ℕ, ◌*◌, ◌≤◌, ◌<◌, drop}
+use Rattle.std.specs.Prelude.{cond, List, [], ◌∷◌, ◌++◌, ◌≡◌, ℕ, ◌*◌, ◌≤◌, ◌<◌, drop, Option, Some, None}
 use Rattle.std.proofs.lemmas.List.Edits.{sets}
 use Rattle.limits.specs.Limits.{equation_limit, last_literal}
 use Rattle.lists.specs.Decimal.{numeral}
-use Rattle.tables.specs.Table.{Equation, equation_at}
+use Rattle.tables.specs.Table.{equation_at}
+use Rattle.tables.specs.declared.Equation.{Equation}
 use Rattle.lustre.specs.Text.{line_rest, line_text, lines, text_of}
 use Rattle.lustre.specs.Read.{Writes}
-use Rattle.lustre.specs.Form.{letter?, put, Plain, PlainTable, NoLine, equation_of}
+use Rattle.lustre.specs.Form.{letter?, put, Plain, PlainTable, NoLine}
 use Rattle.lustre.specs.Scan.{Scanned, after_number, after_byte}
 use Rattle.lustre.specs.Scan.Scanned.{unlike, scanned}
-use Rattle.lustre.specs.declared.Numbers.{Numbers}
-use Rattle.lustre_read.specs.declared.Scan.{Scan}
-use Rattle.lustre_read.specs.declared.Scan.TheVariants.{Unlike, Found}
-use Rattle.lustre_read.specs.declared.Proposal.{Proposal}
-use Rattle.lustre_read.specs.declared.Proposal.TheVariants.{Nothing, Table}
+use Rattle.lustre_read.specs.declared.Found.{Found}
 
 -- One byte of a form.
 unfoldable pub scan_piece : ℕ → List ℕ → Equation → Scanned
@@ -22,9 +19,9 @@ scan_piece x l e =
     (after_byte x l (λ r. scanned e r))
 
 -- What the form scanner's answer says of the text.
-abbrev pub scan_seen : List ℕ → Scan → Scanned
-scan_seen text Unlike = unlike
-scan_seen text (Found e p) = scanned (equation_of e) (drop p text)
+abbrev pub scan_seen : List ℕ → Option Found → Scanned
+scan_seen text None = unlike
+scan_seen text (Some f) = scanned f.numbers (drop f.next text)
 
 -- No equation's text after `fN=` stands at the front.
 abbrev pub NoEnd : List ℕ → Type 0
@@ -35,21 +32,21 @@ pub record EndAt (text : List ℕ) (p : ℕ) (e : Equation) (q : ℕ) : Type 0 w
   pub plain : Plain e
   pub says : drop p text ≡ line_rest e ++ drop q text
 
-abbrev pub end_seen : List ℕ → ℕ → Scan → Type 0
-end_seen text p Unlike = NoEnd (drop p text)
-end_seen text p (Found e q) = EndAt text p (equation_of e) q
+abbrev pub end_seen : List ℕ → ℕ → Option Found → Type 0
+end_seen text p None = NoEnd (drop p text)
+end_seen text p (Some f) = EndAt text p f.numbers f.next
 
 -- The equation's line stands at p with the number i, and q is its end.
 pub record LineAt (text : List ℕ) (p i : ℕ) (e : Equation) (q : ℕ) : Type 0 where
   pub plain : Plain e
   pub says : drop p text ≡ line_text i e ++ drop q text
 
-abbrev pub line_seen : List ℕ → ℕ → ℕ → Scan → Type 0
-line_seen text p i Unlike = NoLine i (drop p text)
-line_seen text p i (Found e q) = LineAt text p i (equation_of e) q
+abbrev pub line_seen : List ℕ → ℕ → ℕ → Option Found → Type 0
+line_seen text p i None = NoLine i (drop p text)
+line_seen text p i (Some f) = LineAt text p i f.numbers f.next
 
 -- The table as four numbers of an equation are stored in it.
-abbrev pub stored : List ℕ → ℕ → Numbers → List ℕ
+abbrev pub stored : List ℕ → ℕ → Equation → List ℕ
 stored t i e = sets t (4 * i) (e.kind ∷ e.a ∷ e.b ∷ e.c ∷ [])
 
 -- The lines of the first n equations of u stand at p, and q is their end.
@@ -68,11 +65,11 @@ pub record Proposed (text u : List ℕ) (n : ℕ) : Type 0 where
   pub table : PlainTable u n
   pub says : text_of u n ≡ text
 
-abbrev pub proposal_seen : List ℕ → List ℕ → Proposal → Type 0
-proposal_seen text u Nothing = (t : List ℕ) (n : ℕ) → Proposed text t n → ⊥
-proposal_seen text u (Table n) = Proposed text u n
+abbrev pub proposal_seen : List ℕ → List ℕ → Option ℕ → Type 0
+proposal_seen text u None = (t : List ℕ) (n : ℕ) → Proposed text t n → ⊥
+proposal_seen text u (Some n) = Proposed text u n
 
 -- The same of a table that is well formed, where there are so many velocities.
-abbrev pub table_seen : ℕ → List ℕ → List ℕ → Proposal → Type 0
-table_seen velocities text u Nothing = (t : List ℕ) (n : ℕ) → Writes velocities t n text → ⊥
-table_seen velocities text u (Table n) = Writes velocities u n text
+abbrev pub table_seen : ℕ → List ℕ → List ℕ → Option ℕ → Type 0
+table_seen velocities text u None = (t : List ℕ) (n : ℕ) → Writes velocities t n text → ⊥
+table_seen velocities text u (Some n) = Writes velocities u n text

@@ -5,135 +5,99 @@
 ghost use Rattle.std.specs.Prelude.{◌≡◌, ◌+◌, ◌*◌, ◌≤◌, ◌<◌, length, drop};
 ghost use Rattle.limits.specs.Limits.{equation_limit, literal_count, velocity_count, table_room};
 ghost use Rattle.lustre.specs.Read.{AfterRead};
-ghost use Rattle.lustre.specs.Form.{equation_of, put};
+ghost use Rattle.lustre.specs.Form.{put};
 ghost use Rattle.lustre.specs.Scan.{scan};
 ghost use Rattle.lustre_read.specs.Inner.{scan_piece, scan_seen, end_seen, line_seen, stored, AllLinesAt};
 ghost use Rattle.lustre_read.specs.Inner.{proposal_seen, table_seen};
 
+use limits::Refusal;
 use lists::{Decimal, read_decimal};
-use lustre::{FORM_COUNT, Loaded, Numbers, all_forms, is_letter, only};
-use tables::{Checked, check_table};
+use lustre::{all_forms, is_letter, last_two, only};
+use tables::{Equation, check_table};
 
-// Whether a form stands in the text, with which numbers, and where it ends.
+// The numbers that a form has in the text, as far as it is read, and where the rest of the text begins.
 #[derive(Clone, Copy)]
-enum Scan {
-    Unlike,
-    Found { numbers: Numbers, next: usize },
+struct Found {
+    numbers: Equation,
+    next: usize,
 }
 
 // The numbers with v where that letter stands.
-fn put_in(e: Numbers, x: u8, v: u32) -> Numbers
-    ensures { equation_of result ≡ put (equation_of e) x v }
+fn put_in(e: Equation, x: u8, v: u32) -> Equation
+    ensures { result ≡ put e x v }
 {
     match x {
-        b'A' => Numbers {
-            kind: e.kind,
-            a: v,
-            b: e.b,
-            c: e.c,
-        },
-        b'B' => Numbers {
-            kind: e.kind,
-            a: e.a,
-            b: v,
-            c: e.c,
-        },
-        _ => Numbers {
-            kind: e.kind,
-            a: e.a,
-            b: e.b,
-            c: v,
-        },
+        b'A' => Equation { a: v, ..e },
+        b'B' => Equation { b: v, ..e },
+        _ => Equation { c: v, ..e },
     }
 }
 
 // A byte of a form, or the number that it stands for.
-fn scan_piece(x: u8, text: &[u8], p: usize, e: Numbers) -> Scan
-    ensures { scan_seen text.now result ≡ scan_piece x (drop p text.now) (equation_of e) }
+#[tactic(auto, using(crate::proofs::Reading::pieces))]
+fn scan_piece(x: u8, text: &[u8], p: usize, e: Equation) -> Option<Found>
+    ensures { scan_seen text.now result ≡ scan_piece x (drop p text.now) e }
 {
     if is_letter(x) {
-        let number = read_decimal(text, p, limits::LAST_LITERAL);
-        return match number {
-            Decimal::Is { value, next } => Scan::Found {
-                numbers: put_in(e, x, value),
-                next,
-            },
-            Decimal::Above { next: _ } => Scan::Unlike,
-            Decimal::Missing => Scan::Unlike,
+        let Decimal::Is { value, next } = read_decimal(text, p, limits::LAST_LITERAL) else {
+            return None;
         };
+        return Some(Found {
+            numbers: put_in(e, x, value),
+            next,
+        });
     }
-    if text.len() <= p {
-        return Scan::Unlike;
+    if *text.get(p)? != x {
+        return None;
     }
-    if text[p] != x {
-        return Scan::Unlike;
-    }
-    Scan::Found {
+    Some(Found {
         numbers: e,
         next: p + 1,
-    }
+    })
 }
 
 // A form at p.
-fn scan_form(form: &[u8], text: &[u8], p: usize, e: Numbers) -> Scan
+#[tactic(auto, using(crate::proofs::Reading::forms))]
+fn scan_form(form: &[u8], text: &[u8], p: usize, e: Equation) -> Option<Found>
     ensures { scan_seen text.now result
-        ≡ scan form.now (drop p text.now) (equation_of e) }
+        ≡ scan form.now (drop p text.now) e }
 {
-    let mut numbers = e;
-    let mut next = p;
-    let mut j = 0;
-    while j < form.len() {
-        let Scan::Found {
-            numbers: m,
-            next: q,
-        } = scan_piece(form[j], text, next, numbers)
-        else {
-            return Scan::Unlike;
-        };
-        numbers = m;
-        next = q;
-        j += 1;
+    let mut found = Found {
+        numbers: e,
+        next: p,
+    };
+    for x in form {
+        found = scan_piece(*x, text, found.next, found.numbers)?;
     }
-    Scan::Found { numbers, next }
+    Some(found)
 }
 
 // What follows `fN=` in a line, at p, of whichever form.
-fn read_end(text: &[u8], p: usize) -> Scan
+fn read_end(text: &[u8], p: usize) -> Option<Found>
     ensures { end_seen text.now p result }
 {
-    let forms = all_forms();
-    let mut f = 0;
-    while f < FORM_COUNT {
-        let form = forms[f];
-        let settled = form.settled;
-        let bytes = form.text;
-        let len = form.len;
-        let s = scan_form(&bytes[..len], text, p, settled);
-        if let Scan::Found { numbers, next } = s {
-            return Scan::Found { numbers, next };
+    for form in all_forms() {
+        if let Some(found) = scan_form(form.text(), text, p, form.settled) {
+            return Some(found);
         }
-        f += 1;
     }
-    Scan::Unlike
+    None
 }
 
 // The line of equation i at p.
-fn read_line(text: &[u8], p: usize, i: usize) -> Scan
+fn read_line(text: &[u8], p: usize, i: usize) -> Option<Found>
     requires { i < equation_limit }
     ensures { line_seen text.now p i result }
 {
-    let s = scan_form(b"fA=", text, p, only(0));
-    let Scan::Found { numbers: own, next } = s else {
-        return Scan::Unlike;
-    };
-    if own.a as usize != i {
-        return Scan::Unlike;
+    let own = scan_form(b"fA=", text, p, only(0))?;
+    if own.numbers.a as usize != i {
+        return None;
     }
-    read_end(text, next)
+    read_end(text, own.next)
 }
 
 // Equation i of the table.
-fn store_equation(table: &mut [u32], i: usize, e: Numbers)
+fn store_equation(table: &mut [u32], i: usize, e: Equation)
     requires { 4 * i + 4 ≤ length table.old }
     ensures { table.new ≡ stored table.old i e }
 {
@@ -146,8 +110,8 @@ fn store_equation(table: &mut [u32], i: usize, e: Numbers)
 // How many equations' lines stand in the text, and where they end.
 #[derive(Clone, Copy)]
 struct Lines {
-    pub n: usize,
-    pub next: usize,
+    n: usize,
+    next: usize,
 }
 
 // The equations' lines from p on, into the table.
@@ -156,90 +120,56 @@ fn read_lines(text: &[u8], p: usize, table: &mut [u32]) -> Lines
     ensures { AllLinesAt text.now p table.new result.n result.next }
 {
     let mut next = p;
-    let mut i = 0;
-    while i < limits::EQUATIONS {
-        let s = read_line(text, next, i);
-        let Scan::Found { numbers, next: q } = s else {
+    for i in 0..limits::EQUATIONS {
+        let Some(line) = read_line(text, next, i) else {
             return Lines { n: i, next };
         };
-        store_equation(table, i, numbers);
-        next = q;
-        i += 1;
+        store_equation(table, i, line.numbers);
+        next = line.next;
     }
-    Lines { n: i, next }
+    Lines {
+        n: limits::EQUATIONS,
+        next,
+    }
 }
 
-// The equations that the text proposes, or none.
-#[derive(Clone, Copy)]
-enum Proposal {
-    Nothing,
-    Table(usize),
-}
-
-// The whole text, into the table.
-fn read_proposal(text: &[u8], table: &mut [u32]) -> Proposal
+// The whole text, into the table: how many equations it proposes, if any.
+fn read_proposal(text: &[u8], table: &mut [u32]) -> Option<usize>
     requires { table_room ≤ length table.old }
     ensures { proposal_seen text.now table.new result }
 {
-    let head = scan_form(b"let\n", text, 0, only(0));
-    let Scan::Found {
-        numbers: _,
-        next: p,
-    } = head
-    else {
-        return Proposal::Nothing;
-    };
-    let lines = read_lines(text, p, table);
-    let n = lines.n;
-    let q = lines.next;
-    let tail = scan_form(b"w=fA;\na=fB;\ntel\n", text, q, only(0));
-    let Scan::Found {
-        numbers: last,
-        next: end,
-    } = tail
-    else {
-        return Proposal::Nothing;
-    };
-    if end < text.len() {
-        return Proposal::Nothing;
+    let head = scan_form(b"let\n", text, 0, only(0))?;
+    let Lines { n, next } = read_lines(text, head.next, table);
+    let tail = scan_form(b"w=fA;\na=fB;\ntel\n", text, next, only(0))?;
+    if tail.next < text.len() {
+        return None;
     }
-    if last.a as usize + tables::CLOSING != n {
-        return Proposal::Nothing;
+    if n < tables::CLOSING || tail.numbers != last_two(n) {
+        return None;
     }
-    if last.b as usize + 1 != n {
-        return Proposal::Nothing;
-    }
-    Proposal::Table(n)
+    Some(n)
 }
 
 // The table whose text this is, if there is one, where there are so many velocities.
-fn read_table(velocities: u32, text: &[u8], table: &mut [u32]) -> Proposal
+fn read_table(velocities: u32, text: &[u8], table: &mut [u32]) -> Option<usize>
     requires { (velocities ≤ literal_count) × (table_room ≤ length table.old) }
     ensures { table_seen velocities text.now table.new result }
 {
-    let proposal = read_proposal(text, table);
-    let Proposal::Table(n) = proposal else {
-        return Proposal::Nothing;
-    };
-    let Checked::Passed = check_table(velocities, table, n) else {
-        return Proposal::Nothing;
-    };
-    Proposal::Table(n)
+    let n = read_proposal(text, table)?;
+    check_table(velocities, table, n).ok()?;
+    Some(n)
 }
 
 // Reads Lustre text into a table (SPEC 8.7). The text is read into a table of its own first, so that a refusal changes
 // nothing (SPEC 1.4).
-pub fn read_lustre(text: &[u8], table: &mut [u32]) -> Loaded
+pub fn read_lustre(text: &[u8], table: &mut [u32]) -> Result<usize, Refusal>
     ensures { AfterRead velocity_count text.now table.old result table.new }
 {
     let mut own = [0u32; limits::TABLE];
-    let found = read_table(limits::VELOCITIES, text, &mut own);
-    let Proposal::Table(n) = found else {
-        return Loaded::Refused(16);
-    };
+    let n = read_table(limits::VELOCITIES, text, &mut own).ok_or(Refusal::NoTable)?;
     if table.len() < limits::TABLE {
-        return Loaded::Refused(9);
+        return Err(Refusal::ShortTable);
     }
     lists::copy(&own, 4 * n, table);
-    Loaded::Equations(n)
+    Ok(n)
 }

@@ -1,24 +1,24 @@
 -- Texts placed in a buffer, one after the other, each in the unfilled tail that the one before left. Assumes nothing.
 use mathlib.Core.Path.{◌≡◌, refl, ◌∙◌, sym, ap}
-use mathlib.Core.Bool.{true, false}
 use mathlib.Core.List.{List, [], ◌∷◌, ◌++◌, append_assoc, append-nil}
 use Prim.Native.Nat.{ℕ, suc, ◌+◌, ◌*◌, ◌-◌, ◌/◌, ◌%◌, ◌≤◌, ◌<◌, min}
 use native.Mathlib.Omega.{arith}
 use native.Mathlib.Nat.{add-zero, zero-add, suc-add}
 use native.Mathlib.Numerals.{add-one}
 use native.Mathlib.Decide.{dec_le}
-use lib.ListN.{length, take, drop, set, get_or, length-append, length-set, take-append-drop}
-use lib.Seq.{sets, length-sets, take-suc, take-length, drop-length, length-take-le, take_all}
+use lib.ListN.{length, take, drop, set, get_or, length-append, take-append-drop}
+use lib.Seq.{sets, take-suc, take-length, drop-length, length-take-le}
 use borrow.Author.Rules.{part_to_end}
 use borrow.Rule.Slice.PartMut.{Post-is}
 use Rattle.lists.specs.Decimal.{digit}
 use Rattle.lists.proofs.Buffers.{sets-append, sets-out}
-use Rattle.tables.specs.Table.{Equation, equation_at}
+use Rattle.tables.specs.Table.{equation_at}
 use Rattle.lustre.specs.Numerals.{number_text}
 use Rattle.lustre.specs.Text.{line_text, lines}
-use Rattle.lustre.specs.Form.{letter?, slot, piece, render, form_width}
-use Rattle.lustre_write.specs.Placed.{Placed, piece_room, form_room, line_room}
+use Rattle.lustre.specs.Form.{piece, render}
+use Rattle.lustre_write.specs.Placed.{Placed, piece_room, line_room}
 use Rattle.lustre.proofs.Numerals.{digits-one, digits_more, digits-short}
+use Rattle.tables.specs.declared.Equation.{Equation}
 
 -- What stands before is kept.
 sets-cons : (p : ℕ) (xs l : List ℕ) (i : ℕ) → sets (p ∷ l) (suc i) xs ≡ p ∷ sets l i xs
@@ -70,12 +70,8 @@ joined {l} {l'} {xs} {ys} {b} {m} {p} {r} {k} q w eq v = record {
 }
 
 -- The same of a text that is equal.
-pub placed-as : {l : ℕ} {xs ys b a : List ℕ} {r : ℕ} → xs ≡ ys → Placed l xs b a r → Placed l ys b a r
-placed-as e w = rw e at w
-
--- A buffer keeps its length.
-pub placed-length : {l : ℕ} {t b a : List ℕ} {r : ℕ} → Placed l t b a r → length a ≡ length b
-placed-length {t} {b} w = ap length w.buffer ∙ length-sets b 0 t
+pub placed_as : {l : ℕ} {xs ys b a : List ℕ} {r : ℕ} → xs ≡ ys → Placed l xs b a r → Placed l ys b a r
+placed_as e w = rw e at w
 
 -- A number of one digit, and one of more.
 pub number-one : (x : ℕ) (b a : List ℕ) → x < 10 → a ≡ set b 0 (digit x) → Placed piece_room (number_text x) b a 1
@@ -94,23 +90,10 @@ number_more x r b m a h g w e =
       short = omega (arith, n, digits-short x g);
     }
 
-pub number-length : {l : ℕ} {t b m : List ℕ} {r : ℕ} (a : List ℕ) (i v : ℕ) → Placed l t b m r → a ≡ set m i v
-    → length a ≡ length b
-number-length {t} {b} {m} a i v w f = ap length f ∙ length-set m i v ∙ placed-length w
-
--- One byte of a form: the number of a letter, or the byte itself.
-pub piece-letter : (e : Equation) (x s : ℕ) {b a : List ℕ} {r : ℕ} → letter? x ≡ true → s ≡ slot e x
-    → Placed piece_room (number_text s) b a r → Placed piece_room (piece e x) b a r
-piece-letter e x s h es w = rw (h, ← es) w
-
-pub piece_byte : (e : Equation) (x : ℕ) (b a : List ℕ) → letter? x ≡ false → a ≡ set b 0 x
-    → Placed piece_room (piece e x) b a 1
-piece_byte e x b a h ea = rw h (record { result = refl; buffer = ea; short = omega arith })
-
--- The first j bytes of a form: none, one more, all.
-pub form-none : (e : Equation) (f b : List ℕ) → Placed (piece_room * 0) (render e (take 0 f)) b b 0
+-- The first j bytes of a form: none, one more.
+pub form_none : (e : Equation) (f b : List ℕ) → Placed (piece_room * 0) (render e (take 0 f)) b b 0
 unfolding render
-form-none e f b = record { result = refl; buffer = refl; short = omega arith }
+form_none e f b = record { result = refl; buffer = refl; short = omega arith }
 
 render-append : (e : Equation) (f g : List ℕ) → render e (f ++ g) ≡ render e f ++ render e g
 unfolding render
@@ -122,20 +105,13 @@ render-more : (e : Equation) (f : List ℕ) (j : ℕ) → j < length f
 unfolding render
 render-more e f j h = rw (add-one j, take-suc f j 0 h, render-append, append-nil)
 
-pub form-more : (f : List ℕ) (e : Equation) (x q : ℕ) {b m p : List ℕ} {r j k : ℕ}
+pub form_more : (f : List ℕ) (e : Equation) (x q : ℕ) {b m p : List ℕ} {r j k : ℕ}
     → Placed (piece_room * j) (render e (take j f)) b m r → j < length f → x ≡ get_or f j 0 → q ≡ min r (length m)
     → Placed piece_room (piece e x) (lent m q) p k
     → Placed (piece_room * (j + 1)) (render e (take (j + 1) f)) b (back m q p) (r + k)
-form-more f e x q {b} {m} {p} {r} {j} {k} w h ex eq v =
+form_more f e x q {b} {m} {p} {r} {j} {k} w h ex eq v =
     let n : piece_room * j + piece_room ≡ piece_room * (j + 1) = omega arith in
     rw (render-more e f j h, ← ex, ← n) (joined q w eq v)
-
-pub form-all : (f : List ℕ) (e : Equation) {b a : List ℕ} {r j : ℕ}
-    → Placed (piece_room * j) (render e (take j f)) b a r
-    → length f ≤ j → j ≤ form_width → Placed form_room (render e f) b a r
-form-all f e {b} {a} {r} {j} w h g =
-    let z : take j f ≡ f = take_all j f h in
-    record { result = w.result ∙ rw z; buffer = w.buffer ∙ rw z; short = omega (arith, w.short) }
 
 -- The lines of the first i equations: none, one more.
 pub lines_none : (t b : List ℕ) → Placed 0 (lines t 0) b b 0

@@ -1,2 +1,2 @@
--- That the table of numbers has the scheme's nodes.
+-- That the node of a kind stands at its place of the table.
 pub mod Found

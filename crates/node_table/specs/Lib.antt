@@ -1,2 +1,2 @@
--- The nodes of the observer scheme as numbers.
-pub mod Numbers
+-- The nodes of the observer scheme as the code's table.
+pub mod Table

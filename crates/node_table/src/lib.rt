@@ -1,388 +1,351 @@
-// The nodes of the observer scheme as code (crate scheme, specs/Scheme.antt has them as definitions). A name of a
-// value is a number here, its place in an array of values. The numbers are bytes, since a pass copies the table.
+// The nodes of the observer scheme as code (crate scheme, specs/Scheme.antt has them as definitions).
 #![tactic(auto)]
 
-ghost use Rattle.std.specs.Prelude.{◌≡◌, min};
+ghost use Rattle.std.specs.Prelude.{◌≡◌, map, min};
 ghost use Rattle.scheme.specs.Scheme.{node_count, comparison_of};
-ghost use Rattle.node_table.specs.Numbers.{node_table, kind_by};
+ghost use Rattle.node_table.specs.Table.{scheme_node, node_table, kind_by};
 
-// ---- the names
+use formulas::RecordKind;
 
-// 0.
-const NOUGHT: u8 = 0;
+// What a number of a row stands for: 0; the negated start flow, and the start flow; the flow of the last operand, and
+// of the one before it; the flow of the signal that the record names; the flow of the next test in the table's head;
+// the record's first and last number; the node's own flows.
+#[derive(Clone, Copy)]
+pub enum Name {
+    Nought,
+    Negated,
+    Start,
+    Last,
+    Previous,
+    Signal,
+    Tested,
+    A,
+    C,
+    First,
+    Second,
+    Third,
+    Fourth,
+    Fifth,
+}
 
-// The negated start flow, and the start flow.
-const NEGATED: u8 = 1;
+// How many names there are.
+pub const NAMES: usize = Name::Fifth as usize + 1;
 
-const START: u8 = 2;
+// The kind of a row's equation: always that one, or the comparison that the record asks for.
+#[derive(Clone, Copy)]
+pub enum RowKind {
+    OfKind(u8),
+    Comparison,
+}
 
-// The flow of the last operand, and of the one before it.
-const LAST: u8 = 3;
-
-const PREVIOUS: u8 = 4;
-
-// The flow of the signal that the record names.
-const SIGNAL: u8 = 5;
-
-// The flow of the next test in the table's head.
-const TESTED: u8 = 6;
-
-// The record's first and last number.
-const A: u8 = 7;
-
-const C: u8 = 8;
-
-// The node's own flows.
-const FIRST: u8 = 9;
-
-const SECOND: u8 = 10;
-
-const THIRD: u8 = 11;
-
-const FOURTH: u8 = 12;
-
-const FIFTH: u8 = 13;
-
-// How many names there are; the kind of the record's comparison stands after their values.
-pub const NAMES: usize = FIRST as usize + WIDEST;
-
-// The kind of a row that compares as the record asks: the first number that is of no kind of equation.
-const COMPARISON: u8 = tables::KIND_COUNT as u8;
-
-// ---- the table
+// A row: the kind of an equation, and what its three numbers stand for.
+#[derive(Clone, Copy)]
+pub struct Row {
+    pub kind: RowKind,
+    pub a: Name,
+    pub b: Name,
+    pub c: Name,
+}
 
 // The most rows that a node has.
 const WIDEST: usize = 5;
 
-// A row: the kind of an equation, and the names of its three numbers.
-#[derive(Clone, Copy)]
-pub struct Row(pub u8, pub u8, pub u8, pub u8);
-
-// A node: how many rows it has, and these first among as many as the widest has; how many operands it takes off the
-// stack, how many tests of the table's head are its own, which value it puts on the stack, and which value is the
-// negated start flow from here on.
+// A node: its rows, how many operands it takes off the stack, how many tests of the table's head are its own, which
+// value it puts on the stack, and which value is the negated start flow from here on. The rows stand in an array, not
+// behind a reference: a table of references is writable data, and the archive for C has none (docs/FIRMWARE.md). The
+// numbers are bytes, since a pass copies the table.
 #[derive(Clone, Copy)]
 pub struct Node {
-    pub count: u32,
-    pub rows: [Row; WIDEST],
-    pub takes: u32,
+    pub rows: [Option<Row>; WIDEST],
+    pub takes: u8,
     pub tests: u8,
-    pub result: u8,
-    pub negated: u8,
+    pub result: Name,
+    pub negated: Name,
 }
 
-// Past a node's last row.
-const NO_ROW: Row = Row(0, NOUGHT, NOUGHT, NOUGHT);
+// ---- the table
+
+// A row of that kind with two operands, and with one; the comparison of a count with the record's literal or parameter.
+macro_rules! two {
+    ($kind:ident, $a:ident, $b:ident) => {
+        Some(Row {
+            kind: RowKind::OfKind(tables::Kind::$kind as u8),
+            a: Name::$a,
+            b: Name::$b,
+            c: Name::Nought,
+        })
+    };
+}
+
+macro_rules! one {
+    ($kind:ident, $a:ident) => {
+        two!($kind, $a, Nought)
+    };
+}
+
+macro_rules! comparison {
+    ($a:ident) => {
+        Some(Row {
+            kind: RowKind::Comparison,
+            a: Name::$a,
+            b: Name::A,
+            c: Name::C,
+        })
+    };
+}
 
 // The rows that `kept`, `held` and `lag` share.
-const KEPT_1: Row = Row(tables::BOOLEAN_PRE as u8, THIRD, NOUGHT, NOUGHT);
+const KEPT_1: Option<Row> = one!(BooleanPre, Third);
 
-const KEPT_2: Row = Row(tables::OR as u8, START, FIRST, NOUGHT);
+const KEPT_2: Option<Row> = two!(Or, Start, First);
 
-const KEPT_3: Row = Row(tables::AND as u8, SECOND, LAST, NOUGHT);
+const KEPT_3: Option<Row> = two!(And, Second, Last);
 
 // The rows that `age` and `lag` share.
-const RUN_1: Row = Row(tables::COUNT_PRE as u8, FOURTH, NOUGHT, NOUGHT);
+const RUN_1: Option<Row> = one!(CountPre, Fourth);
 
-const RUN_2: Row = Row(tables::IF as u8, NEGATED, FIRST, NOUGHT);
+const RUN_2: Option<Row> = two!(If, Negated, First);
 
-const RUN_3: Row = Row(tables::CAPPED as u8, SECOND, LAST, NOUGHT);
+const RUN_3: Option<Row> = two!(Capped, Second, Last);
 
-const RUN_4: Row = Row(tables::IF as u8, LAST, THIRD, NOUGHT);
+const RUN_4: Option<Row> = two!(If, Last, Third);
 
 // The nodes. s and n are the start flow and its negation, P the last operand, m a memory.
 
 // A constant.
 const CONSTANT_NODE: Node = Node {
-    count: 1,
-    rows: [
-        Row(tables::CONSTANT as u8, A, NOUGHT, NOUGHT),
-        NO_ROW,
-        NO_ROW,
-        NO_ROW,
-        NO_ROW,
-    ],
+    rows: [one!(Constant, A), None, None, None, None],
     takes: 0,
     tests: 0,
-    result: FIRST,
-    negated: NEGATED,
+    result: Name::First,
+    negated: Name::Negated,
 };
 
 // A signal.
 const SIGNAL_NODE: Node = Node {
-    count: 0,
-    rows: [NO_ROW; WIDEST],
+    rows: [None; WIDEST],
     takes: 0,
     tests: 0,
-    result: SIGNAL,
-    negated: NEGATED,
+    result: Name::Signal,
+    negated: Name::Negated,
 };
 
 // `!`.
 const NOT_NODE: Node = Node {
-    count: 1,
-    rows: [
-        Row(tables::NOT as u8, LAST, NOUGHT, NOUGHT),
-        NO_ROW,
-        NO_ROW,
-        NO_ROW,
-        NO_ROW,
-    ],
+    rows: [one!(Not, Last), None, None, None, None],
     takes: 1,
     tests: 0,
-    result: FIRST,
-    negated: NEGATED,
+    result: Name::First,
+    negated: Name::Negated,
 };
 
 // `&`.
 const AND_NODE: Node = Node {
-    count: 1,
-    rows: [
-        Row(tables::AND as u8, PREVIOUS, LAST, NOUGHT),
-        NO_ROW,
-        NO_ROW,
-        NO_ROW,
-        NO_ROW,
-    ],
+    rows: [two!(And, Previous, Last), None, None, None, None],
     takes: 2,
     tests: 0,
-    result: FIRST,
-    negated: NEGATED,
+    result: Name::First,
+    negated: Name::Negated,
 };
 
 // `|`.
 const OR_NODE: Node = Node {
-    count: 1,
-    rows: [
-        Row(tables::OR as u8, PREVIOUS, LAST, NOUGHT),
-        NO_ROW,
-        NO_ROW,
-        NO_ROW,
-        NO_ROW,
-    ],
+    rows: [two!(Or, Previous, Last), None, None, None, None],
     takes: 2,
     tests: 0,
-    result: FIRST,
-    negated: NEGATED,
+    result: Name::First,
+    negated: Name::Negated,
 };
 
 // `begin`: v = (s and P) or (n and m), m = false -> pre v.
 const BEGIN_NODE: Node = Node {
-    count: 4,
     rows: [
-        Row(tables::BOOLEAN_PRE as u8, FOURTH, NOUGHT, NOUGHT),
-        Row(tables::AND as u8, START, LAST, NOUGHT),
-        Row(tables::AND as u8, NEGATED, FIRST, NOUGHT),
-        Row(tables::OR as u8, SECOND, THIRD, NOUGHT),
-        NO_ROW,
+        one!(BooleanPre, Fourth),
+        two!(And, Start, Last),
+        two!(And, Negated, First),
+        two!(Or, Second, Third),
+        None,
     ],
     takes: 1,
     tests: 0,
-    result: FOURTH,
-    negated: NEGATED,
+    result: Name::Fourth,
+    negated: Name::Negated,
 };
 
 // `end`.
 const END_NODE: Node = Node {
-    count: 0,
-    rows: [NO_ROW; WIDEST],
+    rows: [None; WIDEST],
     takes: 1,
     tests: 0,
-    result: LAST,
-    negated: NEGATED,
+    result: Name::Last,
+    negated: Name::Negated,
 };
 
 // `point`: s and P.
 const POINT_NODE: Node = Node {
-    count: 1,
-    rows: [
-        Row(tables::AND as u8, START, LAST, NOUGHT),
-        NO_ROW,
-        NO_ROW,
-        NO_ROW,
-        NO_ROW,
-    ],
+    rows: [two!(And, Start, Last), None, None, None, None],
     takes: 1,
     tests: 0,
-    result: FIRST,
-    negated: NEGATED,
+    result: Name::First,
+    negated: Name::Negated,
 };
 
 // `held`: the rows of `kept`, and n and m.
 const HELD_NODE: Node = Node {
-    count: 4,
-    rows: [
-        KEPT_1,
-        KEPT_2,
-        KEPT_3,
-        Row(tables::AND as u8, NEGATED, FIRST, NOUGHT),
-        NO_ROW,
-    ],
+    rows: [KEPT_1, KEPT_2, KEPT_3, two!(And, Negated, First), None],
     takes: 1,
     tests: 0,
-    result: FOURTH,
-    negated: NEGATED,
+    result: Name::Fourth,
+    negated: Name::Negated,
 };
 
 // `kept`: k = s or m, m = false -> pre (k and P).
 const KEPT_NODE: Node = Node {
-    count: 3,
-    rows: [KEPT_1, KEPT_2, KEPT_3, NO_ROW, NO_ROW],
+    rows: [KEPT_1, KEPT_2, KEPT_3, None, None],
     takes: 1,
     tests: 0,
-    result: SECOND,
-    negated: NEGATED,
+    result: Name::Second,
+    negated: Name::Negated,
 };
 
 // `len`: c = if n then cap(m, n) else 0, m = 0 -> pre c.
 const LEN_NODE: Node = Node {
-    count: 4,
     rows: [
-        Row(tables::COUNT_PRE as u8, THIRD, NOUGHT, NOUGHT),
-        Row(tables::CAPPED as u8, FIRST, NEGATED, NOUGHT),
-        Row(tables::IF as u8, NEGATED, SECOND, NOUGHT),
-        Row(COMPARISON, THIRD, A, C),
-        NO_ROW,
+        one!(CountPre, Third),
+        two!(Capped, First, Negated),
+        two!(If, Negated, Second),
+        comparison!(Third),
+        None,
     ],
     takes: 0,
     tests: 0,
-    result: FOURTH,
-    negated: NEGATED,
+    result: Name::Fourth,
+    negated: Name::Negated,
 };
 
 // `sum`: c = if n then m else 0, m = 0 -> pre cap(c, P).
 const SUM_NODE: Node = Node {
-    count: 4,
     rows: [
-        Row(tables::COUNT_PRE as u8, THIRD, NOUGHT, NOUGHT),
-        Row(tables::IF as u8, NEGATED, FIRST, NOUGHT),
-        Row(tables::CAPPED as u8, SECOND, LAST, NOUGHT),
-        Row(COMPARISON, SECOND, A, C),
-        NO_ROW,
+        one!(CountPre, Third),
+        two!(If, Negated, First),
+        two!(Capped, Second, Last),
+        comparison!(Second),
+        None,
     ],
     takes: 1,
     tests: 0,
-    result: FOURTH,
-    negated: NEGATED,
+    result: Name::Fourth,
+    negated: Name::Negated,
 };
 
 // `age`: c = if P then cap(r, P) else 0, r = if n then m else 0, m = 0 -> pre c.
 const AGE_NODE: Node = Node {
-    count: 5,
-    rows: [RUN_1, RUN_2, RUN_3, RUN_4, Row(COMPARISON, FOURTH, A, C)],
+    rows: [RUN_1, RUN_2, RUN_3, RUN_4, comparison!(Fourth)],
     takes: 1,
     tests: 0,
-    result: FIFTH,
-    negated: NEGATED,
+    result: Name::Fifth,
+    negated: Name::Negated,
 };
 
 // The run of the P of a `lag` up to one tick ago: r of `age`.
 const RUN_NODE: Node = Node {
-    count: 4,
-    rows: [RUN_1, RUN_2, RUN_3, RUN_4, NO_ROW],
+    rows: [RUN_1, RUN_2, RUN_3, RUN_4, None],
     takes: 1,
     tests: 0,
-    result: SECOND,
-    negated: NEGATED,
+    result: Name::Second,
+    negated: Name::Negated,
 };
 
 // That the Q of a `lag`, P here, holds if it is due; k is the number of the `lag`, r the operand before: (r < k or
 // r <= 0) or P. In `r <= 0` both the comparison and the literal are 0.
 const FINE_NODE: Node = Node {
-    count: 4,
     rows: [
-        Row(COMPARISON, PREVIOUS, A, C),
-        Row(tables::COMPARE_LITERAL as u8, PREVIOUS, NOUGHT, NOUGHT),
-        Row(tables::OR as u8, FIRST, SECOND, NOUGHT),
-        Row(tables::OR as u8, THIRD, LAST, NOUGHT),
-        NO_ROW,
+        comparison!(Previous),
+        one!(CompareLiteral, Previous),
+        two!(Or, First, Second),
+        two!(Or, Third, Last),
+        None,
     ],
     takes: 2,
     tests: 0,
-    result: FOURTH,
-    negated: NEGATED,
+    result: Name::Fourth,
+    negated: Name::Negated,
 };
 
 // That this was so at each tick, the present one too: the rows of `kept`, of which the third is the result.
 const ALWAYS_NODE: Node = Node {
-    count: 3,
-    rows: [KEPT_1, KEPT_2, KEPT_3, NO_ROW, NO_ROW],
+    rows: [KEPT_1, KEPT_2, KEPT_3, None, None],
     takes: 1,
     tests: 0,
-    result: THIRD,
-    negated: NEGATED,
+    result: Name::Third,
+    negated: Name::Negated,
 };
 
 // The end of a lead P: n and pre(P) and not P, and its negation. The present start waits on the stack.
 const LEAD_END_NODE: Node = Node {
-    count: 5,
     rows: [
-        Row(tables::BOOLEAN_PRE as u8, LAST, NOUGHT, NOUGHT),
-        Row(tables::NOT as u8, LAST, NOUGHT, NOUGHT),
-        Row(tables::AND as u8, NEGATED, FIRST, NOUGHT),
-        Row(tables::AND as u8, THIRD, SECOND, NOUGHT),
-        Row(tables::NOT as u8, FOURTH, NOUGHT, NOUGHT),
+        one!(BooleanPre, Last),
+        one!(Not, Last),
+        two!(And, Negated, First),
+        two!(And, Third, Second),
+        one!(Not, Fourth),
     ],
     takes: 1,
     tests: 0,
-    result: NEGATED,
-    negated: FIFTH,
+    result: Name::Negated,
+    negated: Name::Fifth,
 };
 
 // `then`: running r = n and (s' or pre r); r and P. The start that waited is back.
 const THEN_NODE: Node = Node {
-    count: 4,
     rows: [
-        Row(tables::BOOLEAN_PRE as u8, THIRD, NOUGHT, NOUGHT),
-        Row(tables::OR as u8, START, FIRST, NOUGHT),
-        Row(tables::AND as u8, PREVIOUS, SECOND, NOUGHT),
-        Row(tables::AND as u8, THIRD, LAST, NOUGHT),
-        NO_ROW,
+        one!(BooleanPre, Third),
+        two!(Or, Start, First),
+        two!(And, Previous, Second),
+        two!(And, Third, Last),
+        None,
     ],
     takes: 2,
     tests: 0,
-    result: FOURTH,
-    negated: PREVIOUS,
+    result: Name::Fourth,
+    negated: Name::Previous,
 };
 
 // A velocity test.
 const VELOCITY_NODE: Node = Node {
-    count: 0,
-    rows: [NO_ROW; WIDEST],
+    rows: [None; WIDEST],
     takes: 0,
     tests: 1,
-    result: TESTED,
-    negated: NEGATED,
+    result: Name::Tested,
+    negated: Name::Negated,
 };
 
 // The whole rule: started = s or pre started; verdict = started and P.
 const WHOLE_NODE: Node = Node {
-    count: 3,
     rows: [
-        Row(tables::BOOLEAN_PRE as u8, SECOND, NOUGHT, NOUGHT),
-        Row(tables::OR as u8, START, FIRST, NOUGHT),
-        Row(tables::AND as u8, SECOND, LAST, NOUGHT),
-        NO_ROW,
-        NO_ROW,
+        one!(BooleanPre, Second),
+        two!(Or, Start, First),
+        two!(And, Second, Last),
+        None,
+        None,
     ],
     takes: 1,
     tests: 0,
-    result: THIRD,
-    negated: NEGATED,
+    result: Name::Third,
+    negated: Name::Negated,
 };
 
 // Past the last kind.
 const NO_NODE: Node = Node {
-    count: 0,
-    rows: [NO_ROW; WIDEST],
+    rows: [None; WIDEST],
     takes: 0,
     tests: 0,
-    result: NOUGHT,
-    negated: NOUGHT,
+    result: Name::Nought,
+    negated: Name::Nought,
 };
 
 // The place past the last kind's, and how many places there are.
-const NONE: usize = formulas::WHOLE as usize + 1;
+const NONE: usize = RecordKind::Whole as usize + 1;
 
 pub const PLACES: usize = NONE + 1;
 
@@ -413,7 +376,7 @@ const NODES: [Node; PLACES] = [
 
 // All of them: a copy, of which a pass takes one.
 pub fn all_nodes() -> [Node; PLACES]
-    ensures { result ≡ node_table }
+    ensures { map scheme_node result ≡ node_table }
 {
     NODES
 }
@@ -422,20 +385,18 @@ pub fn all_nodes() -> [Node; PLACES]
 pub fn place_of(k: u32) -> usize
     ensures { result ≡ min k node_count }
 {
-    let i = k as usize;
-    if i < NONE { i } else { NONE }
+    (k as usize).min(NONE)
 }
 
 // ---- kinds
 
 // The kind of a row's equation, where `comparison` is the kind that the record asks for.
-pub fn kind_by(comparison: u32, k: u8) -> u32
-    ensures { result ≡ kind_by comparison k }
+pub fn kind_by(comparison: u32, kind: RowKind) -> u32
+    ensures { result ≡ kind_by comparison kind }
 {
-    if k == COMPARISON {
-        comparison
-    } else {
-        k as u32
+    match kind {
+        RowKind::OfKind(k) => u32::from(k),
+        RowKind::Comparison => comparison,
     }
 }
 
@@ -444,7 +405,8 @@ pub fn comparison_of(b: u32) -> u32
     ensures { result ≡ comparison_of b }
 {
     if b == formulas::LITERAL {
-        return tables::COMPARE_LITERAL;
+        tables::Kind::CompareLiteral as u32
+    } else {
+        tables::Kind::CompareParameter as u32
     }
-    tables::COMPARE_PARAMETER
 }

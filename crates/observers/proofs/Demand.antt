@@ -18,9 +18,9 @@ use Rattle.formulas.specs.Bounds.{bounded}
 use Rattle.formulas.specs.Raw.{raw}
 use Rattle.formulas.proofs.Formulas.{formula-raw}
 use Rattle.grammar.proofs.Theorems.{rule-size}
-use Rattle.tables.specs.Table.{Equation}
 use Rattle.limits.specs.Limits.{arena_limit, literal_count, standard_cap, table_room, rule_equations}
 use Rattle.limits.specs.declared.Context.{Context}
+use Rattle.limits.specs.declared.Refusal.{Refusal}
 use Rattle.scheme.specs.Emit.{observer, numbers_of}
 use Rattle.agreement.specs.Agreement.{Closing, ExactMemories, Observes}
 use Rattle.agreement.proofs.Theorem.{observes, closing}
@@ -36,8 +36,10 @@ use Rattle.rules.proofs.Theorems.{has-outcome, accepted, has-formula, has-bounds
 use Rattle.observers.specs.Compile.{after_compile, compiled, of_outcome, observer_of, stored}
 use Rattle.observers.specs.Demand.{Compiles}
 use Rattle.observers.specs.Demand.Compiles.{observed}
-use Rattle.observers.specs.declared.Compiled.TheVariants.{Equations, Refused}
 use Rattle.observers.proofs.Widest.{rule-equations}
+use Rattle.std.specs.Prelude.{Ok, Err}
+use Rattle.limits.specs.declared.Refusal.TheVariants.{ShortTable}
+use Rattle.tables.specs.declared.Equation.{Equation}
 
 -- What is known of a rule that is read: its formula, and what the observer theorem asks of it.
 pub record Known (context : Context) (t : Tree) : Type 0 where
@@ -101,18 +103,19 @@ has-rule {context} {text} e = subst (HasOutcome context text) e (has-outcome con
 
 module _ (context : Context) (text before : List ℕ) where
   -- A text that is refused.
-  pub refused-compiled : (n : ℕ) → rule_of context text ≡ refused n
-      → after_compile (Refused n) before ≡ compiled context text before
+  pub refused-compiled : {r : Refusal} → rule_of context text ≡ refused r
+      → after_compile (Err r) before ≡ compiled context text before
   unfolding compiled
-  refused-compiled n e = sym (ap (λ (o : Outcome). of_outcome o before) e)
+  refused-compiled e = sym (ap (λ (o : Outcome). of_outcome o before) e)
 
   module _ (t : Tree) (e : rule_of context text ≡ rule t) where
     -- Too short a table.
-    pub short-compiled : length before < table_room → after_compile (Refused 9) before ≡ compiled context text before
+    pub short-compiled : length before < table_room
+        → after_compile (Err ShortTable) before ≡ compiled context text before
     unfolding compiled
     short-compiled h =
         sym (ap (λ (o : Outcome). of_outcome o before) e
-        ∙ ap (λ (b : Bool). cond b (after_compile (Refused 9) before) (stored (observer_of (formula_of t)) before))
+        ∙ ap (λ (b : Bool). cond b (after_compile (Err ShortTable) before) (stored (observer_of (formula_of t)) before))
         (lt-ltb _ _ h))
 
     -- Long enough a table, with the observer es of the formula f at its front.
@@ -122,8 +125,8 @@ module _ (context : Context) (text before : List ℕ) where
       room-compiled es same =
           ap (λ (x : List Equation). stored x before) (sym same)
           ∙ sym (ap (λ (o : Outcome). of_outcome o before) e
-          ∙ ap (λ (b : Bool). cond b (after_compile (Refused 9) before) (stored (observer_of (formula_of t)) before))
-          (le-ltb _ _ room)
+          ∙ ap (λ (b : Bool). cond b (after_compile (Err ShortTable) before)
+          (stored (observer_of (formula_of t)) before)) (le-ltb _ _ room)
           ∙ ap (λ (x : Option Formula). stored (observer_of x) before) is)
 
       pub room-compiles : (es : List Equation) → length es ≤ rule_equations
@@ -131,7 +134,7 @@ module _ (context : Context) (text before : List ℕ) where
           → ((rest : List ℕ) → Observes standard_cap context.velocities (numbers_of es ++ rest) (length es) f)
           → ((rest : List ℕ) → ExactMemories (numbers_of es ++ rest) (length es) t)
           → ((rest : List ℕ) → Closing (numbers_of es ++ rest) (length es))
-          → Compiles context text before (Equations (length es)) (sets before 0 (numbers_of es))
+          → Compiles context text before (Ok (length es)) (sets before 0 (numbers_of es))
       room-compiles es few front h exact ends =
           let size = 4 * length es in
           let others = drop size before in
@@ -149,17 +152,17 @@ module _ (context : Context) (text before : List ℕ) where
 pub emitted-rule : (context : Context) → Ranged context → (text before : List ℕ) (t : Tree)
     → rule_of context text ≡ rule t → table_room ≤ length before
     → (arena : List ℕ) (r : ℕ) (after : List ℕ) → arena ≡ flat t → Emitted arena before after r
-    → (after_compile (Equations r) after ≡ compiled context text before)
-    × Compiles context text before (Equations r) after
+    → (after_compile (Ok r) after ≡ compiled context text before)
+    × Compiles context text before (Ok r) after
 emitted-rule context ranged text before t e room arena r after same h =
     let k = known context ranged text t e in
     let f = k.formula in
     let records : arena ≡ flat (raw f) = same ∙ ap flat k.tree in
     let many = h.many f records in
     let written = h.written f records in (
-      ap₂ (λ (n : ℕ) (l : List ℕ). after_compile (Equations n) l) many written
+      ap₂ (λ (n : ℕ) (l : List ℕ). after_compile (Ok n) l) many written
           ∙ room-compiled context text before t e f k.is room (observer f) refl,
-      subst₂ (λ (n : ℕ) (l : List ℕ). Compiles context text before (Equations n) l) (sym many) (sym written)
+      subst₂ (λ (n : ℕ) (l : List ℕ). Compiles context text before (Ok n) l) (sym many) (sym written)
           (room-compiles context text before t e f k.is room (observer f)
           (rule-equations context text t f ((accepted context text t).0 e) k.is)
           (observer-front f before (observer-size f (small-raw k)) room)

@@ -7,15 +7,14 @@ use Prim.Native.Nat.{ℕ, zero, suc}
 use Rattle.traces.specs.declared.Tick.{Tick}
 use Rattle.traces.specs.Trace.{Trace}
 use Rattle.traces.specs.Parameters.{parameters_fit, with_parameters, run_with}
-use Rattle.tables.specs.declared.Checked.{Checked}
-use Rattle.tables.specs.declared.Checked.TheVariants.{Passed, Refused as Failed}
+use Rattle.tables.specs.Table.{Checked}
 use Rattle.flows.specs.Run.{Call, call_with, call_checked, admits}
-use Rattle.flows.specs.declared.Stepped.{Stepped}
-use Rattle.flows.specs.declared.Stepped.TheVariants.{Verdict, Refused}
+use Rattle.flows.specs.Step.{Stepped}
 use Rattle.flows.proofs.Expected.{admitted, expected}
 use Rattle.agreement.specs.Agreement.{SameParameters, trace_of_ticks}
 use Rattle.agreement.specs.Agreement.SameParameters.{none, more}
 use Rattle.agreement.proofs.Calls.{same_at}
+use Rattle.std.specs.Prelude.{Ok, Err}
 
 module _ (cap velocities n : ℕ) where
   -- The ticks of calls with these parameters have them;
@@ -27,8 +26,8 @@ module _ (cap velocities n : ℕ) where
       go : (c : Checked) → admits cap velocities n (call_with ps x) ≡ c
           → SameParameters ps (admitted cap velocities n (map (call_with ps) xs))
           → SameParameters ps (admitted cap velocities n (call_with ps x ∷ map (call_with ps) xs))
-      go Passed e rest = rw e (more refl rest)
-      go (Failed r) e rest = rw e rest
+      go (Ok tt) e rest = rw e (more refl rest)
+      go (Err r) e rest = rw e rest
 
   pub own-trace : (ps : List ℕ) (xs : List Call) →
       let ks : List Tick = admitted cap velocities n (map (call_with ps) xs) in
@@ -57,9 +56,9 @@ module _ (cap velocities n : ℕ) where
             ≡ map (with_parameters qs) (admitted cap velocities n (map (call_with ps) l))
 
         go : (c : Checked) → admits cap velocities n (call_with ps x) ≡ c → Alike xs → Alike (x ∷ xs)
-        go Passed e rest =
+        go (Ok tt) e rest =
             rw (admits-alike x, e) (ap (λ (l : List Tick). with_parameters qs x.tick ∷ l) rest)
-        go (Failed r) e rest = rw (admits-alike x, e) rest
+        go (Err r) e rest = rw (admits-alike x, e) rest
 
     -- and so is their trace.
     with-trace : (ks : List Tick) (i : ℕ)
@@ -88,5 +87,5 @@ module _ (cap velocities n : ℕ) where
             expected cap velocities n v i (map (call_with ps) l) ≡ expected cap velocities n w i (map (call_with qs) l)
 
         go : (c : Checked) → admits cap velocities n (call_with ps x) ≡ c → ((i : ℕ) → Same i xs) → Same k (x ∷ xs)
-        go Passed e rest = rw (admits-alike x, e, h k) (ap (λ (l : List Stepped). Verdict (w k) ∷ l) (rest (suc k)))
-        go (Failed r) e rest = rw (admits-alike x, e) (ap (λ (l : List Stepped). Refused r ∷ l) (rest k))
+        go (Ok tt) e rest = rw (admits-alike x, e, h k) (ap (λ (l : List Stepped). Ok (w k) ∷ l) (rest (suc k)))
+        go (Err r) e rest = rw (admits-alike x, e) (ap (λ (l : List Stepped). Err r ∷ l) (rest k))

@@ -24,8 +24,8 @@ use Rattle.rules.specs.Limits.{deep, counted, operator_count}
 use Rattle.rules.specs.Reading.Outcome.{rule}
 use Rattle.rules.specs.Computed.{rule_of}
 use Rattle.observers.specs.Compile.{AfterCompile, compiled}
-use Rattle.observers.specs.declared.Compiled.TheVariants.{Equations}
 use Rattle.observers.proofs.Demand.{room-compiled}
+use Rattle.std.specs.Prelude.{Ok}
 
 -- n times the same text.
 abbrev times : ℕ → List ℕ → List ℕ
@@ -58,9 +58,9 @@ is_read = refl
 
 -- Compiled into a table that is long enough, it has as many equations.
 pub widest-reached : (table : List ℕ) → table_room ≤ length table
-    → (compiled standard_context widest_text table).answer ≡ Equations rule_equations
+    → (compiled standard_context widest_text table).answer ≡ Ok rule_equations
 widest-reached table room =
     let counted : length (observer formula) ≡ rule_equations = refl in
     let stores =
     room-compiled standard_context widest_text table (raw formula) is_read formula refl room (observer formula) refl in
-    sym (ap (λ (x : AfterCompile). x.answer) stores) ∙ ap Equations counted
+    sym (ap (λ (x : AfterCompile). x.answer) stores) ∙ ap Ok counted

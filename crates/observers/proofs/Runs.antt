@@ -14,19 +14,20 @@ use Rattle.formulas.specs.Raw.{raw}
 use Rattle.formulas.specs.Tree.{formula_of}
 use Rattle.formulas.specs.Trials.{Trial, trials, ticks_in}
 use Rattle.formulas.proofs.Trials.{through}
-use Rattle.tables.specs.Table.{Equation, kind_of, shape_of, same_sort, is_flow, operand_fits, shape_fits, length_fits}
+use Rattle.tables.specs.Table.{kind_of, shape_of, same_sort, is_flow, operand_fits, shape_fits, length_fits}
 use Rattle.tables.specs.Table.{equations_fit, closes, all, checked, is_memory}
 use Rattle.flows.specs.Flow.{increased, value_of, flows, answer_of, memories_set, initial, in_range}
 use Rattle.flows.specs.Step.{freshened, fresh_checked, stepped, step_checked, after_tick, cell_fits}
 use Rattle.flows.specs.Run.{Call, steps, from_fresh, answered}
-use Rattle.flows.specs.declared.Stepped.{Stepped}
-use Rattle.flows.specs.declared.Stepped.TheVariants.{Verdict}
+use Rattle.flows.specs.Step.{Stepped}
 use Rattle.scheme.specs.Emit.{numbers_of}
 use Rattle.rules.specs.Reading.{Outcome}
 use Rattle.rules.specs.Reading.Outcome.{refused, rule}
 use Rattle.rules.specs.Computed.{rule_of}
 use Rattle.rules.proofs.Runs.{trials-read}
 use Rattle.observers.specs.Compile.{observer_of}
+use Rattle.std.specs.Prelude.{Ok}
+use Rattle.tables.specs.declared.Equation.{Equation}
 
 -- The equations of a row's rule; none if it were refused.
 abbrev equations_of : Outcome → List Equation
@@ -46,7 +47,7 @@ answers_of es r =
 
 -- The tables of the rows' formulas.
 tables-ran : map (λ (r : Trial). answers_of (observer_of (formula_of (raw r.formula))) r) trials
-    ≡ map (λ (r : Trial). map Verdict r.verdicts) trials
+    ≡ map (λ (r : Trial). map Ok r.verdicts) trials
 unfolding steps freshened fresh_checked stepped step_checked after_tick parameter_fits cell_fits increased value_of
     flows
     is_memory memories_set initial in_range kind_of shape_of same_sort is_flow operand_fits shape_fits length_fits
@@ -55,7 +56,7 @@ unfolding steps freshened fresh_checked stepped step_checked after_tick paramete
 tables-ran = refl
 
 pub runs : map (λ (r : Trial). answers_of (equations_of (rule_of standard_context (bytes r.text))) r) trials
-    ≡ map (λ (r : Trial). map Verdict r.verdicts) trials
+    ≡ map (λ (r : Trial). map Ok r.verdicts) trials
 runs =
     through (λ r. rule_of standard_context (bytes r.text)) (λ r. rule (raw r.formula))
     (λ o r. answers_of (equations_of o) r) trials trials-read

@@ -13,8 +13,8 @@ use Rattle.formulas.specs.Meaning.{verdict}
 use Rattle.formulas.specs.Tree.{Tree, formula_of}
 use Rattle.limits.specs.Limits.{standard_cap, table_room, rule_equations}
 use Rattle.limits.specs.declared.Context.{Context}
+use Rattle.limits.specs.declared.Refusal.{Refusal}
 use Rattle.traces.specs.Trace.{Trace}
-use Rattle.tables.specs.Table.{Equation}
 use Rattle.traces.specs.Parameters.{parameters_fit}
 use Rattle.flows.specs.Run.{Call, call_with, from_fresh, answered}
 use Rattle.flows.proofs.Expected.{admitted}
@@ -32,14 +32,15 @@ use Rattle.rules.specs.Same.{SameRule}
 use Rattle.observers.specs.Compile.{AfterCompile, after_compile, stored, compiled}
 use Rattle.observers.specs.Demand.{Compiles}
 use Rattle.observers.specs.Demand.Compiles.{not-read, no_room, observed}
-use Rattle.observers.specs.declared.Compiled.{Compiled}
-use Rattle.observers.specs.declared.Compiled.TheVariants.{Equations, Refused}
+use Rattle.observers.specs.Demand.{Compiled}
 use Rattle.observers.proofs.Demand.{room-compiled}
 use Rattle.observers.proofs.Own.{own, own-trace, second-trace, expected-alike}
+use Rattle.std.specs.Prelude.{Ok, Err}
+use Rattle.tables.specs.declared.Equation.{Equation}
 
 -- A refusal has no equations.
-pub refused-equations : {r n : ℕ} → Refused r ≡ Equations n → ⊥
-refused-equations e = let z : ◌≡◌ {A = ℕ} 0 1 = cc in omega arith
+pub refused-equations : {r : Refusal} {n : ℕ} → Err r ≡ Ok n → ⊥
+refused-equations e = cc
 
 module _ (context : Context) where
   abbrev velocities : ℕ
@@ -60,7 +61,7 @@ module _ (context : Context) where
     observes : Fronts after n formula
 
   left : (text before : List ℕ) (n : ℕ) (after : List ℕ) (r : Compiled) → Compiles context text before r after
-      → r ≡ Equations n → Left text before n after
+      → r ≡ Ok n → Left text before n after
   left text before n after r (not-read e) q = absurd (refused-equations q)
   left text before n after r (no_room e h) q = absurd (refused-equations q)
   left text before n after r (observed {n = m} {after = l} {t} {f} e is room few same rest h exact ends) q =
@@ -77,20 +78,20 @@ module _ (context : Context) where
 
   -- The equations are the observer of the formula, where what was left is what is computed.
   module _ {text before : List ℕ} {n : ℕ} {after : List ℕ} (l : Left text before n after)
-      (c : after_compile (Equations n) after ≡ compiled context text before) where
+      (c : after_compile (Ok n) after ≡ compiled context text before) where
     abbrev rows : List Equation
     rows = observer l.formula
 
-    whole : after_compile (Equations n) after ≡ stored rows before
+    whole : after_compile (Ok n) after ≡ stored rows before
     whole =
         c ∙ sym (room-compiled context text before l.tree (computed context text l.is_read) l.formula
         l.is-formula l.room rows refl)
 
     many : n ≡ length rows
-    many = number_of (ap (λ (x : AfterCompile). x.answer) whole)
+    many = number_of refl refl (ap (λ (x : AfterCompile). x.answer) whole)
       where
-        number_of : {x y : ℕ} → Equations x ≡ Equations y → x ≡ y
-        number_of e = cc
+        number_of : {p q : Compiled} {x y : ℕ} → p ≡ Ok x → q ≡ Ok y → p ≡ q → x ≡ y
+        number_of e f g = cc
 
     front : take (4 * n) after ≡ numbers_of rows
     front =
@@ -113,12 +114,12 @@ module _ (context : Context) where
 
     -- Compiled, it has as many equations, and the same ones.
     pub same_tables : (before before' : List ℕ) (n m : ℕ) (t u : List ℕ)
-        → after_compile (Equations n) t ≡ compiled context a before → Compiles context a before (Equations n) t
-        → after_compile (Equations m) u ≡ compiled context b before' → Compiles context b before' (Equations m) u
+        → after_compile (Ok n) t ≡ compiled context a before → Compiles context a before (Ok n) t
+        → after_compile (Ok m) u ≡ compiled context b before' → Compiles context b before' (Ok m) u
         → (n ≡ m) × (take (4 * n) t ≡ take (4 * m) u)
     same_tables before before' n m t u c h c' h' =
-        let x = left a before n t (Equations n) h refl in
-        let y = left b before' m u (Equations m) h' refl in
+        let x = left a before n t (Ok n) h refl in
+        let y = left b before' m u (Ok m) h' refl in
         let both = formulas x y in (
           many x c ∙ ap (λ (g : Formula). length (observer g)) both ∙ sym (many y c'),
           front x c ∙ ap (λ (g : Formula). numbers_of (observer g)) both ∙ sym (front y c'),
@@ -150,14 +151,14 @@ module _ (context : Context) where
 
     -- Two tables of as many equations, compiled of the one text and of the other: over every list of calls, each side
     -- with its own parameters, refused ones included, the same answers.
-    pub same-answers : (before before' : List ℕ) (n : ℕ) (t u : List ℕ) → Compiles context a before (Equations n) t
-        → Compiles context b before' (Equations n) u → (rest rest' old old' : List ℕ) → n ≤ length old
+    pub same-answers : (before before' : List ℕ) (n : ℕ) (t u : List ℕ) → Compiles context a before (Ok n) t
+        → Compiles context b before' (Ok n) u → (rest rest' old old' : List ℕ) → n ≤ length old
         → n ≤ length old' → (calls : List Call)
         → answered (from_fresh standard_cap velocities (take (4 * n) t ++ rest) n old (map (call_with ps) calls))
         ≡ answered (from_fresh standard_cap velocities (take (4 * n) u ++ rest') n old' (map (call_with qs) calls))
     same-answers before before' n t u h h' rest rest' old old' room room' calls =
-        let x = left a before n t (Equations n) h refl in
-        let y = left b before' n u (Equations n) h' refl in
+        let x = left a before n t (Ok n) h refl in
+        let y = left b before' n u (Ok n) h' refl in
         let others = map (call_with qs) calls in
         answers-are (x.observes rest) old room (map (call_with ps) calls) ps (own standard_cap velocities n ps calls)
         ∙ expected-alike standard_cap velocities n ps qs fit.0 fit.1 _ _ (one-verdict x y calls) 0 calls
@@ -165,14 +166,14 @@ module _ (context : Context) where
 
     -- So of what compiling leaves of the one text and of the other.
     pub same_runs : (before before' : List ℕ) (n m : ℕ) (t u : List ℕ)
-        → after_compile (Equations n) t ≡ compiled context a before → Compiles context a before (Equations n) t
-        → after_compile (Equations m) u ≡ compiled context b before' → Compiles context b before' (Equations m) u
+        → after_compile (Ok n) t ≡ compiled context a before → Compiles context a before (Ok n) t
+        → after_compile (Ok m) u ≡ compiled context b before' → Compiles context b before' (Ok m) u
         → (rest rest' old old' : List ℕ) → n ≤ length old → m ≤ length old' → (calls : List Call)
         → answered (from_fresh standard_cap velocities (take (4 * n) t ++ rest) n old (map (call_with ps) calls))
         ≡ answered (from_fresh standard_cap velocities (take (4 * m) u ++ rest') m old' (map (call_with qs) calls))
     same_runs before before' n m t u c h c' h' rest rest' old old' room room' calls =
         let numbers : n ≡ m = (same_tables before before' n m t u c h c' h').0 in
-        let second = subst (λ (k : ℕ). Compiles context b before' (Equations k) u) (sym numbers) h' in
+        let second = subst (λ (k : ℕ). Compiles context b before' (Ok k) u) (sym numbers) h' in
         same-answers before before' n t u h second rest rest' old old' room (omega arith) calls
         ∙ ap (λ (k : ℕ). answered (from_fresh standard_cap velocities (take (4 * k) u ++ rest') k old'
         (map (call_with qs) calls))) numbers

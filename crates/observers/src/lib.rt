@@ -6,30 +6,20 @@ ghost use Rattle.limits.specs.Context.{standard_context};
 ghost use Rattle.observers.specs.Compile.{after_compile, compiled};
 ghost use Rattle.observers.specs.Demand.{Compiles};
 
-use rules::Records;
+use limits::Refusal;
 
-// What compiling answers: how many equations the table has, or the refusal's number.
-#[derive(Clone, Copy)]
-pub enum Compiled {
-    Equations(usize),
-    Refused(u32),
-}
-
-// Compile a text: refusals 1 to 8 as reading, 9 where the lent table is too short (SPEC 7.9); otherwise the observer's
-// equations stand at the front of the table, and the rest of it is kept.
-pub fn compile_rule(text: &[u8], table: &mut [u32]) -> Compiled
+// Compile a text: refusals 1 to 8 as reading, 9 where the lent table is too short (SPEC 7.9); otherwise how many
+// equations the observer has. They stand at the front of the table, and the rest of it is kept.
+pub fn compile_rule(text: &[u8], table: &mut [u32]) -> Result<usize, Refusal>
     ensures table_after { after_compile result table.new
         ≡ compiled standard_context text.now table.old }
     ensures compiles { Compiles standard_context text.now table.old result table.new }
 {
     let mut arena = [0u32; limits::ARENA];
-    let records = rules::read_tree(limits::standard(), text, &mut arena);
-    let Records::Rule(size, _) = records else {
-        return Compiled::Refused(rules::records_refusal(records));
-    };
+    let records = rules::read_tree(limits::standard(), text, &mut arena)?;
     if table.len() < limits::TABLE {
-        return Compiled::Refused(9);
+        return Err(Refusal::ShortTable);
     }
-    let n = emitter::emit_observer(&arena[..size], table);
-    Compiled::Equations(n as usize)
+    let n = emitter::emit_observer(&arena[..records.size], table);
+    Ok(n as usize)
 }

@@ -11,12 +11,13 @@ use lib.ListN.{length, set}
 use lib.Seq.{get_or-set_same, get_or-set_other}
 use borrow.Author.Tests.{eq-eqb, ne_eqb}
 use Rattle.lists.specs.Number.{number_at}
-use Rattle.tables.specs.Table.{all, Equation, equation_fits}
+use Rattle.tables.specs.Table.{all, equation_fits}
 use Rattle.packing.specs.Search.{first}
 use Rattle.packing.proofs.Searches.{not-both}
 use Rattle.packing.proofs.Keys.{same_true, true_same}
 use Rattle.packer.specs.Round.{quick_key, same_quick_key, Quick, Chains, head_after, entered_at, Chain}
 use Rattle.packer.proofs.Quick.{key-agree, next-found, next-none}
+use Rattle.tables.specs.declared.Equation.{Equation}
 
 -- A number stored at i keeps those before it.
 pub set-kept : (l : List ℕ) (i v x : ℕ) → x < i → number_at (set l i v) x ≡ number_at l x
@@ -202,21 +203,8 @@ pub record Walked (t : List ℕ) (bucket : Equation → ℕ) (p c : ℕ → ℕ)
 
 module _ {t : List ℕ} {bucket : Equation → ℕ} {p c : ℕ → ℕ} {i : ℕ} {next : ℕ → ℕ} {start : ℕ} (Q : Quick t i p c)
     (C : Chain t bucket p c i next start) where
-  -- No class stands after the start of the chain and has the key.
-  pub walk_none : Walked t bucket p c i start
-  walk_none =
-      record {
-        bound = C.bound;
-        own = C.starts;
-        past = λ y l e u k. let z = C.head y l e (ap bucket k) in omega arith;
-      }
-
   module _ {at x : ℕ} (z : at ≡ suc x) (W : Walked t bucket p c i at) where
-    -- The next place is lower,
-    pub walk-less : next x < at
-    walk-less = omega (arith, C.low x (omega (arith, W.bound)))
-
-    -- and where the equation has another key, the walk goes on there.
+    -- Where the equation has another key, the walk goes on at the next place.
     pub walk_more : same_quick_key t c p i x ≡ false → Walked t bucket p c i (next x)
     walk_more e =
         let l : x < i = omega (arith, W.bound) in

@@ -1,15 +1,14 @@
 -- Buffers whose first n numbers are cleared: their length, their numbers, and one number more. What is stored below n
 -- does not change `cleared n` of a buffer, so where that is one list for two buffers, they have the same numbers from n
 -- on. Assumes nothing.
-use mathlib.Core.Path.{◌≡◌, refl, ◌∙◌, sym, ap}
+use mathlib.Core.Path.{◌≡◌, refl, ◌∙◌, ap}
 use mathlib.Core.List.{List, ◌++◌}
 use Prim.Native.Nat.{ℕ, zero, suc, ◌+◌, ◌-◌, ◌≤◌, ◌<◌}
 use native.Mathlib.Omega.{arith}
 use lib.ListN.{length, set, replicate, take, drop, length-append, length-replicate, length-drop, get_or-replicate}
-use lib.ListN.{get_or-append, replicate-append-replicate}
-use lib.Seq.{sets, append_snoc, set_at, drop_at, drop-set-lt, get_or-append-add, get_or-drop, length-take-le}
+use lib.ListN.{get_or-append}
+use lib.Seq.{drop_at, drop-set-lt, get_or-append-add, get_or-drop, length-take-le}
 use Rattle.lists.specs.Number.{number_at}
-use Rattle.lists.proofs.Buffers.{drop_more, sets-front}
 use Rattle.packer.specs.Round.{cleared}
 use Rattle.packer.specs.Place.{filled}
 
@@ -33,16 +32,6 @@ cleared-beyond n l i h =
     let e' : n + k ≡ i = omega arith in
     ap (number_at (cleared n l)) e ∙ get_or-append-add zeros (drop n l) k 0 ∙ get_or-drop n l k 0 ∙ ap (number_at l) e'
 
--- One more is cleared.
-pub cleared_more : (l : List ℕ) (i : ℕ) → i < length l → set (cleared i l) i 0 ≡ cleared (i + 1) l
-cleared_more l i h =
-    let zeros : List ℕ = replicate i 0 in
-    let rest = drop (i + 1) l in
-    rw (drop_more l i h)
-    (set_at zeros (number_at l i) rest 0 i (length-replicate i 0)
-    ∙ sym (append_snoc zeros 0 rest)
-    ∙ ap (λ (z : List ℕ). z ++ rest) (replicate-append-replicate i 1 0))
-
 -- What stands below n does not matter: one number,
 pub cleared-set : (n : ℕ) (l : List ℕ) (i x : ℕ) → i < n → cleared n (set l i x) ≡ cleared n l
 cleared-set n l i x h = ap (λ (z : List ℕ). replicate n 0 ++ z) (drop-set-lt n l i x h)
@@ -60,9 +49,11 @@ cleared-filled f n l e = rw e (cleared-below f n l n (omega arith))
 cleared-front : (n : ℕ) (front l : List ℕ) → length front ≡ n → cleared n (front ++ drop n l) ≡ cleared n l
 cleared-front n front l e = ap (λ (z : List ℕ). replicate n 0 ++ z) (drop_at front (drop n l) n e)
 
-pub cleared-copy : (n : ℕ) (o l : List ℕ) → n ≤ length l → n ≤ length o
-    → cleared n (sets o 0 (take n l)) ≡ cleared n o
-cleared-copy n o l u v = rw (sets-front o l n u v) (cleared-front n (take n l) o (length-take-le n l u))
+pub cleared-copy : (n : ℕ) (o l : List ℕ) → n ≤ length l → cleared n (take n l ++ drop n o) ≡ cleared n o
+cleared-copy n o l u = cleared-front n (take n l) o (length-take-le n l u)
+
+pub length-copy : (n : ℕ) (o l : List ℕ) → n ≤ length l → n ≤ length o → length (take n l ++ drop n o) ≡ length o
+length-copy n o l u v = simp (length-append, length-drop, length-take-le n l u) (omega arith)
 
 pub cleared-again : (n : ℕ) (l : List ℕ) → cleared n (cleared n l) ≡ cleared n l
 cleared-again n l = cleared-front n (replicate n 0) l (length-replicate n 0)

@@ -14,12 +14,12 @@ use Rattle.traces.specs.Trace.{truth}
 use Rattle.traces.proofs.Laws.{nonzero-truth}
 use Rattle.tables.specs.Table.{equation_at}
 use Rattle.packing.specs.Search.{count}
-use Rattle.packing.specs.Pack.{renamed, classes, kept, numbers, packed_below, packed}
+use Rattle.packing.specs.Pack.{renamed, classes, kept, numbers, packed_below}
 use Rattle.packing.proofs.Searches.{count_none, count-more, count_same, count-le}
 use Rattle.packing.proofs.Result.{kept_more, kept_same, length-packed}
-use Rattle.packer.specs.Round.{key_of, quick_key, Fitted}
+use Rattle.packer.specs.Round.{quick_key, Fitted}
 use Rattle.packer.specs.Place.{Marked, place_at, Placed, numbers_of}
-use Rattle.packer.specs.declared.Key.{Key}
+use Rattle.tables.specs.declared.Equation.{Equation}
 use Rattle.packer.proofs.Quick.{mixed-renamed, key-agree}
 
 -- What is stored of the equations below i.
@@ -65,13 +65,9 @@ module _ (t : List ℕ) (n : ℕ) (F : Fitted t n) (second : List ℕ) where
     pub emit-few : size ≤ i
     emit-few = omega (arith, E.counted, count-le (kept t n) i)
 
-    -- There is room for one more.
-    pub emit-room : 4 * n ≤ length second → i < n → 4 * size + 4 ≤ length now
-    emit-room h l = omega (arith, emit-length, emit-few)
-
     -- It is stored where it is kept,
-    pub emit-more : i < n → kept t n i ≡ true → (places : List ℕ) → Placed t n places → (x : Key)
-        → key_of x ≡ quick_key t (number_at places) (number_at places) i → {then : List ℕ} {size' : ℕ}
+    pub emit-more : i < n → kept t n i ≡ true → (places : List ℕ) → Placed t n places → (x : Equation)
+        → x ≡ quick_key t (number_at places) (number_at places) i → {then : List ℕ} {size' : ℕ}
         → then ≡ sets now (4 * size) (numbers_of x) → size' ≡ size + 1 → Emitting t n second then size' (i + 1)
     emit-more l k places P x e h one =
         let c = classes t n in
@@ -97,6 +93,3 @@ module _ (t : List ℕ) (n : ℕ) (F : Fitted t n) (second : List ℕ) where
           stored = same ∙ E.stored ∙ ap (sets second 0) others ∙ rw (add-one i);
           counted = none ∙ rw (add-one i, E.counted, count_same (kept t n) i k);
         }
-
-    pub emit-all : n ≤ i → now ≡ sets second 0 (packed t n)
-    emit-all h = let e : i ≡ n = omega (arith, E.within) in E.stored ∙ rw e

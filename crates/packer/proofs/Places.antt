@@ -21,7 +21,7 @@ use Rattle.packing.proofs.Classes.{Classes, classes-fit, class-fixed}
 use Rattle.packer.specs.Round.{Fitted}
 use Rattle.packer.specs.Mark.{Named}
 use Rattle.packer.specs.Place.{filled, Marked, place_at}
-use Rattle.packer.proofs.Filled.{length-filled, filled_at, filled-beyond}
+use Rattle.packer.proofs.Filled.{filled_at, filled-beyond}
 
 -- The loop: the first i classes are replaced by places, and so many are kept before i.
 pub record Placing (t : List ℕ) (n : ℕ) (names now : List ℕ) (size i : ℕ) : Type 0 where
@@ -41,9 +41,6 @@ module _ (t : List ℕ) (n : ℕ) (F : Fitted t n) (names : List ℕ) (classes-a
   place_none = record { within = omega arith; placed = refl; counted = sym (count_none (kept t n)) }
 
   module _ {now : List ℕ} {size i : ℕ} (P : Placing t n names now size i) where
-    pub place-length : length now ≡ length names
-    place-length = rw P.placed (length-filled (place_at t n) i names)
-
     pub place-few : size ≤ i
     place-few = omega (arith, P.counted, count-le (kept t n) i)
 
@@ -82,6 +79,3 @@ module _ (t : List ℕ) (n : ℕ) (F : Fitted t n) (names : List ℕ) (classes-a
             placed = rw (add-one i, ← P.placed, place);
             counted = h ∙ rw (add-one i, M i l, nonzero-truth (kept t n i), P.counted) (count-truth (kept t n) i);
           }
-
-    pub place-all : n ≤ i → (now ≡ filled (place_at t n) n names) × (size ≡ count (kept t n) n)
-    place-all h = let e : i ≡ n = omega (arith, P.within) in (P.placed ∙ rw e, P.counted ∙ rw e)

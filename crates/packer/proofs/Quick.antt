@@ -2,36 +2,24 @@
 -- memories. It is refined by the classes and refines the round before, no entry falls, and one that changes nothing has
 -- found the classes (SPEC 16.2). Assumes nothing.
 use mathlib.Core.Path.{◌≡◌, refl, ◌∙◌, sym, ap}
-use mathlib.Core.Bool.{true, false}
+use mathlib.Core.Bool.{true}
 use mathlib.Core.List.{List}
-use mathlib.Core.Logic.{⊎_elim}
 use Prim.Native.Nat.{ℕ, zero, suc, ◌≤◌, ◌<◌}
 use native.Mathlib.Omega.{arith}
 use native.Mathlib.Nat.{le_antisymm}
 use native.Mathlib.Decide.{dec_le, ℕ_discrete}
-use Rattle.tables.specs.Table.{all, Equation, equation, equation_at, equation_fits, operand_fits}
+use Rattle.tables.specs.Table.{all, equation_at, equation_fits, operand_fits}
 use Rattle.tables.specs.declared.Operand.{Operand}
 use Rattle.tables.specs.declared.Operand.TheVariants.{Unused, Earlier, Anywhere, Below, Velocity}
-use Rattle.tables.specs.declared.Shape.{Shape}
 use Rattle.tables.proofs.Tests.{all-at}
 use Rattle.flows.proofs.Ranges.{flow-below}
 use Rattle.packing.specs.Search.{first}
-use Rattle.packing.specs.Operands.{shape_in}
 use Rattle.packing.specs.Pack.{same_equation, renamed_number, renamed, pass, classes}
-use Rattle.packing.proofs.Searches.{told, first-le, first_passes, first-least, first-agree}
+use Rattle.packing.proofs.Searches.{first-le, first_passes, first-least, first-agree}
 use Rattle.packing.proofs.Keys.{equation-same, same_true, true_same, Fit, both-fit}
 use Rattle.packing.proofs.Classes.{Finer, classes-settled, coarsest}
 use Rattle.packer.specs.Round.{mixed_number, mixed, quick_key, same_quick_key, Quick}
-
--- The test of equality fails for equations that are not equal.
-pub differ : (d e : Equation) → (d ≡ e → ⊥) → false ≡ same_equation d e
-differ d e h = ⊎_elim (λ q. absurd (h (same_true d e q))) (λ q. sym q) (told (same_equation d e))
-
--- A key by the row s of its kind.
-pub key-is : (f g : ℕ → ℕ) (e : Equation) (s : Shape) {a b c : ℕ} → s ≡ shape_in e → a ≡ mixed_number f g s.a e.a
-    → b ≡ mixed_number f g s.b e.b → c ≡ mixed_number f g s.c e.c → equation e.kind a b c ≡ mixed f g e
-unfolding mixed
-key-is f g e s h p q r = rw (← h, p, q, r)
+use Rattle.tables.specs.declared.Equation.{Equation}
 
 -- With the same classes of both rounds, a key is that of the definition, and so is the first equation that has it.
 mixed_one : (f : ℕ → ℕ) (o : Operand) (x : ℕ) → mixed_number f f o x ≡ renamed_number f o x

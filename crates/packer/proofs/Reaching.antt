@@ -15,7 +15,7 @@ use borrow.Author.Tests.{eqb-true, eq-eqb, ne_eqb}
 use Rattle.lists.specs.Number.{number_at}
 use Rattle.lists.proofs.Choice.{chosen}
 use Rattle.traces.specs.Trace.{truth}
-use Rattle.tables.specs.Table.{Equation, equation_at, all, operand_fits, equation_fits, closing_count}
+use Rattle.tables.specs.Table.{equation_at, all, operand_fits, equation_fits, closing_count}
 use Rattle.tables.specs.declared.Operand.{Operand}
 use Rattle.tables.specs.declared.Operand.TheVariants.{Unused, Earlier, Anywhere, Below, Velocity}
 use Rattle.tables.proofs.Tests.{all-at}
@@ -31,8 +31,9 @@ use Rattle.packer.specs.Round.{cleared}
 use Rattle.packer.specs.Mark.{Marking, marking, unmarked, pushed, visited, visited_a, visited_b, expanded}
 use Rattle.packer.specs.Mark.{Push, Visit, Expand, Named, Markable}
 use Rattle.packer.specs.Place.{filled}
-use Rattle.packer.proofs.Filled.{length-filled, filled_at, filled-beyond, filled_is}
+use Rattle.packer.proofs.Filled.{filled_is}
 use Rattle.packer.proofs.Cleared.{length-cleared, cleared_at, cleared-beyond, cleared-set}
+use Rattle.tables.specs.declared.Equation.{Equation}
 
 -- Counts of two tests that agree below k, and of two that differ at one number only.
 count-agree : (f g : ℕ → Bool) (k : ℕ) → ((i : ℕ) → i < k → f i ≡ g i) → count f k ≡ count g k
@@ -355,10 +356,6 @@ module _ (t : List ℕ) (n : ℕ) (l m f : List ℕ) (G : Markable t n l m) wher
         → Reaching t n m f w' (done + 1)
     reach-more e = rw e one-passed
 
-    -- The next one is an equation, and fewer than n are passed.
-    pub reach-below : (next < n) × (done < n)
-    reach-below = (next-kept.0, omega (arith, R.sound.few))
-
   -- Past the end of the list the marks are those of the equations that are kept.
   module _ (w : Marking) (done : ℕ) (R : Reaching t n m f w done) (u : w.size ≤ done) where
     abbrev one : ℕ → Bool
@@ -437,39 +434,9 @@ module _ (t : List ℕ) (n : ℕ) (l m f : List ℕ) (G : Markable t n l m) wher
 
     -- The same by what the three calls leave: `clear` the marks m', `push` u, and `push` z.
     module _ {m' : List ℕ} (is-clear : m' ≡ cleared n m) where
-      pub push-verdict : Push (marking m' f 0) (n - 1)
-      push-verdict = rw is-clear verdict-room
-
       module _ {u : Marking} (is-verdict : u ≡ pushed (marking m' f 0) (n - 1)) where
         pub push-started : Push u (n - closing_count)
         push-started = rw (is-verdict, is-clear) started-room
 
         pub reach-begun : {z : Marking} → z ≡ pushed u (n - closing_count) → Reaching t n m f z 0
         reach-begun is-started = rw (is-started, is-verdict, is-clear) reach-none
-
--- What the loop begins with takes the place of what the program was lent: they differ below n only.
-module _ {t : List ℕ} {n : ℕ} {m f : List ℕ} {w : Marking} {done : ℕ} (R : Reaching t n m f w done) where
-  pub begun : Reaching t n w.marks w.found w done
-  begun =
-      let S = R.sound in
-      record {
-        sound = record {
-          long = refl;
-          room = S.room;
-          few = S.few;
-          rest = λ i u. refl;
-          spare = refl;
-          each = S.each;
-          listed = S.listed;
-        };
-        passed = R.passed;
-        last = R.last;
-        closed = R.closed;
-      }
-
-  pub begun-filled : (g : ℕ → ℕ) → n ≤ length m → filled g n w.marks ≡ filled g n m
-  begun-filled g h =
-      let S = R.sound in
-      let h' : n ≤ length w.marks = omega (arith, S.long) in
-      filled_is g n m (filled g n w.marks) h (length-filled g n w.marks ∙ S.long)
-      (λ i u. filled_at g n w.marks i u h') (λ i u. filled-beyond g n w.marks i u ∙ S.rest i u)

@@ -1,26 +1,23 @@
 -- What is known from round to round: the classes refine what the rounds have found, no class falls, and the sum of the
 -- classes grows with each round that changes one, so the rounds end; the first that changes none has found the classes
 -- (SPEC 16.2). Assumes nothing.
-use mathlib.Core.Path.{◌≡◌, refl, ◌∙◌, sym}
-use mathlib.Core.Bool.{true, false}
-use mathlib.Core.List.{List}
+use mathlib.Core.Path.{◌≡◌, refl, ◌∙◌, sym, ap}
+use mathlib.Core.Bool.{true}
+use mathlib.Core.List.{List, ◌++◌}
 use Prim.Native.Nat.{ℕ, ◌*◌, ◌-◌, ◌≤◌, ◌<◌}
 use native.Mathlib.Omega.{arith}
 use native.Mathlib.Decide.{dec_le}
 use lib.ListN.{length, take, drop, get_or-append}
-use lib.Seq.{sets, length-sets, length-take-le, get_or-take}
-use borrow.Author.Tests.{eq-eqb, eqb-true}
+use lib.Seq.{length-take-le, get_or-take, ext_get_or}
 use Rattle.lists.specs.Number.{number_at}
-use Rattle.lists.proofs.Buffers.{sets-front}
 use Rattle.tables.specs.Table.{all, equation_fits}
-use Rattle.tables.proofs.Tests.{all-at, all_of}
 use Rattle.packing.specs.Pack.{classes}
-use Rattle.packing.proofs.Searches.{not-both, total, total-le, total-same, total-bound}
+use Rattle.packing.proofs.Searches.{total, total-le, total-same, total-bound}
 use Rattle.packing.proofs.Classes.{Finer}
 use Rattle.packer.specs.Place.{filled}
-use Rattle.packer.specs.Round.{Quick, Fitted, Rooms, Chains, cleared, round_of, same_number}
+use Rattle.packer.specs.Round.{Quick, Fitted, Rooms, Chains, cleared, round_of}
 use Rattle.packer.proofs.Filled.{filled_is}
-use Rattle.packer.proofs.Cleared.{cleared_at, cleared-copy}
+use Rattle.packer.proofs.Cleared.{cleared-copy, length-copy}
 use Rattle.packer.proofs.Quick.{quick-le, quick-finer, quick-later, quick-coarser, quick-fixed, quick-agree}
 use Rattle.packer.proofs.Turns.{Turned, turned}
 
@@ -34,15 +31,6 @@ pub record Before (t : List ℕ) (n : ℕ) (p : ℕ → ℕ) : Type 0 where
   pub coarse : Finer n (classes t n) p
   pub finer : (c : ℕ → ℕ) → Quick t n p c → Finer n c p
   pub rises : (c : ℕ → ℕ) → Quick t n p c → (i : ℕ) → i < n → p i ≤ c i
-
--- Before the first round, all are of one class.
-before-none : (t : List ℕ) (n : ℕ) (p : ℕ → ℕ) → Agreed n p (λ i. 0) → Before t n p
-before-none t n p h =
-    record {
-      coarse = λ x y u v e. h x u ∙ sym (h y v);
-      finer = λ c Q x y u v e. h x u ∙ sym (h y v);
-      rises = λ c Q i l. rw (h i l) (omega arith);
-    }
 
 -- A round of c after p, and then p', which agrees with c.
 module _ (velocities : ℕ) (t : List ℕ) (n : ℕ) (fit : all (equation_fits velocities t n) n ≡ true) (p c : ℕ → ℕ)
@@ -77,13 +65,19 @@ module _ (velocities : ℕ) (t : List ℕ) (n : ℕ) (fit : all (equation_fits v
       quick-fixed velocities t n fit c (quick-agree velocities t n fit p c c c n h (λ x u. refl) (omega arith) Q)
       (quick-coarser velocities t n fit p c Q B.coarse)
 
--- The test whether two buffers agree.
+-- Two buffers agree where their first n numbers are the same.
 module _ (n : ℕ) (l l' : List ℕ) where
-  same-agreed : all (same_number l l') n ≡ true → Agreed n (number_at l) (number_at l')
-  same-agreed e i u = eqb-true _ _ (all-at (same_number l l') n e i u)
+  same-agreed : take n l ≡ take n l' → Agreed n (number_at l) (number_at l')
+  same-agreed e i u =
+      sym (get_or-take n l i 0 u) ∙ ap (λ (x : List ℕ). number_at x i) e ∙ get_or-take n l' i 0 u
 
-  differ-agreed : all (same_number l l') n ≡ false → Agreed n (number_at l) (number_at l') → ⊥
-  differ-agreed e h = not-both _ (all_of (same_number l l') n (λ i u. eq-eqb _ _ (h i u))) e
+  differ-agreed : n ≤ length l → n ≤ length l' → (take n l ≡ take n l' → ⊥)
+      → Agreed n (number_at l) (number_at l') → ⊥
+  differ-agreed u v e h =
+      let long : length (take n l) ≡ n = length-take-le n l u in
+      e (ext_get_or 0 (take n l) (take n l') (long ∙ sym (length-take-le n l' v))
+      (λ i w. let below : i < n = omega arith in
+      get_or-take n l i 0 below ∙ h i below ∙ sym (get_or-take n l' i 0 below)))
 
 -- The buffers between two rounds, where w₀ and before₀ are those at the start: their lengths, what is known of the
 -- classes before the round, and that all numbers past n are kept.
@@ -98,105 +92,82 @@ pub record Rounding (t : List ℕ) (n : ℕ) (w₀ : Chains) (before₀ : List �
   pub rest-next : cleared n w.next ≡ cleared n w₀.next
   pub rest-heads : cleared n w.heads ≡ cleared n w₀.heads
 
--- Before the first round the classes before it are cleared.
-pub rounding-none : (t : List ℕ) (n : ℕ) (w₀ : Chains) (given : List ℕ) {before₀ : List ℕ}
-    → before₀ ≡ cleared n given → Rounding t n w₀ before₀ w₀ before₀
-rounding-none t n w₀ given e =
-    record {
-      length-names = refl;
-      length_before = refl;
-      length-next = refl;
-      length-heads = refl;
-      known = before-none t n _ (λ i l. rw e (cleared_at n given i l));
-      beyond = λ x l. refl;
-      rest-before = refl;
-      rest-next = refl;
-      rest-heads = refl;
-    }
-
--- What is stored of the front of a list is there.
-copied : (n : ℕ) (o l : List ℕ) → n ≤ length l → n ≤ length o → Agreed n (number_at (sets o 0 (take n l))) (number_at l)
-copied n o l u v i w =
+-- What is copied from the front of a list is there.
+copied : (n : ℕ) (o l : List ℕ) → n ≤ length l → Agreed n (number_at (take n l ++ drop n o)) (number_at l)
+copied n o l u i w =
     let long : length (take n l) ≡ n = length-take-le n l u in
-    rw (sets-front o l n u v)
-    (get_or-append (take n l) (drop n o) 0 i (omega arith) ∙ get_or-take n l i 0 w)
+    get_or-append (take n l) (drop n o) 0 i (omega arith) ∙ get_or-take n l i 0 w
 
 -- A round turns these buffers into `after`.
-pub record OneRound (t : List ℕ) (n : ℕ) (w₀ : Chains) (before₀ : List ℕ) (w : Chains) (before : List ℕ)
-    (after : Chains) : Type 0 where
-  pub fitted : Fitted t n
-  pub rooms : Rooms n w₀.names before₀ w₀.next w₀.heads
-  pub from : Rounding t n w₀ before₀ w before
-  pub round : after ≡ round_of t (number_at before) n w n
-
 module _ {t : List ℕ} {n : ℕ} {w₀ : Chains} {before₀ : List ℕ} {w : Chains} {before : List ℕ} {after : Chains}
-    (R : OneRound t n w₀ before₀ w before after) where
+    (from : Rounding t n w₀ before₀ w before) (fitted : Fitted t n)
+    (rooms : Rooms n w₀.names before₀ w₀.next w₀.heads) (round : after ≡ round_of t (number_at before) n w n) where
   -- What is known of the buffers after it.
   rounded : Turned t n (number_at before) w n after
   rounded =
-      let rooms = R.rooms in
-      rw R.round
-      (turned R.fitted.velocities t n (number_at before) w R.fitted.equations
-      (omega (arith, rooms.in-names, R.from.length-names)) (omega (arith, rooms.in-next, R.from.length-next))
-      (omega (arith, rooms.in-heads, R.from.length-heads)) n (omega arith))
+      rw round
+      (turned fitted.velocities t n (number_at before) w fitted.equations
+      (omega (arith, rooms.in-names, from.length-names)) (omega (arith, rooms.in-next, from.length-next))
+      (omega (arith, rooms.in-heads, from.length-heads)) n (omega arith))
 
   pub names-kept : length after.names ≡ length w₀.names
-  names-kept = rounded.names ∙ R.from.length-names
+  names-kept = rounded.names ∙ from.length-names
 
   next-kept : length after.next ≡ length w₀.next
-  next-kept = rounded.next ∙ R.from.length-next
+  next-kept = rounded.next ∙ from.length-next
 
   heads-kept : length after.heads ≡ length w₀.heads
-  heads-kept = rounded.heads ∙ R.from.length-heads
+  heads-kept = rounded.heads ∙ from.length-heads
 
   beyond-kept : (x : ℕ) → n ≤ x → number_at after.names x ≡ number_at w₀.names x
-  beyond-kept x u = rounded.beyond x u ∙ R.from.beyond x u
+  beyond-kept x u = rounded.beyond x u ∙ from.beyond x u
 
   -- Clearing the chains leaves what clearing those at the start would.
   pub next-cleared : cleared n after.next ≡ cleared n w₀.next
-  next-cleared = rounded.rest-next ∙ R.from.rest-next
+  next-cleared = rounded.rest-next ∙ from.rest-next
 
   pub heads-cleared : cleared n after.heads ≡ cleared n w₀.heads
-  heads-cleared = rounded.rest-heads ∙ R.from.rest-heads
+  heads-cleared = rounded.rest-heads ∙ from.rest-heads
 
   -- It changes no class: the classes are found.
-  pub rounding-done : all (same_number before after.names) n ≡ true
+  pub rounding-done : take n before ≡ take n after.names
       → after.names ≡ filled (classes t n) n w₀.names
   rounding-done e =
-      filled_is (classes t n) n w₀.names after.names R.rooms.in-names names-kept
-      (done R.fitted.velocities t n R.fitted.equations (number_at before) (number_at after.names)
-      R.from.known rounded.quick (same-agreed n before after.names e)) beyond-kept
+      filled_is (classes t n) n w₀.names after.names rooms.in-names names-kept
+      (done fitted.velocities t n fitted.equations (number_at before) (number_at after.names)
+      from.known rounded.quick (same-agreed n before after.names e)) beyond-kept
 
   -- It changes one: the names are copied, and the next round follows.
-  module _ {copy : List ℕ} (stored : copy ≡ sets before 0 (take n after.names)) where
+  module _ {copy : List ℕ} (stored : copy ≡ take n after.names ++ drop n before) where
     room-names : n ≤ length after.names
-    room-names = omega (arith, names-kept, R.rooms.in-names)
+    room-names = omega (arith, names-kept, rooms.in-names)
 
     room-before : n ≤ length before
-    room-before = omega (arith, R.from.length_before, R.rooms.in-before)
+    room-before = omega (arith, from.length_before, rooms.in-before)
 
     same_names : Agreed n (number_at copy) (number_at after.names)
-    same_names = rw stored (copied n before after.names room-names room-before)
+    same_names = rw stored (copied n before after.names room-names)
 
-    pub rounding-less : all (same_number before after.names) n ≡ false
+    pub rounding-less : (take n before ≡ take n after.names → ⊥)
         → n * n - total (number_at copy) n < n * n - total (number_at before) n
     rounding-less e =
-        measure-less R.fitted.velocities t n R.fitted.equations (number_at before) (number_at after.names)
-        R.from.known rounded.quick (number_at copy) same_names (differ-agreed n before after.names e)
+        measure-less fitted.velocities t n fitted.equations (number_at before) (number_at after.names)
+        from.known rounded.quick (number_at copy) same_names
+        (differ-agreed n before after.names room-before room-names e)
 
     pub rounding-more : Rounding t n w₀ before₀ after copy
     rounding-more =
         record {
           length-names = names-kept;
-          length_before = rw (stored, length-sets) R.from.length_before;
+          length_before = rw stored (length-copy n before after.names room-names room-before) ∙ from.length_before;
           length-next = next-kept;
           length-heads = heads-kept;
           known =
-              before_more R.fitted.velocities t n R.fitted.equations (number_at before)
-              (number_at after.names) R.from.known rounded.quick (number_at copy) same_names;
+              before_more fitted.velocities t n fitted.equations (number_at before)
+              (number_at after.names) from.known rounded.quick (number_at copy) same_names;
           beyond = beyond-kept;
           rest-before =
-              rw stored (cleared-copy n before after.names room-names room-before) ∙ R.from.rest-before;
+              rw stored (cleared-copy n before after.names room-names) ∙ from.rest-before;
           rest-next = next-cleared;
           rest-heads = heads-cleared;
         }

@@ -11,8 +11,8 @@ use lib.Seq.{get_or-set_same, get_or-set_other}
 use Rattle.lists.specs.Number.{number_at}
 use Rattle.tables.specs.Table.{all, equation_fits}
 use Rattle.packing.specs.Search.{first}
-use Rattle.packer.specs.declared.Key.{Key}
-use Rattle.packer.specs.Round.{key_of, quick_key, same_quick_key, Quick, bucket_of, Chains, chains, head_after}
+use Rattle.tables.specs.declared.Equation.{Equation}
+use Rattle.packer.specs.Round.{quick_key, same_quick_key, Quick, bucket_of, Chains, chains, head_after}
 use Rattle.packer.specs.Round.{entered, cleared, round_of}
 use Rattle.packer.proofs.Cleared.{length-cleared, cleared_at, cleared-set, cleared-again}
 use Rattle.packer.proofs.Quick.{quick-more}
@@ -32,8 +32,8 @@ pub record Turned (t : List ℕ) (n : ℕ) (p : ℕ → ℕ) (w₀ : Chains) (i 
 
 module _ (t : List ℕ) (n : ℕ) (p : ℕ → ℕ) (w₀ : Chains) where
   -- What a turn of the program does: j is the class of equation i, x its key, b its bucket and h the new head.
-  pub turn : (w : Chains) (i : ℕ) (x : Key) {j b h : ℕ} → w ≡ round_of t p n w₀ i
-      → key_of x ≡ quick_key t (class_in w) p i → b ≡ bucket_of n (key_of x)
+  pub turn : (w : Chains) (i : ℕ) (x : Equation) {j b h : ℕ} → w ≡ round_of t p n w₀ i
+      → x ≡ quick_key t (class_in w) p i → b ≡ bucket_of n x
       → j ≡ first (same_quick_key t (class_in w) p i) i → h ≡ head_after i j (number_at w.heads b)
       → chains (set w.names i j) (set w.next i (number_at w.heads b)) (set w.heads b h)
       ≡ round_of t p n w₀ (i + 1)
@@ -78,3 +78,7 @@ module _ (velocities : ℕ) (t : List ℕ) (n : ℕ) (p : ℕ → ℕ) (w₀ : C
         rest-heads = cleared-again n w₀.heads;
       }
   turned (suc i) l = turned_more i (round_of t p n w₀ i) l (turned i (omega arith))
+
+  -- What is known of buffers that are those after i turns.
+  pub turned_to : {i : ℕ} {w : Chains} → w ≡ round_of t p n w₀ i → i ≤ n → Turned t n p w₀ i w
+  turned_to {i} e l = rw e (turned i l)

@@ -7,23 +7,22 @@ use native.Mathlib.Omega.{arith}
 use native.Mathlib.Nat.{zero-add}
 use lib.ListN.{length, drop}
 use lib.Seq.{sets, sets-eq}
-use borrow.Author.Tests.{le-leb, lt-leb}
+use borrow.Author.Tests.{le-leb}
 use Rattle.lists.specs.Number.{number_at}
 use Rattle.limits.specs.Limits.{table_room}
 use Rattle.tables.specs.Table.{checked, closing_count}
-use Rattle.tables.specs.declared.Checked.TheVariants.{Passed, Refused as Failed}
 use Rattle.tables.proofs.Checks.{checked-fitting, refused-table}
 use Rattle.packing.specs.Pack.{classes, kept, packed, packed_count}
 use Rattle.packing.specs.Packing.{AfterPack, after_pack, after_packing, pack_checked, packing}
-use Rattle.packing.specs.Laws.{PackAnswer}
-use Rattle.packing.specs.declared.Packed.{Packed}
-use Rattle.packing.specs.declared.Packed.TheVariants.{Equations, Refused}
+use Rattle.packing.specs.Laws.{Packed, PackAnswer}
 use Rattle.packing.proofs.Searches.{count-le}
 use Rattle.packing.proofs.Result.{length-packed}
 use Rattle.packing.proofs.Packs.{room-decides, pack-answers}
 use Rattle.packer.specs.Round.{Fitted}
 use Rattle.packer.specs.Place.{filled, Passing, packed_into}
 use Rattle.packer.proofs.Filled.{length-filled, filled_at}
+use Rattle.std.specs.Prelude.{Ok, Err}
+use Rattle.limits.specs.declared.Refusal.{Refusal}
 
 -- A table that passes its check fits, and has two equations to close it.
 pub fitted : (t : List ℕ) (n : ℕ) → Passing t n → Fitted t n
@@ -39,15 +38,11 @@ pub filled-by : (f : ℕ → ℕ) (n : ℕ) (l : List ℕ) {l' : List ℕ} → l
     → (n ≤ length l') × ((i : ℕ) → i < n → number_at l' i ≡ f i)
 filled-by f n l e h = rw e (rw (length-filled f n l) h, λ i u. filled_at f n l i u h)
 
--- Packing a table that passes its check: it is refused by 9 where there is too little room.
+-- Packing a table that passes its check: where there is room, the packed table is stored at the front.
 module _ (t : List ℕ) (n : ℕ) (second : List ℕ) where
-  pub pack-no-room : length second < table_room → after_pack (Refused 9) second ≡ packed_into t n second
-  pack-no-room l = rw (lt-leb table_room (length second) l)
-
-  -- Else the packed table is stored at the front.
   pub pack-stored : Passing t n → table_room ≤ length second → {after : List ℕ} {size : ℕ}
       → (size ≡ packed_count t n) × (after ≡ sets second 0 (packed t n))
-      → after_pack (Equations size) after ≡ packed_into t n second
+      → after_pack (Ok size) after ≡ packed_into t n second
   unfolding after_packing
   pack-stored P l (h, e) =
       let few = (fitted t n P).few in
@@ -55,16 +50,16 @@ module _ (t : List ℕ) (n : ℕ) (second : List ℕ) where
       let less = count-le (kept t n) n in
       let front : sets second 0 (packed t n) ≡ packed t n ++ drop (4 * packed_count t n) second =
       sets-eq (packed t n) second 0 (omega arith) ∙ rw (zero-add, long) in
-      rw (le-leb table_room (length second) l) (λ a. after_pack (Equations (h a)) ((e ∙ front) a))
+      rw (le-leb table_room (length second) l) (λ a. after_pack (Ok (h a)) ((e ∙ front) a))
 
 module _ (velocities : ℕ) (t : List ℕ) (n : ℕ) (second : List ℕ) where
   -- A table that fails its check is refused by that number, and with one that passes the room decides.
-  pub pack-refused : (r : ℕ) → checked velocities t n ≡ Failed r
-      → after_pack (Refused r) second ≡ packing velocities t n second
+  pub pack-refused : (r : Refusal) → checked velocities t n ≡ Err r
+      → after_pack (Err r) second ≡ packing velocities t n second
   unfolding packing pack_checked
   pack-refused r e = rw (refused-table velocities t n r _ e)
 
-  pub pack-passed : checked velocities t n ≡ Passed → packed_into t n second ≡ packing velocities t n second
+  pub pack-passed : checked velocities t n ≡ Ok tt → packed_into t n second ≡ packing velocities t n second
   unfolding packing
   pack-passed passed = rw (room-decides velocities t n second passed _ refl)
 

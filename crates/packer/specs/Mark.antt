@@ -2,12 +2,13 @@
 -- found. Definitions only.
 use Rattle.std.specs.Prelude.{Bool, true, cond, List, ◌≡◌, ℕ, ◌+◌, ◌*◌, ◌≤◌, ◌<◌, eqb, length, set}
 use Rattle.lists.specs.Number.{number_at}
-use Rattle.tables.specs.Table.{Equation, equation_at, closing_count}
+use Rattle.tables.specs.Table.{equation_at, closing_count}
 use Rattle.tables.specs.declared.Operand.{Operand}
 use Rattle.tables.specs.declared.Operand.TheVariants.{Unused, Earlier, Anywhere, Below, Velocity}
 use Rattle.packing.specs.Operands.{shape_in}
 use Rattle.packing.specs.Pack.{classes}
 use Rattle.packer.specs.Round.{Fitted}
+use Rattle.tables.specs.declared.Equation.{Equation}
 
 -- The marks, 1 for a marked equation and 0 for any other, those found in their order, and how many.
 pub record Marking : Type 0 where

@@ -4,13 +4,12 @@ use Rattle.std.specs.Prelude.{List, [], ◌∷◌, ◌≡◌, ℕ, zero, suc, �
 use Rattle.lists.specs.Number.{number_at}
 use Rattle.limits.specs.Limits.{table_room}
 use Rattle.traces.specs.Trace.{truth}
-use Rattle.tables.specs.Table.{checked, first_failed}
-use Rattle.tables.specs.declared.Checked.TheVariants.{Passed}
+use Rattle.tables.specs.Table.{passed, checked, first_failed}
 use Rattle.packing.specs.Pack.{classes, kept, new_name}
 use Rattle.packing.specs.Packing.{AfterPack, room_test, packing_if}
 use Rattle.packer.specs.Round.{Fitted, Rooms}
 use Rattle.packer.specs.Mark.{Named}
-use Rattle.packer.specs.declared.Key.{Key}
+use Rattle.tables.specs.declared.Equation.{Equation}
 
 -- The first n numbers are f 0 to f (n - 1), and the others are kept.
 unfoldable pub filled : (ℕ → ℕ) → ℕ → List ℕ → List ℕ
@@ -47,7 +46,7 @@ pub record Storable (t : List ℕ) (n : ℕ) (m l second : List ℕ) : Type 0 wh
 -- The table passes its check, with some number of velocities. What packing makes of it does not depend on that number.
 pub record Passing (t : List ℕ) (n : ℕ) : Type 0 where
   pub velocities : ℕ
-  pub passed : checked velocities t n ≡ Passed
+  pub passed : checked velocities t n ≡ passed
 
 -- What packing does with such a table: the room of the second one decides.
 abbrev pub packed_into : List ℕ → ℕ → List ℕ → AfterPack
@@ -60,5 +59,5 @@ pub record Packable (t : List ℕ) (n : ℕ) (second names before next heads : L
   pub rooms : Rooms n names before next heads
 
 -- The four numbers of an equation.
-abbrev pub numbers_of : Key → List ℕ
+abbrev pub numbers_of : Equation → List ℕ
 numbers_of x = x.kind ∷ x.a ∷ x.b ∷ x.c ∷ []

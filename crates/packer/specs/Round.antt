@@ -4,17 +4,13 @@ use Rattle.std.specs.Prelude.{Bool, true, cond, List, ◌++◌, ◌≡◌, ℕ, 
 use Rattle.std.specs.Prelude.{length, set, replicate, drop}
 use Rattle.lists.specs.Number.{number_at}
 use Rattle.limits.specs.Limits.{equation_limit}
-use Rattle.tables.specs.Table.{Equation, equation, equation_at, all, equation_fits}
+use Rattle.tables.specs.Table.{equation_at, all, equation_fits}
 use Rattle.tables.specs.declared.Operand.{Operand}
 use Rattle.tables.specs.declared.Operand.TheVariants.{Unused, Earlier, Anywhere, Below, Velocity}
 use Rattle.packing.specs.Search.{first}
 use Rattle.packing.specs.Operands.{shape_in}
 use Rattle.packing.specs.Pack.{same_equation}
-use Rattle.packer.specs.declared.Key.{Key}
-
--- The equation that a key is.
-abbrev pub key_of : Key → Equation
-key_of x = equation x.kind x.a x.b x.c
+use Rattle.tables.specs.declared.Equation.{Equation}
 
 -- A number of an equation, as its row has it: an operand that has to be earlier goes by `now`, a memory's by `before`.
 unfoldable pub mixed_number : (ℕ → ℕ) → (ℕ → ℕ) → Operand → ℕ → ℕ
@@ -110,11 +106,11 @@ pub record Chain (t : List ℕ) (bucket : Equation → ℕ) (p c : ℕ → ℕ) 
   pub own : (x y : ℕ) → x < i → next x ≡ suc y → bucket (quick_key t c p y) ≡ bucket (quick_key t c p x)
 
 -- What a walk of a chain needs: equation i of n, its key x, and the chain from `start` on.
-pub record Walking (t : List ℕ) (n : ℕ) (now before next : List ℕ) (i : ℕ) (x : Key) (start : ℕ) : Type 0 where
+pub record Walking (t : List ℕ) (n : ℕ) (now before next : List ℕ) (i : ℕ) (x : Equation) (start : ℕ) : Type 0 where
   pub whole : 4 * i + 4 ≤ length t
   pub named : i ≤ length now
   pub linked : i ≤ length next
-  pub key : key_of x ≡ quick_key t (number_at now) (number_at before) i
+  pub key : x ≡ quick_key t (number_at now) (number_at before) i
   pub quick : Quick t i (number_at before) (number_at now)
   pub chain : Chain t (bucket_of n) (number_at before) (number_at now) i (number_at next) start
 
@@ -129,7 +125,3 @@ pub record Rooms (n : ℕ) (names before next heads : List ℕ) : Type 0 where
 pub record Classifiable (t : List ℕ) (n : ℕ) (names before next heads : List ℕ) : Type 0 where
   pub fitted : Fitted t n
   pub rooms : Rooms n names before next heads
-
--- Number i of both is the same.
-abbrev pub same_number : List ℕ → List ℕ → ℕ → Bool
-same_number x y i = eqb (number_at x i) (number_at y i)

@@ -2,98 +2,88 @@
 // compute.
 #![tactic(auto)]
 
-ghost use Rattle.std.specs.Prelude.{◌≡◌, cond, ◌+◌, ◌*◌, ◌≤◌, ◌<◌, eqb, length};
+ghost use Rattle.std.specs.Prelude.{take, drop, ◌++◌, ◌≡◌, cond, ◌+◌, ◌*◌, ◌≤◌, ◌<◌, eqb, length};
 ghost use Rattle.std.proofs.lemmas.List.Edits.{sets};
 ghost use Rattle.lists.specs.Number.{number_at};
-ghost use Rattle.limits.specs.Limits.{equation_limit, rule_equations, table_room, velocity_count};
-ghost use Rattle.traces.specs.Trace.{nonzero, truth};
-ghost use Rattle.tables.specs.Table.{all, equation_at};
+ghost use Rattle.limits.specs.Limits.{equation_limit, table_room, velocity_count};
+ghost use Rattle.traces.specs.Trace.{truth};
+ghost use Rattle.tables.specs.Table.{equation_at};
 ghost use Rattle.packing.specs.Search.{first};
 ghost use Rattle.packing.specs.Pack.{same_equation, classes, kept, packed, packed_count};
 ghost use Rattle.packing.specs.Packing.{after_pack, packing};
 ghost use Rattle.packing.specs.Laws.{PackAnswer};
-ghost use Rattle.packer.specs.Round.{key_of, mixed_number, quick_key, same_quick_key, bucket_of, cleared, head_after};
-ghost use Rattle.packer.specs.Round.{chains, round_of, Fitted, Walking, Classifiable, same_number};
-ghost use Rattle.packer.specs.Mark.{marking, pushed, visited, expanded, Push, Visit, Expand, Markable};
+ghost use Rattle.packer.specs.Round.{mixed_number, quick_key, same_quick_key, bucket_of, cleared, head_after};
+ghost use Rattle.packer.specs.Round.{chains, round_of, Fitted, Walking, Classifiable};
+ghost use Rattle.packer.specs.Mark.{pushed, visited, expanded, Push, Visit, Expand, Markable};
 ghost use Rattle.packer.specs.Place.{filled, place_at, Placeable, Storable, Passing, packed_into};
 ghost use Rattle.packer.specs.Place.{Packable, numbers_of};
 
-use packing::Packed;
-use tables::{Checked, Operand};
+use limits::Refusal;
+use tables::{Equation, Operand};
 
-// The kind and the numbers of an equation, with names for its operands.
+// A table with names for its equations: an operand that has to be earlier goes by `names`, a memory's by `before`.
 #[derive(Clone, Copy)]
-pub struct Key {
-    pub kind: u32,
-    pub a: u32,
-    pub b: u32,
-    pub c: u32,
+struct Naming<'a> {
+    table: &'a [u32],
+    names: &'a [u32],
+    before: &'a [u32],
 }
 
-// The number x of an equation, as its row has it: an operand that has to be earlier by `names`, a memory's by `before`.
-#[tactic(auto, unfolding(crate::specs::Round::mixed_number))]
-fn named(names: &[u32], before: &[u32], o: Operand, x: u32) -> u32
-    ensures { result ≡ mixed_number (number_at names.now) (number_at before.now) o x }
-{
-    match o {
-        Operand::Unused => x,
-        Operand::Earlier(_) => lists::number_at(names, x as usize),
-        Operand::Anywhere(_) => lists::number_at(before, x as usize),
-        Operand::Below(_) => x,
-        Operand::Velocity => x,
+impl Naming<'_> {
+    // The number x of an equation, as its row has it.
+    #[tactic(auto, unfolding(crate::specs::Round::mixed_number))]
+    fn named(&self, o: Operand, x: u32) -> u32
+        ensures { result ≡ mixed_number (number_at self.now.names.now) (number_at self.now.before.now) o x }
+    {
+        match o {
+            Operand::Earlier(_) => lists::number_at(self.names, x as usize),
+            Operand::Anywhere(_) => lists::number_at(self.before, x as usize),
+            Operand::Unused | Operand::Below(_) | Operand::Velocity => x,
+        }
     }
-}
 
-// The key of equation i.
-fn key_at(table: &[u32], names: &[u32], before: &[u32], i: usize) -> Key
-    requires { 4 * i + 4 ≤ length table.now }
-    ensures { key_of result ≡ quick_key table.now (number_at names.now)
-        (number_at before.now) i }
-{
-    let kind = table[4 * i];
-    let row = tables::row_of(kind);
-    let p = row.a;
-    let q = row.b;
-    let r = row.c;
-    let a = named(names, before, p, table[4 * i + 1]);
-    let b = named(names, before, q, table[4 * i + 2]);
-    let c = named(names, before, r, table[4 * i + 3]);
-    Key { kind, a, b, c }
-}
+    // The key of equation i.
+    #[tactic(auto, unfolding(crate::specs::Round::mixed))]
+    fn key_at(&self, i: usize) -> Equation
+        requires { 4 * i + 4 ≤ length self.now.table.now }
+        ensures { result ≡ quick_key self.now.table.now (number_at self.now.names.now)
+            (number_at self.now.before.now) i }
+    {
+        let kind = self.table[4 * i];
+        let row = tables::row_of(kind);
+        Equation {
+            kind,
+            a: self.named(row.a, self.table[4 * i + 1]),
+            b: self.named(row.b, self.table[4 * i + 2]),
+            c: self.named(row.c, self.table[4 * i + 3]),
+        }
+    }
 
-// Whether two keys are the same.
-fn same_key(x: Key, y: Key) -> bool
-    ensures { result ≡ same_equation (key_of x) (key_of y) }
-{
-    if x.kind != y.kind {
-        return false;
+    // Whether equation j has the key x.
+    fn has_key(&self, j: usize, x: Equation) -> bool
+        requires { 4 * j + 4 ≤ length self.now.table.now }
+        ensures { result ≡ same_equation (quick_key self.now.table.now (number_at self.now.names.now)
+            (number_at self.now.before.now) j) x }
+    {
+        self.table[4 * j] == x.kind && self.key_at(j) == x
     }
-    if x.a != y.a {
-        return false;
-    }
-    if x.b != y.b {
-        return false;
-    }
-    x.c == y.c
-}
 
-// Whether equation j has the key x.
-fn has_key(table: &[u32], names: &[u32], before: &[u32], j: usize, x: Key) -> bool
-    requires { 4 * j + 4 ≤ length table.now }
-    ensures { result ≡ same_equation (quick_key table.now (number_at names.now)
-        (number_at before.now) j) (key_of x) }
-{
-    if table[4 * j] != x.kind {
-        return false;
+    // The first equation with the key x of equation i, by the chain of its bucket.
+    fn walk(&self, n: usize, next: &[u32], i: usize, x: Equation, start: u32) -> usize
+        requires { Walking self.now.table.now n self.now.names.now self.now.before.now next.now i x start }
+        ensures { result ≡ first (same_quick_key self.now.table.now (number_at self.now.names.now)
+            (number_at self.now.before.now) i) i }
+    {
+        let mut at = start;
+        while 0 < at {
+            let j = (at - 1) as usize;
+            if self.has_key(j, x) {
+                return self.names[j] as usize;
+            }
+            at = next[j];
+        }
+        i
     }
-    same_key(key_at(table, names, before, j), x)
-}
-
-// A number with room for the arithmetic of buckets.
-fn wide(x: u32) -> u64
-    ensures { (result ≡ x) × (result < 4294967296) }
-{
-    x as u64
 }
 
 // How many parts the numbers of keys are spread over before they are fitted to n buckets, and the factor.
@@ -102,39 +92,14 @@ const SPREAD: u64 = 4294967296;
 const FACTOR: u64 = 10368889;
 
 // A bucket below n for a key.
-fn bucket_of(x: Key, n: usize) -> usize
+#[tactic(auto, unfolding(crate::specs::Round::bucket_of), using(crate::proofs::Spread::part_below))]
+fn bucket_of(x: Equation, n: usize) -> usize
     requires { (0 < n) × (n ≤ equation_limit) }
-    ensures { (result ≡ bucket_of n (key_of x)) × (result < n) }
+    ensures { (result ≡ bucket_of n x) × (result < n) }
 {
-    let sum = wide(x.kind) + 13 * wide(x.a) + 101 * wide(x.b) + 257 * wide(x.c);
+    let sum = u64::from(x.kind) + 13 * u64::from(x.a) + 101 * u64::from(x.b) + 257 * u64::from(x.c);
     let part = sum * FACTOR % SPREAD;
     (part * n as u64 / SPREAD) as usize
-}
-
-// The first equation with the key x of equation i, by the chain of its bucket.
-fn walk(
-    table: &[u32],
-    n: usize,
-    names: &[u32],
-    before: &[u32],
-    next: &[u32],
-    i: usize,
-    x: Key,
-    start: u32,
-) -> usize
-    requires { Walking table.now n names.now before.now next.now i x start }
-    ensures { result ≡ first (same_quick_key table.now (number_at names.now)
-        (number_at before.now) i) i }
-{
-    let mut at = start;
-    while 0 < at {
-        let j = (at - 1) as usize;
-        if has_key(table, names, before, j, x) {
-            return names[j] as usize;
-        }
-        at = next[j];
-    }
-    i
 }
 
 // Clears the first n numbers.
@@ -142,11 +107,7 @@ fn clear(numbers: &mut [u32], n: usize)
     requires { n ≤ length numbers.old }
     ensures { numbers.new ≡ cleared n numbers.old }
 {
-    let mut i = 0;
-    while i < n {
-        numbers[i] = 0;
-        i += 1;
-    }
+    numbers[..n].fill(0);
 }
 
 // The head of a bucket after equation i, whose class is j.
@@ -173,32 +134,31 @@ fn round(
         (chains names.old next.old heads.old) n }
 {
     clear(heads, n);
-    let mut i = 0;
-    while i < n {
-        let x = key_at(table, names, before, i);
+    for i in 0..n {
+        let naming = Naming {
+            table,
+            names,
+            before,
+        };
+        let x = naming.key_at(i);
         let b = bucket_of(x, n);
         let head = heads[b];
-        let j = walk(table, n, names, before, next, i, x, head);
+        let j = naming.walk(n, next, i, x, head);
         names[i] = j as u32;
         next[i] = head;
         heads[b] = head_after(i, j, head);
-        i += 1;
     }
 }
 
-// Whether the first n numbers of both are the same.
-fn same(n: usize, x: &[u32], y: &[u32]) -> bool
-    requires { (n ≤ length x.now) × (n ≤ length y.now) }
-    ensures { result ≡ all (same_number x.now y.now) n }
+// The first n numbers of one buffer over those of another. `copy_from_slice` is a call of memmove here, and the archive
+// for C needs none of C's functions but memcpy and memset (docs/FIRMWARE.md).
+fn copy_over(from: &[u32], n: usize, to: &mut [u32])
+    requires { (n ≤ length from.now) × (n ≤ length to.old) }
+    ensures { to.new ≡ take n from.now ++ drop n to.old }
 {
-    let mut i = 0;
-    while i < n {
-        if x[i] != y[i] {
-            return false;
-        }
-        i += 1;
+    for i in 0..n {
+        to[i] = from[i];
     }
-    true
 }
 
 // The classes of the n equations (SPEC 16.2), in `names`: rounds until one changes nothing. The first n numbers of the
@@ -220,74 +180,69 @@ fn classify(
     clear(before, n);
     loop {
         round(table, n, names, before, next, heads);
-        if same(n, before, names) {
-            clear(before, n);
-            clear(next, n);
-            clear(heads, n);
+        if before[..n] == names[..n] {
+            break;
+        }
+        copy_over(names, n, before);
+    }
+    clear(before, n);
+    clear(next, n);
+    clear(heads, n);
+}
+
+// The marks of the equations, 1 for one that is marked and else 0; those that are marked, in the order in which they
+// are found; and how many these are.
+#[derive(Drop)]
+struct Marker<'a> {
+    marks: &'a mut [u32],
+    found: &'a mut [u32],
+    size: usize,
+}
+
+impl Marker<'_> {
+    ghost use Rattle.packer.specs.Marker.{marking_of, SameBuffers};
+
+    // Marks equation x, if it is not marked.
+    #[tactic(auto, unfolding(crate::specs::Mark::pushed))]
+    fn push(&mut self, x: u32)
+        requires { Push (marking_of self.old) x }
+        ensures same_buffers { SameBuffers self.new self.old }
+        ensures marked { marking_of self.new ≡ pushed (marking_of self.old) x }
+    {
+        let i = x as usize;
+        if self.marks[i] != 0 {
             return;
         }
-        lists::copy(names, n, before);
+        self.marks[i] = 1;
+        self.found[self.size] = x;
+        self.size += 1;
     }
-}
 
-// Marks equation x, if it is not marked: how many are found then.
-fn push(marks: &mut [u32], found: &mut [u32], size: usize, x: u32) -> usize
-    requires { Push (marking marks.old found.old size) x }
-    ensures { marking marks.new found.new result
-        ≡ pushed (marking marks.old found.old size) x }
-{
-    let i = x as usize;
-    if marks[i] != 0 {
-        return size;
+    // Marks the class of the number x of an equation, if its row has an operand there.
+    #[tactic(auto, unfolding(crate::specs::Mark::visited, crate::specs::Mark::Visit))]
+    fn visit(&mut self, classes: &[u32], o: Operand, x: u32)
+        requires { Visit classes.now (marking_of self.old) o x }
+        ensures same_buffers { SameBuffers self.new self.old }
+        ensures marked { marking_of self.new ≡ visited (number_at classes.now) (marking_of self.old) o x }
+    {
+        match o {
+            Operand::Earlier(_) | Operand::Anywhere(_) => self.push(classes[x as usize]),
+            Operand::Unused | Operand::Below(_) | Operand::Velocity => {}
+        }
     }
-    marks[i] = 1;
-    found[size] = x;
-    size + 1
-}
 
-// Marks the class of the number x of an equation, if its row has an operand there.
-#[tactic(auto, unfolding(crate::specs::Mark::visited, crate::specs::Mark::Visit))]
-fn visit(
-    classes: &[u32],
-    marks: &mut [u32],
-    found: &mut [u32],
-    size: usize,
-    o: Operand,
-    x: u32,
-) -> usize
-    requires { Visit classes.now (marking marks.old found.old size) o x }
-    ensures { marking marks.new found.new result
-        ≡ visited (number_at classes.now) (marking marks.old found.old size) o x }
-{
-    match o {
-        Operand::Unused => size,
-        Operand::Earlier(_) => push(marks, found, size, classes[x as usize]),
-        Operand::Anywhere(_) => push(marks, found, size, classes[x as usize]),
-        Operand::Below(_) => size,
-        Operand::Velocity => size,
+    // Marks the classes of the operands of equation j.
+    fn expand(&mut self, table: &[u32], j: usize, classes: &[u32])
+        requires { Expand table.now j classes.now (marking_of self.old) }
+        ensures same_buffers { SameBuffers self.new self.old }
+        ensures marked { marking_of self.new
+            ≡ expanded (number_at classes.now) (marking_of self.old) (equation_at table.now j) }
+    {
+        let row = tables::row_of(table[4 * j]);
+        self.visit(classes, row.a, table[4 * j + 1]);
+        self.visit(classes, row.b, table[4 * j + 2]);
+        self.visit(classes, row.c, table[4 * j + 3]);
     }
-}
-
-// Marks the classes of the operands of equation j: how many are found then.
-fn expand(
-    table: &[u32],
-    j: usize,
-    classes: &[u32],
-    marks: &mut [u32],
-    found: &mut [u32],
-    size: usize,
-) -> usize
-    requires { Expand table.now j classes.now (marking marks.old found.old size) }
-    ensures { marking marks.new found.new result ≡ expanded (number_at classes.now)
-        (marking marks.old found.old size) (equation_at table.now j) }
-{
-    let row = tables::row_of(table[4 * j]);
-    let p = row.a;
-    let q = row.b;
-    let r = row.c;
-    let first = visit(classes, marks, found, size, p, table[4 * j + 1]);
-    let second = visit(classes, marks, found, first, q, table[4 * j + 2]);
-    visit(classes, marks, found, second, r, table[4 * j + 3])
 }
 
 // Marks with 1 the equations that are kept (SPEC 16.3), and the others with 0. The first n numbers of `found` are
@@ -299,22 +254,20 @@ fn mark(table: &[u32], n: usize, classes: &[u32], marks: &mut [u32], found: &mut
         × (found.new ≡ cleared n found.old) }
 {
     clear(marks, n);
-    let one = push(marks, found, 0, (n - 1) as u32);
-    let mut size = push(marks, found, one, (n - tables::CLOSING) as u32);
+    let mut marker = Marker {
+        marks,
+        found,
+        size: 0,
+    };
+    marker.push((n - 1) as u32);
+    marker.push((n - tables::CLOSING) as u32);
     let mut done = 0;
-    while done < size {
-        size = expand(table, found[done] as usize, classes, marks, found, size);
+    while done < marker.size {
+        let j = marker.found[done] as usize;
+        marker.expand(table, j, classes);
         done += 1;
     }
-    clear(found, n);
-}
-
-// One more, if the mark is not 0.
-fn counted(size: u32, mark: u32) -> u32
-    requires { size < equation_limit }
-    ensures { result ≡ size + truth (nonzero mark) }
-{
-    if mark != 0 { size + 1 } else { size }
+    clear(marker.found, n);
 }
 
 // The place of equation i, whose class is c: its own, or that of its class, which has been found.
@@ -334,17 +287,15 @@ fn place(table: &[u32], n: usize, marks: &[u32], names: &mut [u32]) -> usize
         × (result ≡ packed_count table.now n) }
 {
     let mut size = 0;
-    let mut i = 0;
-    while i < n {
+    for i in 0..n {
         names[i] = place_of(names, i, names[i], size);
-        size = counted(size, marks[i]);
-        i += 1;
+        size += u32::from(marks[i] != 0);
     }
     size as usize
 }
 
 // Stores the four numbers of an equation as equation p.
-fn put(second: &mut [u32], p: usize, x: Key)
+fn put(second: &mut [u32], p: usize, x: Equation)
     requires { 4 * p + 4 ≤ length second.old }
     ensures { second.new ≡ sets second.old (4 * p) (numbers_of x) }
 {
@@ -359,14 +310,17 @@ fn emit(table: &[u32], n: usize, marks: &[u32], places: &[u32], second: &mut [u3
     requires { Storable table.now n marks.now places.now second.old }
     ensures { second.new ≡ sets second.old 0 (packed table.now n) }
 {
+    let naming = Naming {
+        table,
+        names: places,
+        before: places,
+    };
     let mut size = 0;
-    let mut i = 0;
-    while i < n {
+    for i in 0..n {
         if marks[i] != 0 {
-            put(second, size, key_at(table, places, places, i));
+            put(second, size, naming.key_at(i));
             size += 1;
         }
-        i += 1;
     }
 }
 
@@ -398,16 +352,16 @@ fn pack_within(
     size
 }
 
-// Packs a well-formed table that has no more equations than a rule's.
-fn pack_small(table: &[u32], n: usize, second: &mut [u32]) -> usize
-    requires { Passing table.now n × (table_room ≤ length second.old) × (n ≤ rule_equations) }
+// Packs a well-formed table that has no more equations than N, in four buffers of N numbers.
+fn pack_in<const N: usize>(table: &[u32], n: usize, second: &mut [u32]) -> usize
+    requires { Passing table.now n × (table_room ≤ length second.old) × (n ≤ N) × (N ≤ equation_limit) }
     ensures { (result ≡ packed_count table.now n)
         × (second.new ≡ sets second.old 0 (packed table.now n)) }
 {
-    let mut names = [0u32; limits::RULE_EQUATIONS];
-    let mut before = [0u32; limits::RULE_EQUATIONS];
-    let mut next = [0u32; limits::RULE_EQUATIONS];
-    let mut heads = [0u32; limits::RULE_EQUATIONS];
+    let mut names = [0u32; N];
+    let mut before = [0u32; N];
+    let mut next = [0u32; N];
+    let mut heads = [0u32; N];
     pack_within(
         table,
         n,
@@ -419,49 +373,28 @@ fn pack_small(table: &[u32], n: usize, second: &mut [u32]) -> usize
     )
 }
 
-// Packs any well-formed table.
-fn pack_large(table: &[u32], n: usize, second: &mut [u32]) -> usize
-    requires { Passing table.now n × (table_room ≤ length second.old) }
-    ensures { (result ≡ packed_count table.now n)
-        × (second.new ≡ sets second.old 0 (packed table.now n)) }
-{
-    let mut names = [0u32; limits::EQUATIONS];
-    let mut before = [0u32; limits::EQUATIONS];
-    let mut next = [0u32; limits::EQUATIONS];
-    let mut heads = [0u32; limits::EQUATIONS];
-    pack_within(
-        table,
-        n,
-        second,
-        &mut names,
-        &mut before,
-        &mut next,
-        &mut heads,
-    )
-}
-
-// Packs a well-formed table, if the second table has room.
-fn pack_checked(table: &[u32], n: usize, second: &mut [u32]) -> Packed
+// Packs a well-formed table, if the second table has room. A table that has no more equations than a rule's gets small
+// buffers: to make the large ones takes longer than all the rest.
+fn pack_checked(table: &[u32], n: usize, second: &mut [u32]) -> Result<usize, Refusal>
     requires { Passing table.now n }
     ensures { after_pack result second.new ≡ packed_into table.now n second.old }
 {
     if second.len() < limits::TABLE {
-        return Packed::Refused(9);
+        return Err(Refusal::ShortTable);
     }
     if n <= limits::RULE_EQUATIONS {
-        return Packed::Equations(pack_small(table, n, second));
+        Ok(pack_in::<{ limits::RULE_EQUATIONS }>(table, n, second))
+    } else {
+        Ok(pack_in::<{ limits::EQUATIONS }>(table, n, second))
     }
-    Packed::Equations(pack_large(table, n, second))
 }
 
 // Packs a table into a second one (SPEC 8.8).
-pub fn pack(table: &[u32], n: usize, second: &mut [u32]) -> Packed
+pub fn pack(table: &[u32], n: usize, second: &mut [u32]) -> Result<usize, Refusal>
     ensures second_after { after_pack result second.new
         ≡ packing velocity_count table.now n second.old }
     ensures pack_answer { PackAnswer velocity_count table.now n second.old result second.new }
 {
-    let Checked::Refused(number) = tables::check_table(limits::VELOCITIES, table, n) else {
-        return pack_checked(table, n, second);
-    };
-    Packed::Refused(number)
+    tables::check_table(limits::VELOCITIES, table, n)?;
+    pack_checked(table, n, second)
 }

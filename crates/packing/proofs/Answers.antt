@@ -9,37 +9,36 @@ use lib.ListN.{length}
 use borrow.Author.Tests.{le-leb, leb-true}
 use Rattle.traces.specs.declared.Tick.{Tick}
 use Rattle.traces.specs.Trace.{Trace, trace_of, tick_of}
-use Rattle.tables.specs.Table.{checked}
-use Rattle.tables.specs.declared.Checked.{Checked}
-use Rattle.tables.specs.declared.Checked.TheVariants.{Passed, Refused as Failed}
+use Rattle.limits.specs.declared.Refusal.TheVariants.{ShortState}
+use Rattle.tables.specs.Table.{Checked, passed, checked}
 use Rattle.tables.proofs.Checks.{passed-one}
 use Rattle.flows.specs.Flow.{answer_of}
 use Rattle.flows.specs.Step.{step_checked, stepped_if, stepped}
 use Rattle.flows.specs.Run.{Call, called, steps, from_fresh, answered, ticks, EachTick, call_checked, admits}
 use Rattle.flows.specs.Lustre.{Solves, RunsAsLustre}
-use Rattle.flows.specs.declared.Stepped.TheVariants.{Verdict}
 use Rattle.flows.proofs.Checks.{step-admitted}
 use Rattle.flows.proofs.Lists.{each_map}
 use Rattle.flows.proofs.Expected.{admitted, expected, decided-ticks, each-expected}
 use Rattle.packing.specs.Laws.{NoneRefused, SameTicks}
+use Rattle.std.specs.Prelude.{Ok, Err}
 
 -- A step that is not refused: the table passes the check.
 pub taken-passed : (cap velocities : ℕ) (t : List ℕ) (n : ℕ) (state : List ℕ) (x : Call) (xs : List Call)
-    → NoneRefused (answered (steps cap velocities t n state (x ∷ xs))) → checked velocities t n ≡ Passed
+    → NoneRefused (answered (steps cap velocities t n state (x ∷ xs))) → checked velocities t n ≡ passed
 unfolding steps stepped
 taken-passed cap velocities t n state x xs h = go (step_checked cap velocities t n state x.values x.tick) refl h
   where
     go : (c : Checked) → step_checked cap velocities t n state x.values x.tick ≡ c
         → NoneRefused ((stepped_if c cap t n state x.values x.tick).answer
         ∷ answered (steps cap velocities t n (called cap velocities t n state x).state xs))
-        → checked velocities t n ≡ Passed
-    go Passed e h = (step-admitted cap velocities t n state x.values x.tick e).0
-    go (Failed r) e h = absurd h
+        → checked velocities t n ≡ passed
+    go (Ok tt) e h = (step-admitted cap velocities t n state x.values x.tick e).0
+    go (Err r) e h = absurd h
 
 -- Every call is admitted by n equations.
 abbrev Admitted : ℕ → ℕ → ℕ → List Call → Type 0
 Admitted cap velocities n [] = Unit {0}
-Admitted cap velocities n (x ∷ xs) = (admits cap velocities n x ≡ Passed) × Admitted cap velocities n xs
+Admitted cap velocities n (x ∷ xs) = (admits cap velocities n x ≡ passed) × Admitted cap velocities n xs
 
 -- So it is where all answers are verdicts: a call that is not admitted has none.
 answered-admitted : (cap velocities n : ℕ) (v : ℕ → ℕ) (xs : List Call) (k : ℕ)
@@ -52,16 +51,16 @@ answered-admitted cap velocities n v (x ∷ xs) k h =
     one : (c : Checked) → admits cap velocities n x ≡ c → NoneRefused (expected cap velocities n v k (x ∷ xs))
         → (NoneRefused (expected cap velocities n v (suc k) xs) → Admitted cap velocities n xs)
         → Admitted cap velocities n (x ∷ xs)
-    one Passed e g rest = (e, rest (rw e at g))
-    one (Failed r) e g rest = absurd (rw e at g)
+    one (Ok tt) e g rest = (e, rest (rw e at g))
+    one (Err r) e g rest = absurd (rw e at g)
 
 -- What n equations admit, n' admit with the same ticks and values for n': the same answers if the verdicts are.
 module _ (cap velocities n n' : ℕ) where
-  admits-same : (x y : Call) → x.tick ≡ y.tick → n' ≤ length y.values → admits cap velocities n x ≡ Passed
-      → admits cap velocities n' y ≡ Passed
+  admits-same : (x y : Call) → x.tick ≡ y.tick → n' ≤ length y.values → admits cap velocities n x ≡ passed
+      → admits cap velocities n' y ≡ passed
   unfolding call_checked
   admits-same x y q l e =
-      let p = passed-one (leb n (length x.values)) _ 12 e in
+      let p = passed-one (leb n (length x.values)) _ ShortState e in
       rw (le-leb n' (length y.values) l, ← q) p.1
 
   ticks-same : (xs ys : List Call) → SameTicks n' xs ys → Admitted cap velocities n xs
@@ -101,7 +100,7 @@ answers-lustre cap velocities t n L old room calls =
     let ks : ticks ss ≡ admitted cap velocities n calls = decided-ticks cap velocities t n calls _ decides in
     let said : List Tick → ℕ → ℕ = λ l k. answer_of n (L.flow (trace_for l) k) in
     each-expected cap velocities n (said (admitted cap velocities n calls)) calls ss 0 decides
-    (subst (λ (l : List Tick). EachTick (λ k s. s.left.answer ≡ Verdict (said l k)) 0 ss) ks
+    (subst (λ (l : List Tick). EachTick (λ k s. s.left.answer ≡ Ok (said l k)) 0 ss) ks
     (each_map (λ k s h. h.answer)
     (L.leaves old room calls (tick_of 0 0 0 []) (L.flow (trace_for (ticks ss))) (solved L (trace_for (ticks ss))))))
 
@@ -111,7 +110,7 @@ admitted-ticks : (cap velocities n n' : ℕ) → n' ≤ n → (xs : List Call) �
 unfolding call_checked
 admitted-ticks cap velocities n n' less [] a = tt
 admitted-ticks cap velocities n n' less (x ∷ xs) a =
-    let l = leb-true n (length x.values) (passed-one (leb n (length x.values)) _ 12 a.0).0 in
+    let l = leb-true n (length x.values) (passed-one (leb n (length x.values)) _ ShortState a.0).0 in
     (refl, omega arith, admitted-ticks cap velocities n n' less xs a.1)
 
 -- Where the first table refuses none, all its calls are admitted.

@@ -10,10 +10,8 @@ use Prim.Native.Nat.{ℕ, zero, suc, ◌<◌}
 use native.Mathlib.Omega.{arith}
 use Rattle.traces.specs.declared.Tick.{Tick}
 use Rattle.traces.specs.Trace.{Trace}
-use Rattle.tables.specs.Table.{all, Equation, equation_at, equation_fits, operand_fits, shape_fits}
-use Rattle.tables.specs.Table.{Kind, kind_at, shape_of, sort_of, is_memory}
-use Rattle.tables.specs.Table.Kind.{signal, start, constant, negation, conjunction, disjunction, boolean_pre}
-use Rattle.tables.specs.Table.Kind.{count_pre, capped, if_else, compare_literal, compare_parameter, velocity, unknown}
+use Rattle.tables.specs.Table.{all, equation_at, equation_fits, operand_fits, shape_fits}
+use Rattle.tables.specs.Table.{kind_at, shape_of, sort_of, is_memory}
 use Rattle.tables.specs.declared.Operand.{Operand}
 use Rattle.tables.specs.declared.Operand.TheVariants.{Unused, Earlier, Anywhere, Below, Velocity}
 use Rattle.tables.proofs.Tests.{all-at}
@@ -24,6 +22,11 @@ use Rattle.packing.specs.Operands.{shape_in}
 use Rattle.packing.specs.Pack.{renamed_number, renamed}
 use Rattle.packing.specs.Laws.{Agree, Alike, Merged}
 use Rattle.packing.proofs.Keys.{equation-same, Three, both-fit}
+use Rattle.std.specs.Prelude.{Option, Some, None}
+use Rattle.tables.specs.declared.Kind.TheVariants.{Signal, Start, Constant, Not, And, Or, BooleanPre}
+use Rattle.tables.specs.declared.Kind.TheVariants.{CountPre, Capped, If, CompareLiteral, CompareParameter, Velocity}
+use Rattle.tables.specs.declared.Equation.{Equation}
+use Rattle.tables.specs.declared.Kind.{Kind}
 
 -- ---- alike equations
 
@@ -140,38 +143,38 @@ module _ (velocities : ℕ) (t t' : List ℕ) (n n' i j : ℕ) (R S T : ℕ → 
 
 -- Equations of one kind that match by equal flows have one value, if the cells of memories are equal.
 module _ (cap : ℕ) (k : Tick) (flow flow' : ℕ → ℕ) (cell cell' : ℕ) (T : ℕ → ℕ → Type 0) (d e : Equation) where
-  value-match : (q : Kind) → Three (Match (λ x y. flow x ≡ flow' y) T) (shape_of q) d e
+  value-match : (q : Option Kind) → Three (Match (λ x y. flow x ≡ flow' y) T) (shape_of q) d e
       → (is_memory q ≡ true → cell ≡ cell') → value_of cap k flow cell q d ≡ value_of cap k flow' cell' q e
   unfolding Match shape_of value_of is_memory
-  value-match signal m h = rw m.a
-  value-match start m h = refl
-  value-match constant m h = m.a
-  value-match negation m h = rw m.a
-  value-match conjunction m h = rw (m.a, m.b)
-  value-match disjunction m h = rw (m.a, m.b)
-  value-match boolean_pre m h = h refl
-  value-match count_pre m h = h refl
-  value-match capped m h = rw (m.a, m.b)
-  value-match if_else m h = rw (m.a, m.b)
-  value-match compare_literal m h = rw (m.a, m.b, m.c)
-  value-match compare_parameter m h = rw (m.a, m.b, m.c)
-  value-match velocity m h = rw (m.a, m.b)
-  value-match unknown m h = refl
+  value-match (Some Signal) m h = rw m.a
+  value-match (Some Start) m h = refl
+  value-match (Some Constant) m h = m.a
+  value-match (Some Not) m h = rw m.a
+  value-match (Some And) m h = rw (m.a, m.b)
+  value-match (Some Or) m h = rw (m.a, m.b)
+  value-match (Some BooleanPre) m h = h refl
+  value-match (Some CountPre) m h = h refl
+  value-match (Some Capped) m h = rw (m.a, m.b)
+  value-match (Some If) m h = rw (m.a, m.b)
+  value-match (Some CompareLiteral) m h = rw (m.a, m.b, m.c)
+  value-match (Some CompareParameter) m h = rw (m.a, m.b, m.c)
+  value-match (Some Velocity) m h = rw (m.a, m.b)
+  value-match None m h = refl
 
 -- Memories of one kind that match have operands related by T, and the same initial value.
 module _ (S T : ℕ → ℕ → Type 0) (d e : Equation) where
-  abbrev Stored : Kind → Type 0
+  abbrev Stored : Option Kind → Type 0
   Stored q = T d.a e.a × (initial (sort_of q) d.c ≡ initial (sort_of q) e.c)
 
-  boolean-match : Three (Match S T) (shape_of boolean_pre) d e → Stored boolean_pre
+  boolean-match : Three (Match S T) (shape_of (Some BooleanPre)) d e → Stored (Some BooleanPre)
   unfolding Match shape_of
   boolean-match h = (h.a, rw h.c)
 
-  count-match : Three (Match S T) (shape_of count_pre) d e → Stored count_pre
+  count-match : Three (Match S T) (shape_of (Some CountPre)) d e → Stored (Some CountPre)
   unfolding Match shape_of initial
   count-match h = (h.a, refl)
 
-  memory-match : (q : Kind) → is_memory q ≡ true → Three (Match S T) (shape_of q) d e → Stored q
+  memory-match : (q : Option Kind) → is_memory q ≡ true → Three (Match S T) (shape_of q) d e → Stored q
   memory-match q m h =
       ⊎_elim (λ p. rw p (boolean-match (rw p at h))) (λ p. rw p (count-match (rw p at h))) (memory-kind q m)
 

@@ -9,7 +9,7 @@ use native.Mathlib.Omega.{arith}
 use lib.Dec.{eqb}
 use borrow.Author.Tests.{eqb-true, eq-eqb}
 use Rattle.lists.proofs.Choice.{false-true}
-use Rattle.tables.specs.Table.{Equation, operand_fits, shape_fits}
+use Rattle.tables.specs.Table.{operand_fits, shape_fits}
 use Rattle.tables.specs.declared.Operand.{Operand}
 use Rattle.tables.specs.declared.Operand.TheVariants.{Unused, Earlier, Anywhere, Below, Velocity}
 use Rattle.tables.specs.declared.Shape.{Shape}
@@ -19,6 +19,7 @@ use Rattle.packing.specs.Operands.{shape_in, refers, uses}
 use Rattle.packing.specs.Pack.{renamed_number, renamed, same_equation}
 use Rattle.packing.specs.Laws.{Agree, Alike}
 use Rattle.packing.proofs.Searches.{or_left, or_right, or_cases}
+use Rattle.tables.specs.declared.Equation.{Equation}
 
 -- Equations are equal where their four numbers are.
 pub equation-same : (d e : Equation) → d.kind ≡ e.kind → d.a ≡ e.a → d.b ≡ e.b → d.c ≡ e.c → d ≡ e

@@ -19,20 +19,19 @@ use borrow.Author.Tests.{eqb-true, ltb-true, lt-ltb}
 use Rattle.lists.specs.Number.{number_at}
 use Rattle.lists.proofs.Buffers.{drop_more}
 use Rattle.lists.proofs.Choice.{false-true}
-use Rattle.tables.specs.Table.{Equation, equation_at, equation_fits, checked, started_of, verdict_of}
+use Rattle.tables.specs.Table.{equation_at, equation_fits, checked, started_of, verdict_of}
 use Rattle.tables.specs.declared.Operand.{Operand}
 use Rattle.tables.specs.declared.Operand.TheVariants.{Unused, Earlier, Anywhere, Below, Velocity}
-use Rattle.tables.specs.declared.Checked.TheVariants.{Passed}
 use Rattle.tables.proofs.Tests.{and-true, all-at}
 use Rattle.tables.proofs.Checks.{checked-fitting, failed-passed}
 use Rattle.packing.specs.Operands.{refers, uses}
-use Rattle.packing.specs.Laws.{Agree, Alike, Merged, Represents, Reached, Packs, PackAnswer}
+use Rattle.packing.specs.Laws.{Agree, Alike, Merged, Represents, Reached, Packs, Packed, PackAnswer}
 use Rattle.packing.specs.Laws.Reached.{last, through}
 use Rattle.packing.specs.Laws.PackAnswer.{not-checked, no_room, packed}
-use Rattle.packing.specs.declared.Packed.{Packed}
-use Rattle.packing.specs.declared.Packed.TheVariants.{Equations}
 use Rattle.packing.proofs.Keys.{alike-below, uses-cases}
 use Rattle.packing.proofs.Bisimulation.{alike_self, alike-common, alike-converse, alike-weaken, alike-named}
+use Rattle.std.specs.Prelude.{Ok}
+use Rattle.tables.specs.declared.Equation.{Equation}
 
 -- ---- alike equations
 
@@ -65,7 +64,7 @@ abbrev OperandsBelow : ℕ → Equation → Type 0
 OperandsBelow n e = Alike (Within n) e e
 
 -- So it is with the equations of a table that passes the check.
-operands-below : (velocities : ℕ) (t : List ℕ) (n : ℕ) → checked velocities t n ≡ Passed → (x : ℕ) → x < n
+operands-below : (velocities : ℕ) (t : List ℕ) (n : ℕ) → checked velocities t n ≡ Ok tt → (x : ℕ) → x < n
     → OperandsBelow n (equation_at t x)
 operands-below velocities t n passed x l =
     let e = equation_at t x in
@@ -85,8 +84,8 @@ alike-within R m n d e u v h =
 
 -- Lists s and t have the same first n equations, and both pass the check.
 record SameFirst (velocities : ℕ) (s t : List ℕ) (n : ℕ) : Type 0 where
-  passed : checked velocities s n ≡ Passed
-  passed' : checked velocities t n ≡ Passed
+  passed : checked velocities s n ≡ Ok tt
+  passed' : checked velocities t n ≡ Ok tt
   same : (x : ℕ) → x < n → equation_at s x ≡ equation_at t x
 
 -- The two can be exchanged.
@@ -229,7 +228,7 @@ module _ {velocities : ℕ} {s s' t : List ℕ} {n : ℕ} {t' : List ℕ} {n' : 
 -- SPEC 16.1: a packed table is one, with one n and each equation the same, whatever numbers the given list has behind
 -- its n equations.
 pub one-packed : (velocities : ℕ) (t s : List ℕ) (n : ℕ) (t' : List ℕ) (n' : ℕ) (t'' : List ℕ) (n'' : ℕ)
-    → checked velocities t n ≡ Passed → checked velocities s n ≡ Passed
+    → checked velocities t n ≡ Ok tt → checked velocities s n ≡ Ok tt
     → ((i : ℕ) → i < n → equation_at t i ≡ equation_at s i) → Packs t n t' n' → Packs s n t'' n''
     → (n' ≡ n'') × ((x : ℕ) → x < n' → equation_at t' x ≡ equation_at t'' x)
 one-packed velocities t s n t' n' t'' n'' passed passed' same P Q =
@@ -286,7 +285,7 @@ tables-same (suc k) s s' l l' same behind =
 
 -- Two packed tables of lists with the same first n equations have the same numbers.
 pub one-front : (velocities : ℕ) (t s : List ℕ) (n n' : ℕ) (after : List ℕ) (n'' : ℕ) (after' : List ℕ)
-    → checked velocities t n ≡ Passed → checked velocities s n ≡ Passed
+    → checked velocities t n ≡ Ok tt → checked velocities s n ≡ Ok tt
     → ((i : ℕ) → i < n → equation_at t i ≡ equation_at s i)
     → ((rest : List ℕ) → Packs t n (take (4 * n') after ++ rest) n')
     → ((rest : List ℕ) → Packs s n (take (4 * n'') after' ++ rest) n'')
@@ -311,11 +310,11 @@ one-front velocities t s n n' after n'' after' passed passed' same h h' =
 one-second : (before : List ℕ) (n' : ℕ) (after : List ℕ) (n'' : ℕ) (after' : List ℕ)
     → drop (4 * n') after ≡ drop (4 * n') before → drop (4 * n'') after' ≡ drop (4 * n'') before
     → (n' ≡ n'') × (take (4 * n') after ≡ take (4 * n'') after')
-    → (Equations n' ≡ Equations n'') × (after ≡ after')
+    → ◌≡◌ {A = Packed} (Ok n') (Ok n'') × (after ≡ after')
 one-second before n' after n'' after' behind behind' one =
     let kept = behind ∙ ap (λ k. drop (4 * k) before) one.0 ∙ sym behind' in
     let same = sym (take-append-drop (4 * n') after) ∙ ap₂ ◌++◌ one.1 kept ∙ take-append-drop (4 * n'') after' in
-    (ap Equations one.0, same)
+    (ap Ok one.0, same)
 
 -- SPEC 8.8: packing a table into a second one has one answer, and leaves one second table.
 pub one_answer : {velocities : ℕ} {t : List ℕ} {n : ℕ} {before : List ℕ} {r r' : Packed} {after after' : List ℕ}

@@ -11,9 +11,7 @@ use lib.ListN.{length, take, drop, length-append, length-drop}
 use lib.Seq.{take-append_seam, drop-append_seam}
 use borrow.Author.Tests.{le-leb, lt-leb}
 use Rattle.limits.specs.Limits.{table_room}
-use Rattle.tables.specs.Table.{all, Equation, equation_at, equation_fits, checked, closing_count}
-use Rattle.tables.specs.declared.Checked.{Checked}
-use Rattle.tables.specs.declared.Checked.TheVariants.{Passed, Refused as Failed}
+use Rattle.tables.specs.Table.{all, equation_at, equation_fits, Checked, checked, closing_count}
 use Rattle.tables.proofs.Checks.{checked-fitting, passed-both, refused-table}
 use Rattle.traces.specs.Trace.{Trace}
 use Rattle.flows.specs.Flow.{answer_of}
@@ -36,9 +34,12 @@ use Rattle.packing.proofs.Result.{origin, origin-of, origin-rises, length-packed
 use Rattle.packing.proofs.Result.{Stands, stands, from-started, from-verdict, passes, literals, fewer-memories}
 use Rattle.packing.proofs.Result.{last-two, from-class, distinct, answer-from}
 use Rattle.packing.proofs.Answers.{taken-passed, same-ticks, answers-same}
+use Rattle.std.specs.Prelude.{Ok, Err}
+use Rattle.limits.specs.declared.Refusal.TheVariants.{ShortTable}
+use Rattle.tables.specs.declared.Equation.{Equation}
 
 -- The packed equations of a table that passes the check stand at the front of the packed table.
-pub front : (velocities : ℕ) (t : List ℕ) (n : ℕ) → checked velocities t n ≡ Passed → (rest : List ℕ)
+pub front : (velocities : ℕ) (t : List ℕ) (n : ℕ) → checked velocities t n ≡ Ok tt → (rest : List ℕ)
     → PackedFront velocities t n (classes t n) (kept t n) (packed t n ++ rest)
 front velocities t n passed rest =
     let fit = (checked-fitting velocities t n passed).equations in
@@ -46,7 +47,7 @@ front velocities t n passed rest =
     packed-front velocities t n (classes t n) (kept t n) fit C (marks-fit velocities t n (classes t n) fit C) rest
 
 -- Such a table, and the packed table with any numbers behind it.
-module _ (velocities : ℕ) (t : List ℕ) (n : ℕ) (passed : checked velocities t n ≡ Passed) (rest : List ℕ) where
+module _ (velocities : ℕ) (t : List ℕ) (n : ℕ) (passed : checked velocities t n ≡ Ok tt) (rest : List ℕ) where
   abbrev c : ℕ → ℕ
   c = classes t n
 
@@ -99,7 +100,7 @@ module _ (velocities : ℕ) (t : List ℕ) (n : ℕ) (passed : checked velocitie
   says_same cap trace f g F G k = answer-from first cap trace f g F G k two
 
   -- With whatever number of velocities the given table passes the check, the packed one does,
-  packed-passes : (velocities' : ℕ) → checked velocities' t n ≡ Passed → checked velocities' t' n' ≡ Passed
+  packed-passes : (velocities' : ℕ) → checked velocities' t n ≡ Ok tt → checked velocities' t' n' ≡ Ok tt
   packed-passes velocities' e = passes (front velocities' t n e rest) e
 
   -- and where the given one refuses no step, it passes the check, or there is none.
@@ -150,8 +151,8 @@ module _ (velocities : ℕ) (t : List ℕ) (n : ℕ) (passed : checked velocitie
 
 module _ (velocities : ℕ) (t : List ℕ) (n : ℕ) (before : List ℕ) where
   -- Where the table passes the check, the room of the second table decides.
-  pub room-decides : checked velocities t n ≡ Passed → (b : Bool) → leb table_room (length before) ≡ b
-      → pack_checked velocities t n before ≡ cond b Passed (Failed 9)
+  pub room-decides : checked velocities t n ≡ Ok tt → (b : Bool) → leb table_room (length before) ≡ b
+      → pack_checked velocities t n before ≡ cond b (Ok tt) (Err ShortTable)
   unfolding pack_checked
   room-decides passed b e = let both = passed-both velocities t n passed in rw (both.0, both.1, e)
 
@@ -160,7 +161,7 @@ module _ (velocities : ℕ) (t : List ℕ) (n : ℕ) (before : List ℕ) where
   AnswersAs c = PackAnswer velocities t n before (packing_if c t n before).answer (packing_if c t n before).second
 
   -- Where all pass, the packed table stands at the front, and what stood behind is kept.
-  packs-in : checked velocities t n ≡ Passed → table_room ≤ length before → AnswersAs Passed
+  packs-in : checked velocities t n ≡ Ok tt → table_room ≤ length before → AnswersAs (Ok tt)
   unfolding AnswersAs after_packing
   packs-in passed room =
       let p = packed t n in
@@ -183,10 +184,10 @@ module _ (velocities : ℕ) (t : List ℕ) (n : ℕ) (before : List ℕ) where
   pack-answers = go (checked velocities t n) refl
     where
       go : (c : Checked) → checked velocities t n ≡ c → AnswersAs (pack_checked velocities t n before)
-      go Passed e =
+      go (Ok tt) e =
           elim (dec_le table_room (length before)) [
             | yes l ↦ rw (room-decides e true (le-leb table_room (length before) l)) (packs-in e l)
             | no l ↦ let less : length before < table_room = omega arith in
                 rw (room-decides e false (lt-leb table_room (length before) less)) (no_room e less)
           ]
-      go (Failed r) e = rw (refused-table velocities t n r _ e) (not-checked e)
+      go (Err r) e = rw (refused-table velocities t n r _ e) (not-checked e)

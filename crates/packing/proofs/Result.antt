@@ -15,15 +15,13 @@ use lib.Seq.{get_or-append-add}
 use borrow.Author.Tests.{eq-eqb, lt-ltb, le-ltb, le-leb}
 use Rattle.traces.specs.Trace.{Trace}
 use Rattle.lists.specs.Number.{number_at}
-use Rattle.tables.specs.Table.{all, Equation, equation_at, equation_fits, kind_at, kind_of, shape_of, is_flow}
+use Rattle.tables.specs.Table.{all, equation_at, equation_fits, kind_at, kind_of, shape_of, is_flow}
 use Rattle.tables.specs.Table.{operand_fits}
 use Rattle.tables.specs.Table.{shape_fits, equations_fit, checked, is_memory, memories}
 use Rattle.tables.specs.Table.{closing_count, started_of, verdict_of, closes}
-use Rattle.tables.specs.Table.Kind.{compare_literal}
 use Rattle.tables.specs.declared.Sort.{Sort}
 use Rattle.tables.specs.declared.Operand.{Operand}
 use Rattle.tables.specs.declared.Operand.TheVariants.{Unused, Earlier, Anywhere, Below, Velocity}
-use Rattle.tables.specs.declared.Checked.TheVariants.{Passed}
 use Rattle.tables.proofs.Tests.{and-true, all-at, all_of}
 use Rattle.tables.proofs.Checks.{checked-fitting, passed-both, long-enough}
 use Rattle.flows.specs.Flow.{answer_of}
@@ -39,6 +37,10 @@ use Rattle.packing.proofs.Keys.{equation-same, both-fit, key-alike, alike-key, u
 use Rattle.packing.proofs.Classes.{Classes, classed, class-fixed}
 use Rattle.packing.proofs.Marking.{Marks}
 use Rattle.packing.proofs.Bisimulation.{alike-common, alike-converse, renamed-alike, flows-alike}
+use Rattle.std.specs.Prelude.{Ok}
+use Rattle.std.specs.Prelude.{Some}
+use Rattle.tables.specs.declared.Kind.TheVariants.{CompareLiteral}
+use Rattle.tables.specs.declared.Equation.{Equation}
 
 -- ---- where the equations come from
 
@@ -331,7 +333,7 @@ module _ {velocities : ℕ} {t : List ℕ} {n : ℕ} {c : ℕ → ℕ} {m : ℕ 
         let verdict = kind-from (verdict_of size) (omega arith) ∙ ap (kind_at t) from-verdict in
         rw (le-leb closing_count n two, le-leb closing_count size more, started, verdict)
 
-  pub passes : checked velocities t n ≡ Passed → checked velocities result (count m n) ≡ Passed
+  pub passes : checked velocities t n ≡ Ok tt → checked velocities result (count m n) ≡ Ok tt
   unfolding equations_fit
   passes e =
       let f = checked-fitting velocities t n e in
@@ -340,11 +342,11 @@ module _ {velocities : ℕ} {t : List ℕ} {n : ℕ} {c : ℕ → ℕ} {m : ℕ 
       P.long true true all_fit (closes-same f.closed ∙ closed)
 
   -- Its literals are the given ones.
-  literal-same : (x : ℕ) → x < size → kind_at result x ≡ compare_literal
+  literal-same : (x : ℕ) → x < size → kind_at result x ≡ (Some CompareLiteral)
       → (equation_at result x).c ≡ (equation_at t (from x)).c
   unfolding Agree shape_of
   literal-same x l e =
-      let h : Agree (Stands n c m) (shape_of compare_literal).c (equation_at result x).c (equation_at t (from x)).c =
+      let h : Agree (Stands n c m) (shape_of (Some CompareLiteral)).c (equation_at result x).c (equation_at t (from x)).c =
       rw e at (stands x l).c in
       h
 

@@ -6,14 +6,14 @@ use Prim.Native.Nat.{ℕ, ◌-◌, ◌/◌}
 use lib.ListN.{length, replicate}
 use Rattle.limits.specs.Limits.{velocity_count}
 use Rattle.tables.specs.Table.{all, kind_of, shape_of, same_sort, is_flow, operand_fits, shape_fits, length_fits}
-use Rattle.tables.specs.Table.{equations_fit, closes, checked}
-use Rattle.tables.specs.declared.Checked.TheVariants.{Passed}
+use Rattle.tables.specs.Table.{equations_fit, closes, passed, checked}
 use Rattle.packing.specs.Search.{first, some, count}
 use Rattle.packing.specs.Operands.{refers, uses}
 use Rattle.packing.specs.Pack.{renamed_number, renamed, same_equation, pass, rounds, classes, marks}
 use Rattle.packing.specs.Pack.{packed_below}
 use Rattle.packing.specs.Packing.{pack_checked, AfterPack, after_pack, after_packing, packing}
-use Rattle.packing.specs.declared.Packed.TheVariants.{Equations, Refused}
+use Rattle.limits.specs.declared.Refusal.TheVariants.{ShortTable, EquationCount, BadEquation}
+use Rattle.std.specs.Prelude.{Ok, Err}
 
 -- A table and its packed table.
 record Row : Type 0 where
@@ -41,7 +41,7 @@ packs r = after_packing (r.given ++ replicate 4 9) (size r.given) (replicate roo
 
 -- What it is to do: the packed table stands at the front, and behind it the nines are kept.
 abbrev expected : Row → AfterPack
-expected r = after_pack (Equations (size r.result)) (r.result ++ replicate (room - length r.result) 9)
+expected r = after_pack (Ok (size r.result)) (r.result ++ replicate (room - length r.result) 9)
 
 -- The second fetch of a signal goes, and what uses it uses the first.
 -- f0=s5; f1=s5; f2=b; f3=f1 and f2; f4=f3 or f1;
@@ -144,7 +144,7 @@ rows =
     ∷ far_apart ∷ strokes ∷ []
 
 -- The given tables pass the check.
-check-rows : map (λ (r : Row). checked velocity_count r.given (size r.given)) rows ≡ map (λ (r : Row). Passed) rows
+check-rows : map (λ (r : Row). checked velocity_count r.given (size r.given)) rows ≡ map (λ (r : Row). passed) rows
 unfolding checked length_fits equations_fit closes all shape_fits shape_of kind_of operand_fits is_flow same_sort
 check-rows = refl
 
@@ -168,7 +168,7 @@ class-rows = refl
 -- No equation, one alone, which closes no table, and too short a second table: refused by 10, 11 and 9 in this order,
 -- and the second table is kept.
 refused-rows : map (λ n. packing velocity_count fetched_twice.given n (7 ∷ [])) (0 ∷ 1 ∷ 5 ∷ [])
-    ≡ map (λ r. after_pack (Refused r) (7 ∷ [])) (10 ∷ 11 ∷ 9 ∷ [])
+    ≡ map (λ r. after_pack (Err r) (7 ∷ [])) (EquationCount ∷ BadEquation ∷ ShortTable ∷ [])
 unfolding packing pack_checked length_fits equations_fit closes all shape_fits shape_of kind_of operand_fits is_flow
     same_sort
 refused-rows = refl

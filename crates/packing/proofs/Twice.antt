@@ -13,8 +13,7 @@ use lib.Seq.{take-add, take-append_seam}
 use Rattle.limits.specs.Limits.{table_room}
 use Rattle.lists.specs.Number.{number_at}
 use Rattle.lists.proofs.Buffers.{drop_more}
-use Rattle.tables.specs.Table.{Equation, equation_at, checked}
-use Rattle.tables.specs.declared.Checked.TheVariants.{Passed, Refused as Failed}
+use Rattle.tables.specs.Table.{equation_at, checked}
 use Rattle.packing.specs.Search.{count}
 use Rattle.packing.specs.Operands.{uses}
 use Rattle.packing.specs.Pack.{renamed, rounds, classes, kept, new_name, numbers, packed_below, packed}
@@ -22,7 +21,6 @@ use Rattle.packing.specs.Pack.{packed_count}
 use Rattle.packing.specs.Packing.{packing, packing_if, after_pack, after_packing}
 use Rattle.packing.specs.Laws.{Alike, Reached}
 use Rattle.packing.specs.Laws.Reached.{last, through}
-use Rattle.packing.specs.declared.Packed.TheVariants.{Equations}
 use Rattle.packing.proofs.Searches.{count_none}
 use Rattle.packing.proofs.Keys.{key-alike, alike-key}
 use Rattle.packing.proofs.Classes.{pass_same, Classes, classed, class-fixed, classes-settled, classes-fit}
@@ -32,6 +30,9 @@ use Rattle.packing.proofs.Bisimulation.{alike-common, alike-converse, alike-name
 use Rattle.packing.proofs.Result.{origin, origin-of, origin-rises, count-run}
 use Rattle.packing.proofs.Result.{kept_more, length-packed, Stands, PackedFront, stands, all_fit}
 use Rattle.packing.proofs.Packs.{front, packs, room-decides}
+use Rattle.std.specs.Prelude.{Ok, Err}
+use Rattle.limits.specs.declared.Refusal.TheVariants.{ShortTable}
+use Rattle.tables.specs.declared.Equation.{Equation}
 
 -- The numbers of equation k stand behind those of the first k.
 four-numbers : (s : List ℕ) (c : ℕ → ℕ) (m : ℕ → Bool) (k : ℕ) → 4 * suc k ≤ length s
@@ -63,7 +64,7 @@ packed-whole s c m (suc k) l all-kept own =
     ∙ sym (four-numbers s c m k l)
 
 -- The table s that is packed from t, with any numbers behind it.
-module _ (velocities : ℕ) (t : List ℕ) (n : ℕ) (passed : checked velocities t n ≡ Passed) (rest : List ℕ) where
+module _ (velocities : ℕ) (t : List ℕ) (n : ℕ) (passed : checked velocities t n ≡ Ok tt) (rest : List ℕ) where
   abbrev c : ℕ → ℕ
   c = classes t n
 
@@ -190,7 +191,8 @@ module _ (velocities : ℕ) (t : List ℕ) (n : ℕ) (passed : checked velocitie
       ) (either (leb table_room (length second)))
     where
       either : (b : Bool)
-          → packing_if (cond b Passed (Failed 9)) s size second ≡ packing_if (cond b Passed (Failed 9)) t n second
+          → packing_if (cond b (Ok tt) (Err ShortTable)) s size second
+          ≡ packing_if (cond b (Ok tt) (Err ShortTable)) t n second
       either true =
-          ap₂ (λ (k : ℕ) (p : List ℕ). after_pack (Equations k) (p ++ drop (4 * k) second)) twice-count twice-packed
+          ap₂ (λ (k : ℕ) (p : List ℕ). after_pack (Ok k) (p ++ drop (4 * k) second)) twice-count twice-packed
       either false = refl

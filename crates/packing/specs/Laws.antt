@@ -1,22 +1,23 @@
 -- What packing owes (SPEC 16.1 to SPEC 16.5), with no rounds, marks or places in it: which equations cannot be told
 -- apart, which are reached, and how a packed table stands to the given one. Definitions only; the theorem is `packs` in
 -- proofs/Packs.antt.
-use Rattle.std.specs.Prelude.{Bool, true, List, [], ◌∷◌, ◌++◌, ◌≡◌, ℕ, ◌+◌, ◌*◌, ◌≤◌, ◌<◌, length, take, drop}
+use Rattle.std.specs.Prelude.{Bool, true, List, [], ◌∷◌, ◌++◌, ◌≡◌, ℕ, ◌+◌, ◌*◌, ◌≤◌, ◌<◌, length, take, drop, Ok, Err}
 use Rattle.limits.specs.Limits.{table_room}
-use Rattle.tables.specs.Table.{Equation, equation_at, kind_at, memories, checked, closing_count, started_of, verdict_of}
-use Rattle.tables.specs.Table.Kind.{compare_literal}
+use Rattle.limits.specs.declared.Refusal.{Refusal}
+use Rattle.limits.specs.declared.Refusal.TheVariants.{ShortTable}
+use Rattle.tables.specs.Table.{equation_at, kind_at, memories, closing_count, started_of, verdict_of}
+use Rattle.tables.specs.Table.{passed, checked}
 use Rattle.tables.specs.declared.Operand.{Operand}
 use Rattle.tables.specs.declared.Operand.TheVariants.{Unused, Earlier, Anywhere, Below, Velocity}
-use Rattle.tables.specs.declared.Checked.TheVariants.{Passed, Refused as Failed}
 use Rattle.traces.specs.Trace.{Trace}
 use Rattle.flows.specs.Flow.{answer_of}
 use Rattle.flows.specs.Lustre.{Solves}
 use Rattle.flows.specs.Run.{Call, answered, from_fresh}
-use Rattle.flows.specs.declared.Stepped.{Stepped}
-use Rattle.flows.specs.declared.Stepped.TheVariants.{Verdict, Refused as NotTaken}
+use Rattle.flows.specs.Step.{Stepped}
 use Rattle.packing.specs.Operands.{shape_in, uses}
-use Rattle.packing.specs.declared.Packed.{Packed}
-use Rattle.packing.specs.declared.Packed.TheVariants.{Equations, Refused}
+use Rattle.std.specs.Prelude.{Some, Result}
+use Rattle.tables.specs.declared.Kind.TheVariants.{CompareLiteral}
+use Rattle.tables.specs.declared.Equation.{Equation}
 
 -- Two numbers at one place of a kind's row: operands are related by R, other numbers are equal.
 unfoldable pub Agree : (ℕ → ℕ → Type 0) → Operand → ℕ → ℕ → Type 0
@@ -55,8 +56,8 @@ pub data Reached (t : List ℕ) (n : ℕ) : ℕ → Type 0 where
 -- No step is refused.
 abbrev pub NoneRefused : List Stepped → Type 0
 NoneRefused [] = Unit {0}
-NoneRefused (Verdict v ∷ xs) = NoneRefused xs
-NoneRefused (NotTaken r ∷ xs) = ⊥
+NoneRefused (Ok v ∷ xs) = NoneRefused xs
+NoneRefused (Err r ∷ xs) = ⊥
 
 -- Both lists of calls have the same ticks, one by one, and the second has values for m equations in each call.
 abbrev pub SameTicks : ℕ → List Call → List Call → Type 0
@@ -67,13 +68,13 @@ SameTicks m (x ∷ xs) (y ∷ ys) = (x.tick ≡ y.tick) × (m ≤ length y.value
 
 -- Each literal of the n equations is below m.
 abbrev pub LiteralsBelow : List ℕ → ℕ → ℕ → Type 0
-LiteralsBelow t n m = (i : ℕ) → i < n → kind_at t i ≡ compare_literal → (equation_at t i).c < m
+LiteralsBelow t n m = (i : ℕ) → i < n → kind_at t i ≡ (Some CompareLiteral) → (equation_at t i).c < m
 
 -- SPEC 16.1 to SPEC 16.5: the n' equations of t' are the n of t, packed.
 pub record Packs (t : List ℕ) (n : ℕ) (t' : List ℕ) (n' : ℕ) : Type 0 where
   -- It passes the check where the given table does, however many velocities there are, and also one with another limit
   -- of literals.
-  pub passes : (velocities : ℕ) → checked velocities t n ≡ Passed → checked velocities t' n' ≡ Passed
+  pub passes : (velocities : ℕ) → checked velocities t n ≡ passed → checked velocities t' n' ≡ passed
   pub limits : (m : ℕ) → LiteralsBelow t n m → LiteralsBelow t' n' m
   -- Equation x stands for equation `from x` of the given table. It has its kind and constants, and each operand is what
   -- stands for the first equation that cannot be told from the given operand.
@@ -109,17 +110,21 @@ pub record Packs (t : List ℕ) (n : ℕ) (t' : List ℕ) (n' : ℕ) : Type 0 wh
   -- Its memories are never more.
   pub memories : memories t' n' ≤ memories t n
 
+-- What packing answers: how many equations the packed table has, or a refusal.
+abbrev pub Packed : Type 0
+Packed = Result ℕ Refusal
+
 -- SPEC 8.8: packing a table of n equations into a second one, where there are so many velocities, the answer, and the
 -- second table before and after. It says nothing of how it is done.
 pub data PackAnswer (velocities : ℕ) (t : List ℕ) (n : ℕ) (before : List ℕ) : Packed → List ℕ → Type 0 where
   -- refused as the check of the table says, the second table unchanged
-  not-checked : {k : ℕ} → checked velocities t n ≡ Failed k → PackAnswer velocities t n before (Refused k) before
+  not-checked : {k : Refusal} → checked velocities t n ≡ Err k → PackAnswer velocities t n before (Err k) before
   -- SPEC 7.9: too short a second table, unchanged
-  no_room : checked velocities t n ≡ Passed → length before < table_room
-      → PackAnswer velocities t n before (Refused 9) before
+  no_room : checked velocities t n ≡ passed → length before < table_room
+      → PackAnswer velocities t n before (Err ShortTable) before
   -- Else the front of the second table is the packed table, whatever numbers or none stand after it where it is used.
   -- All other numbers of the second table are kept.
-  packed : {n' : ℕ} {after : List ℕ} → checked velocities t n ≡ Passed → table_room ≤ length before
+  packed : {n' : ℕ} {after : List ℕ} → checked velocities t n ≡ passed → table_room ≤ length before
       → length after ≡ length before → drop (4 * n') after ≡ drop (4 * n') before
       → ((rest : List ℕ) → Packs t n (take (4 * n') after ++ rest) n')
-      → PackAnswer velocities t n before (Equations n') after
+      → PackAnswer velocities t n before (Ok n') after

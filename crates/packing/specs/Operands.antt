@@ -1,9 +1,10 @@
 -- The operands of an equation, by the row of its kind. Definitions only.
 use Rattle.std.specs.Prelude.{Bool, false, ◌||◌, ℕ, eqb}
-use Rattle.tables.specs.Table.{Equation, kind_of, shape_of}
+use Rattle.tables.specs.Table.{kind_of, shape_of}
 use Rattle.tables.specs.declared.Operand.{Operand}
 use Rattle.tables.specs.declared.Operand.TheVariants.{Unused, Earlier, Anywhere, Below, Velocity}
 use Rattle.tables.specs.declared.Shape.{Shape}
+use Rattle.tables.specs.declared.Equation.{Equation}
 
 -- The row of an equation's kind (SPEC 5.3).
 abbrev pub shape_in : Equation → Shape

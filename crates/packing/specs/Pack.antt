@@ -1,11 +1,12 @@
 -- The packed table (SPEC 16.2 to SPEC 16.4): equations that cannot be told apart become one, and those that the last
 -- two do not reach are left out. Definitions only.
 use Rattle.std.specs.Prelude.{Bool, ◌&&◌, ◌||◌, cond, List, [], ◌∷◌, ◌++◌, ℕ, zero, suc, ◌+◌, ◌*◌, leb, eqb}
-use Rattle.tables.specs.Table.{Equation, equation_at, closing_count}
+use Rattle.tables.specs.Table.{equation_at, closing_count}
 use Rattle.tables.specs.declared.Operand.{Operand}
 use Rattle.tables.specs.declared.Operand.TheVariants.{Unused, Earlier, Anywhere, Below, Velocity}
 use Rattle.packing.specs.Operands.{shape_in, uses}
 use Rattle.packing.specs.Search.{first, some, count}
+use Rattle.tables.specs.declared.Equation.{Equation}
 
 -- A number of an equation, as its row has it: an operand x becomes f x, any other number stays.
 unfoldable pub renamed_number : (ℕ → ℕ) → Operand → ℕ → ℕ

@@ -1,10 +1,4 @@
 // Packing an equation table: what the packed table is (SPEC 16.2 to SPEC 16.4) and what the operation of SPEC 8.8 owes.
 // The operation stands in the crate `packer`.
+// No code.
 #![tactic(auto)]
-
-// What packing answers: how many equations the packed table has, or the number of a refusal.
-#[derive(Clone, Copy)]
-pub enum Packed {
-    Equations(usize),
-    Refused(u32),
-}

@@ -19,8 +19,8 @@ use Rattle.grammar.proofs.Sound.{read-eq}
 use Rattle.grammar.proofs.Complete.{then-on, stop_d, stop_c, turn_d, turn_c}
 use Rattle.facts.specs.Facts.{facts_of, join_facts}
 use Rattle.facts.specs.declared.Facts.{Facts}
-use Rattle.parser.specs.Contract.{Parses, Room, Pushed}
-use Rattle.parser.specs.declared.Parsed.TheVariants.{At, No}
+use Rattle.parser.specs.Contract.{parsed, Parses, Room, Pushed}
+use Rattle.std.specs.Prelude.{None}
 use Rattle.parser.proofs.Stored.{Took, PartsRead, Space, pushed, stored-as, stored_on, says, fails}
 use Rattle.parser.proofs.Stored.{space, past_word, past-tree}
 
@@ -66,7 +66,7 @@ module _ {g : Goal} {k : Tree → Goal} {sub : Goal} {f : Tree → Tree → Tree
 
   module _ {ws : List ℕ} {i : ℕ} {before : List ℕ} {top : ℕ} {after : List ℕ} where
     -- The first part, if there is one,
-    pub none : read ws sub i ≡ no-rule → Parses g ws i before top No after
+    pub none : read ws sub i ≡ no-rule → Parses g ws i before top None after
     none e = fails _ (z.begins ws i) e
 
     pub first : {n e : ℕ} {x : Facts} → Took sub ws i before top n e x after →
@@ -75,7 +75,7 @@ module _ {g : Goal} {k : Tree → Goal} {sub : Goal} {f : Tree → Tree → Tree
 
     -- no further part,
     pub done : {n e : ℕ} {x : Facts} → PartsRead g k ws i before top n e x after → (word ws n ≡ op → ⊥) →
-        Parses g ws i before top (At n e x) after
+        Parses g ws i before top (parsed n e x) after
     done {n} h w =
         let a = h.part in
         says a.tree (h.is ∙ z.stops ws a.tree n w) a.stored a.known
@@ -83,7 +83,7 @@ module _ {g : Goal} {k : Tree → Goal} {sub : Goal} {f : Tree → Tree → Tree
     module _ {n e : ℕ} {x : Facts} {mid : List ℕ} (h : PartsRead g k ws i before top n e x mid)
         (w : word ws n ≡ op) where
       -- one that is not there,
-      pub missing : read ws sub (n + 1) ≡ no-rule → Parses g ws i before top No after
+      pub missing : read ws sub (n + 1) ≡ no-rule → Parses g ws i before top None after
       missing e = fails _ (h.is ∙ z.turns ws h.part.tree n w) e
 
       -- and one more.

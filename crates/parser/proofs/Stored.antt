@@ -21,9 +21,9 @@ use Rattle.grammar.proofs.Position.{DerivesAt, Span, sized, inside}
 use Rattle.grammar.proofs.Sound.{Holds, read-holds}
 use Rattle.facts.specs.Facts.{facts_of}
 use Rattle.facts.specs.declared.Facts.{Facts}
-use Rattle.parser.specs.Contract.{parsed_of, Parses, ParsesBy, Room, Opening, Pushed}
+use Rattle.parser.specs.Contract.{parsed, parsed_of, Parses, ParsesBy, Room, Opening, Pushed}
 use Rattle.parser.specs.declared.Parsed.{Parsed}
-use Rattle.parser.specs.declared.Parsed.TheVariants.{At, No}
+use Rattle.std.specs.Prelude.{Option, None, Some}
 
 -- ---- numbers in the arena
 
@@ -78,10 +78,6 @@ pub record Took (g : Goal) (ws : List ℕ) (i : ℕ) (before : List ℕ) (top n 
   pub part : Part ws i before top n e f after
   pub is : read ws g i ≡ ok part.tree n
 
--- The same of the fields of `At` as the code binds them.
-abbrev pub Gave : Goal → List ℕ → ℕ → List ℕ → ℕ → ℕ × (ℕ × (Facts × Unit {0})) → List ℕ → Type 0
-Gave g ws i before top x after = Took g ws i before top x.0 x.1.0 x.1.1.0 after
-
 -- The parts that a loop has read, as one tree: what is to be read is what is to be read after it.
 pub record PartsRead (g : Goal) (k : Tree → Goal) (ws : List ℕ) (i : ℕ) (before : List ℕ) (top n e : ℕ) (f : Facts)
     (after : List ℕ) : Type 0 where
@@ -89,66 +85,68 @@ pub record PartsRead (g : Goal) (k : Tree → Goal) (ws : List ℕ) (i : ℕ) (b
   pub is : read ws g i ≡ read ws (k part.tree) n
 
 -- An answer with a tree is not the one without.
-no-tree-at : {n e : ℕ} {f : Facts} → No ≡ At n e f → ⊥
-no-tree-at q = let z : ◌≡◌ {A = ℕ} 0 1 = cc in omega arith
+no-tree-at : {p : Parsed} → None ≡ Some p → ⊥
+no-tree-at q = cc
 
-module _ {g : Goal} {ws : List ℕ} {i : ℕ} {before : List ℕ} {top : ℕ} {r : Parsed} {after : List ℕ} where
+module _ {g : Goal} {ws : List ℕ} {i : ℕ} {before : List ℕ} {top : ℕ} {r : Option Parsed} {after : List ℕ} where
   -- What a result says of the answer.
   answers : {x : Result} → Parses g ws i before top r after → read ws g i ≡ x → parsed_of x top ≡ r
   answers h p = sym (h.result ∙ ap (λ (y : Result). parsed_of y top) p)
 
   -- A call took what its answer says; the reading of the goal spans what it took.
-  pub took : {n e : ℕ} {f : Facts} → Parses g ws i before top r after →
-      ((t : Tree) (j : ℕ) → Holds ws g i t j → Span ws i t j) → r ≡ At n e f → Took g ws i before top n e f after
-  took {n} {e} {f} h span q = go (read ws g i) refl
+  pub took : {p : Parsed} → Parses g ws i before top r after →
+      ((t : Tree) (j : ℕ) → Holds ws g i t j → Span ws i t j) → r ≡ Some p →
+      Took g ws i before top p.at p.top p.facts after
+  took {p} h span q = go (read ws g i) refl
     where
-      go : (x : Result) → read ws g i ≡ x → Took g ws i before top n e f after
-      go no-rule p =
-          absurd (no-tree-at (answers h p ∙ q))
-      go (ok t j) p =
-          let b : At j (top + length (flat t)) (facts_of t) ≡ At n e f = answers h p ∙ q in
-          let is : read ws g i ≡ ok t n = p ∙ ap (ok t) (cc) in
+      go : (x : Result) → read ws g i ≡ x → Took g ws i before top p.at p.top p.facts after
+      go no-rule e = absurd (no-tree-at (answers h e ∙ q))
+      go (ok t j) e =
+          let given : Parsed = record { at = j; top = top + length (flat t); facts = facts_of t } in
+          let both : Some given ≡ Some p = answers h e ∙ q in
+          let same : given ≡ p = cc in
+          let is : read ws g i ≡ ok t p.at = e ∙ ap (λ (x : Parsed). ok t x.at) same in
           record {
             part = record {
               tree = t;
-              stored = record { end = cc; filled = h.filled t j p };
-              known = cc;
-              spans = span t n (read-holds ws g i t n is);
+              stored = record { end = sym (ap (λ (x : Parsed). x.top) same); filled = h.filled t j e };
+              known = sym (ap (λ (x : Parsed). x.facts) same);
+              spans = span t p.at (read-holds ws g i t p.at is);
             };
             is = is;
           }
 
   -- A call that gave none read none.
-  pub lost : Parses g ws i before top r after → r ≡ No → read ws g i ≡ no-rule
+  pub lost : Parses g ws i before top r after → r ≡ None → read ws g i ≡ no-rule
   lost h q = go (read ws g i) refl
     where
       go : (x : Result) → read ws g i ≡ x → read ws g i ≡ no-rule
       go no-rule p = p
       go (ok t j) p =
-          let b : At j (top + length (flat t)) (facts_of t) ≡ No = answers h p ∙ q in
+          let b : parsed j (top + length (flat t)) (facts_of t) ≡ None = answers h p ∙ q in
           cc
 
 -- ---- what a return has to say
 
 -- What the answer r and the arena say of a result x, as in `Parses` and in `ParsesBy`.
-pub record ParsesTo (x : Result) (before : List ℕ) (top : ℕ) (r : Parsed) (after : List ℕ) : Type 0 where
+pub record ParsesTo (x : Result) (before : List ℕ) (top : ℕ) (r : Option Parsed) (after : List ℕ) : Type 0 where
   pub result : r ≡ parsed_of x top
   pub filled : (t : Tree) (j : ℕ) → x ≡ ok t j → after ≡ sets before top (flat t)
 
 module _ {x : Result} {before : List ℕ} {top : ℕ} {after : List ℕ} where
   -- A tree that is read, stored and known,
   pub to-tree : {n e : ℕ} {f : Facts} (t : Tree) → x ≡ ok t n → Stored before top (flat t) e after → f ≡ facts_of t →
-      ParsesTo x before top (At n e f) after
+      ParsesTo x before top (parsed n e f) after
   to-tree {n} t is stored known =
       record {
-        result = ap₂ (At n) stored.end known ∙ ap (λ (y : Result). parsed_of y top) (sym is);
+        result = ap₂ (parsed n) stored.end known ∙ ap (λ (y : Result). parsed_of y top) (sym is);
         filled = λ t' j q.
             let same : t ≡ t' = cc in
             stored.filled ∙ ap (λ (u : Tree). sets before top (flat u)) same;
       }
 
   -- or none;
-  pub to_none : x ≡ no-rule → ParsesTo x before top No after
+  pub to_none : x ≡ no-rule → ParsesTo x before top None after
   to_none is =
       record {
         result = ap (λ (y : Result). parsed_of y top) (sym is);
@@ -156,29 +154,29 @@ module _ {x : Result} {before : List ℕ} {top : ℕ} {after : List ℕ} where
       }
 
   -- and the same of another result that is equal.
-  pub to_same : {y : Result} {r : Parsed} → x ≡ y → ParsesTo y before top r after → ParsesTo x before top r after
+  pub to_same : {y : Result} {r : Option Parsed} → x ≡ y → ParsesTo y before top r after → ParsesTo x before top r after
   to_same {r = r} q h = subst (λ (z : Result). ParsesTo z before top r after) (sym q) h
 
 -- In the terms of the contracts: of what a definition reads,
-pub reads-to : {reads : List ℕ → ℕ → Result} {ws : List ℕ} {i : ℕ} {before : List ℕ} {top : ℕ} {r : Parsed}
+pub reads-to : {reads : List ℕ → ℕ → Result} {ws : List ℕ} {i : ℕ} {before : List ℕ} {top : ℕ} {r : Option Parsed}
     {after : List ℕ} → ParsesTo (reads ws i) before top r after → ParsesBy reads ws i before top r after
 reads-to h = record { result = h.result; filled = h.filled }
 
 module _ {g : Goal} {ws : List ℕ} {i : ℕ} {before : List ℕ} {top : ℕ} {after : List ℕ} where
   -- and of a goal.
-  pub parses : {r : Parsed} → ParsesTo (read ws g i) before top r after → Parses g ws i before top r after
+  pub parses : {r : Option Parsed} → ParsesTo (read ws g i) before top r after → Parses g ws i before top r after
   parses h = record { result = h.result; filled = h.filled }
 
   pub says : {n e : ℕ} {f : Facts} (t : Tree) → read ws g i ≡ ok t n → Stored before top (flat t) e after →
-      f ≡ facts_of t → Parses g ws i before top (At n e f) after
+      f ≡ facts_of t → Parses g ws i before top (parsed n e f) after
   says t is stored known = parses (to-tree t is stored known)
 
-  pub says-no : read ws g i ≡ no-rule → Parses g ws i before top No after
+  pub says-no : read ws g i ≡ no-rule → Parses g ws i before top None after
   says-no is = parses (to_none is)
 
   -- None is read where what is read first is not there.
   pub fails : {s : Result} (f : Tree → ℕ → Result) → read ws g i ≡ bind s f → s ≡ no-rule →
-      Parses g ws i before top No after
+      Parses g ws i before top None after
   fails f e l = says-no (e ∙ ap (λ (x : Result). bind x f) l)
 
 -- ---- room

@@ -7,14 +7,16 @@ use Prim.Native.Nat.{ℕ, suc}
 use native.Mathlib.Omega.{arith}
 use lib.Dec.{eqb}
 use lib.ListN.{length, drop}
-use borrow.Author.Tests.{eqb-true, eqb-false, ne_eqb}
+use borrow.Author.Tests.{eqb-true, ne_eqb}
+use Rattle.std.specs.Prelude.{Option, Some, None}
 use Rattle.limits.specs.declared.Context.{Context}
-use Rattle.cards.specs.Heads.{no_edition, rule_head, after_head}
+use Rattle.limits.specs.declared.Refusal.{Refusal}
+use Rattle.cards.specs.Heads.{rule_head, after_head}
 use Rattle.cards.specs.Numbers.{has_prefix}
 use Rattle.cards.specs.Lines.{over_long}
 use Rattle.cards.specs.Heads.{head_refusal, tick_refusal}
-use Rattle.cards.specs.Says.{Says, stage_at, first_stage, edition_of, parameters_say, count_says, broken_by, says_in}
-use Rattle.cards.specs.Says.{line_says, end_says}
+use Rattle.cards.specs.Says.{Says, stage_at, first_stage, edition_of, edition_says, parameters_say, count_says}
+use Rattle.cards.specs.Says.{broken_by, says_in, line_says, end_says}
 use Rattle.cards.specs.Says.Says.{refused}
 use Rattle.cards.specs.declared.Phase.TheVariants as P
 use Rattle.cards.specs.declared.Stage.{Stage}
@@ -31,18 +33,19 @@ use Rattle.player.proofs.Printing.{last-owed}
 -- ---- a line that fails
 
 -- A line that says a refusal is the last one.
-refused-owed : (w : World) (r : ℕ) (l : List ℕ) (ls : List (List ℕ)) (tail : List ℕ)
+refused-owed : (w : World) (r : Refusal) (l : List ℕ) (ls : List (List ℕ)) (tail : List ℕ)
     → line_says (velocities_in w) w.watch.stage l ≡ refused r → owed w (l ∷ ls) tail ≡ output_bytes (O.Refused r)
 unfolding lined played
 refused-owed w r l ls tail e = last-owed w (over_world w) l ls tail (O.Refused r) (ap (played w) e) refl
 
 -- At this stage broken lines say the refusal r, and so does the end of the input.
-pub record Refuses (velocities : ℕ) (k : Stage) (r : ℕ) (Broken : List ℕ → Type 0) : Type 0 where
+pub record Refuses (velocities : ℕ) (k : Stage) (r : Refusal) (Broken : List ℕ → Type 0) : Type 0 where
   pub long : broken_by k.phase ≡ refused r
   pub end : (n : ℕ) → end_says k n ≡ refused r
   pub bad : (l : List ℕ) → Broken l → says_in velocities k.phase k.edition k.left l ≡ refused r
 
-module _ (w : World) {r : ℕ} {Broken : List ℕ → Type 0} (h : Refuses (velocities_in w) w.watch.stage r Broken) where
+module _ (w : World) {r : Refusal} {Broken : List ℕ → Type 0}
+    (h : Refuses (velocities_in w) w.watch.stage r Broken) where
   long-refused : (l : List ℕ) → over_long l ≡ true → line_says (velocities_in w) w.watch.stage l ≡ refused r
   unfolding line_says
   long-refused l e = rw e h.long
@@ -63,11 +66,9 @@ module _ (w : World) {r : ℕ} {Broken : List ℕ → Type 0} (h : Refuses (velo
 -- ---- the five sorts of lines
 
 -- The first line: no edition's line is none by the test.
-no-edition : (l : List ℕ) (t : Bool) → eqb (edition_of l) no_edition ≡ t → NoEdition l → t ≡ true
-no-edition l true e h = refl
-no-edition l false e h =
-    let found = edition-is l (edition_of l) (eqb-false _ _ e) refl in
-    absurd (h (edition_of l) found.0 found.1)
+no-edition : (l : List ℕ) (x : Option ℕ) → edition_of l ≡ x → NoEdition l → x ≡ None
+no-edition l None q h = refl
+no-edition l (Some e) q h = let found = edition-is l e q in absurd (h e found.0 found.1)
 
 -- The third line: a text that has a prefix is the prefix and what comes after it.
 prefix-append : (w s : List ℕ) → has_prefix w s ≡ true → s ≡ w ++ drop (length w) s
@@ -101,7 +102,7 @@ edition-refuses velocities =
     record {
       long = refl;
       end = λ n. refl;
-      bad = λ l h. rw (no-edition l (eqb (edition_of l) no_edition) refl h);
+      bad = λ l h. ap edition_says (no-edition l (edition_of l) refl h);
     }
 
 pub parameters-refuse : (velocities e : ℕ) → Refuses velocities (stage_at P.Parameters e 0) head_refusal NoParameters

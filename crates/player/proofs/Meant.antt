@@ -18,16 +18,12 @@ use Rattle.words.specs.Split.Out.{made}
 use Rattle.formulas.specs.Formula.{Formula}
 use Rattle.formulas.specs.Meaning.{verdict}
 use Rattle.formulas.specs.Tree.{Tree, formula_of}
-use Rattle.tables.specs.Table.{Equation}
 use Rattle.limits.specs.Limits.{parameter_count, standard_cap, text_limit, equation_limit, table_room}
 use Rattle.limits.specs.declared.Context.{Context}
-use Rattle.flows.specs.Step.{AfterStep, freshened, stepped, step_checked, stepped_if, after_tick as tick_after}
+use Rattle.flows.specs.Step.{Stepped, AfterStep, freshened, stepped, step_checked, stepped_if, after_tick as tick_after}
 use Rattle.flows.specs.Run.{Call, steps, answered, call_checked}
 use Rattle.flows.proofs.Expected.{admitted as admitted_ticks, expected}
-use Rattle.tables.specs.declared.Checked.{Checked}
-use Rattle.tables.specs.declared.Checked.TheVariants.{Passed, Refused as Failed}
-use Rattle.flows.specs.declared.Stepped.{Stepped}
-use Rattle.flows.specs.declared.Stepped.TheVariants as S
+use Rattle.tables.specs.Table.{Checked}
 use Rattle.tables.proofs.Tests.{all_of}
 use Rattle.flows.proofs.Buffers.{length-flows}
 use Rattle.scheme.specs.Emit.{observer, numbers_of}
@@ -40,7 +36,6 @@ use Rattle.rules.specs.Computed.{rule_of}
 use Rattle.rules.specs.Reading.Outcome.{rule}
 use Rattle.rules.proofs.Theorems.{accepted}
 use Rattle.observers.specs.Compile.{after_compile, compiled}
-use Rattle.observers.specs.declared.Compiled.TheVariants as C
 use Rattle.observers.proofs.Demand.{Known, known, small-raw, observes-rule, room-compiled}
 use Rattle.cards.proofs.Ticks.{ticked}
 use Rattle.cards.specs.Says.{stage_at}
@@ -55,13 +50,16 @@ use Rattle.player.specs.declared.Output.{Output}
 use Rattle.player.specs.declared.Output.TheVariants as O
 use Rattle.player.proofs.Playing.{saying, tick-lined}
 use Rattle.player.proofs.Closing.{closes-owed}
+use Rattle.std.specs.Prelude.{Ok, Err}
+use Rattle.limits.specs.declared.Refusal.TheVariants.{TextSize}
+use Rattle.tables.specs.declared.Equation.{Equation}
 
 -- ---- the calls that a card's ticks make
 
 -- The verdicts from the tick numbered i on.
 unfoldable verdicts_from : (ℕ → ℕ) → ℕ → List Tick → List Stepped
 verdicts_from vd i [] = []
-verdicts_from vd i (k ∷ ks) = S.Verdict (vd i) ∷ verdicts_from vd (suc i) ks
+verdicts_from vd i (k ∷ ks) = Ok (vd i) ∷ verdicts_from vd (suc i) ks
 
 -- Each of the ticks has a velocity below their number.
 abbrev AllBelow : ℕ → List Tick → Type 0
@@ -79,8 +77,8 @@ module _ (cap velocities : ℕ) (t : List ℕ) (n : ℕ) where
   -- A step leaves room in the values.
   if-room : (c v : List ℕ) (k : Tick) (q : Checked) → n ≤ length v → n ≤ length (stepped_if q cap t n c v k).values
   unfolding tick_after
-  if-room c v k Passed h = simp length-append (omega (arith, length-flows cap t k c n))
-  if-room c v k (Failed r) h = h
+  if-room c v k (Ok tt) h = simp length-append (omega (arith, length-flows cap t k c n))
+  if-room c v k (Err r) h = h
 
   step_room : (c v : List ℕ) (k : Tick) → n ≤ length v → n ≤ length (stepped cap velocities t n c v k).values
   unfolding stepped
@@ -89,7 +87,7 @@ module _ (cap velocities : ℕ) (t : List ℕ) (n : ℕ) where
   module _ (ps : List ℕ) (low : (j : ℕ) → get_or ps j 0 < cap) where
     -- A call with room, these parameters and one of the velocities is admitted.
     admitted : (v : List ℕ) (k : Tick) → n ≤ length v → k.parameters ≡ ps → k.velocity < velocities
-        → call_checked cap velocities n v k ≡ Passed
+        → call_checked cap velocities n v k ≡ Ok tt
     unfolding call_checked parameter_fits
     admitted v k h e u =
         let fit : parameters_fit cap k.parameters ≡ true =
@@ -159,7 +157,7 @@ module _ (context : Context) (e : ℕ) (ps t : List ℕ) (n : ℕ) where
     abbrev one : AfterStep
     one = stepped standard_cap velocities t n c v k
 
-    first-answer : one.answer ≡ S.Verdict (vd i)
+    first-answer : one.answer ≡ Ok (vd i)
     unfolding steps calls_of verdicts_from
     first-answer = heads q
 
@@ -184,13 +182,13 @@ module _ (context : Context) (e : ℕ) (ps t : List ℕ) (n : ℕ) where
       ap (λ (m : ℕ). owed (world_in context (watch_of (stage_at P.Ticks e m) n) ps t c v) rest tail) none
       ∙ closes-owed context h n ps t c v
   ticks-owed {rest = rest} {left = left} {tail} {o}
-      (more-lines {l} {ls} {start = b} {signals} {velocity} {ks} said r) h vd i c v q =
-      let k = tick_of b signals velocity ps in
+      (more-lines {l} {ls} {t = m} {ks} said r) h vd i c v q =
+      let k = tick_of m.start m.signals m.velocity ps in
       let a = stepped standard_cap velocities t n c v k in
       let less : suc (length ks) + left - 1 ≡ length ks + left = omega arith in
       let w = watch_of (stage_at P.Ticks e (suc (length ks) + left)) n in
       let here =
-      tick-lined context ps t w l b signals velocity (vd i) c v a refl (omega arith) said refl
+      tick-lined context ps t w l m (vd i) c v a refl (omega arith) said refl
       (first-answer c v k ks vd i q)
       ∙ ap (λ (m : ℕ). saying context ps t (watch_of (stage_at P.Ticks e m) n) (vd i) a.state a.values) less in
       ap (λ (y : Effect). output_bytes y.output ++ owed y.world (ls ++ rest) tail) here
@@ -218,7 +216,7 @@ module _ {context : Context} (some : 0 < context.velocities) {t ps : List ℕ} {
 -- ---- the rule
 
 -- A text that is a rule has at most 2,048 bytes.
-not-long : (a b : Bool) (x : Out) (ws : List ℕ) → cond (a || b) (Out.refused 1) x ≡ made ws → b ≡ false
+not-long : (a b : Bool) (x : Out) (ws : List ℕ) → cond (a || b) (Out.refused TextSize) x ≡ made ws → b ≡ false
 not-long true b x ws e = absurd (refused-made e)
 not-long false true x ws e = absurd (refused-made e)
 not-long false false x ws e = refl
@@ -235,7 +233,7 @@ rule-short context text t e = let a = (accepted context text t).0 e in split-sho
 pub record Compile (context : Context) (text before : List ℕ) (f : Formula) : Type 0 where
   pub n : ℕ
   pub table : List ℕ
-  pub is : compiled context text before ≡ after_compile (C.Equations n) table
+  pub is : compiled context text before ≡ after_compile (Ok n) table
   pub few : n ≤ equation_limit
   pub observes : Observes standard_cap context.velocities table n f
 

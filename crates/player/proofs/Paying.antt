@@ -7,10 +7,8 @@ use Prim.Native.Nat.{ℕ, ◌+◌, ◌≤◌}
 use native.Mathlib.Omega.{arith}
 use lib.Dec.{ltb}
 use lib.ListN.{length}
-use Rattle.observers.specs.declared.Compiled.{Compiled}
-use Rattle.observers.specs.declared.Compiled.TheVariants as C
-use Rattle.flows.specs.declared.Stepped.{Stepped}
-use Rattle.flows.specs.declared.Stepped.TheVariants as S
+use Rattle.observers.specs.Demand.{Compiled}
+use Rattle.flows.specs.Step.{Stepped}
 use Rattle.cards.specs.Ticks.{tick_length}
 use Rattle.cards.specs.Says.{Says, is_over, line_says, stage_after}
 use Rattle.cards.specs.Says.Says.{edition, parameters, rule, count, tick, refused, nothing}
@@ -24,6 +22,8 @@ use Rattle.player.specs.Card.{broken_bytes, longest_output}
 use Rattle.player.specs.Output.{refusal_digits, output_bytes}
 use Rattle.player.specs.declared.Output.{Output}
 use Rattle.player.specs.declared.Output.TheVariants as O
+use Rattle.std.specs.Prelude.{Ok, Err}
+use Rattle.limits.specs.Refusal.{number}
 
 -- What may have been printed beyond the bytes that were read: once the card is over, a refusal.
 abbrev pub debt : Phase → ℕ
@@ -49,7 +49,7 @@ pub output-small : (o : Output) → length (output_bytes o) ≤ longest_output
 unfolding output_bytes
 output-small O.Quiet = omega arith
 output-small (O.Verdict v) = omega arith
-output-small (O.Refused r) = omega (arith, digits-small r (ltb r 10) refl)
+output-small (O.Refused r) = omega (arith, digits-small (number r) (ltb (number r) 10) refl)
 
 -- A line of n bytes in phase p does t: what it prints is paid by its bytes, its line end and the debt.
 pub record Pays (p : Phase) (n : ℕ) (t : Effect) : Type 0 where
@@ -65,14 +65,14 @@ module _ (p : Phase) (n : ℕ) (e : is_over p ≡ false) where
   quiet-pays w = record { paid = omega (arith, no-debt p e) }
 
   rule-pays : (k : Stage) (r : Compiled) (w : World) → Pays p n (with_rule k r w)
-  rule-pays k (C.Equations m) w = quiet-pays _
-  rule-pays k (C.Refused r) w = stop-pays (O.Refused r) w
+  rule-pays k (Ok m) w = quiet-pays _
+  rule-pays k (Err r) w = stop-pays (O.Refused r) w
 
   -- A verdict has 10 bytes, and the tick line that it is for has more.
   step-pays : (k : Stage) (r : Stepped) (w : World) → tick_length ≤ n → Pays p n (with_step k r w)
   unfolding output_bytes
-  step-pays k (S.Verdict v) w h = record { paid = omega (arith, h, no-debt p e) }
-  step-pays k (S.Refused r) w h = stop-pays (O.Refused r) w
+  step-pays k (Ok v) w h = record { paid = omega (arith, h, no-debt p e) }
+  step-pays k (Err r) w h = stop-pays (O.Refused r) w
 
 over-pays : (n : ℕ) (w : World) → Pays P.Over n (ended_by O.Quiet w)
 unfolding output_bytes
@@ -86,8 +86,8 @@ played-pays k p left n (rule text) w h =
     let r = rule_made w.context text w.table w.state in
     rule-pays p n (ap is_over h.0) k r.answer (ruled_world r w)
 played-pays k p left n (count m) w h = quiet-pays p n (ap is_over h.0) _
-played-pays k p left n (tick start signals velocity) w h =
-    let a = step_of start signals velocity w in step-pays p n (ap is_over h.0) k a.answer (stepped_world a w) h.2
+played-pays k p left n (tick t) w h =
+    let a = step_of t w in step-pays p n (ap is_over h.0) k a.answer (stepped_world a w) h.2
 played-pays k p left n (refused r) w h = stop-pays p n h (O.Refused r) w
 played-pays k p left n nothing w h = rw h (over-pays n w)
 

@@ -6,28 +6,27 @@ use mathlib.Core.List.{List}
 use Prim.Native.Nat.{ℕ, ◌+◌, ◌≤◌, ◌<◌}
 use lib.ListN.{length}
 use Rattle.limits.specs.Limits.{line_limit}
-use Rattle.observers.specs.declared.Compiled.{Compiled}
-use Rattle.observers.specs.declared.Compiled.TheVariants as C
-use Rattle.flows.specs.declared.Stepped.{Stepped}
-use Rattle.flows.specs.declared.Stepped.TheVariants as S
+use Rattle.observers.specs.Demand.{Compiled}
+use Rattle.flows.specs.Step.{Stepped}
 use Rattle.cards.specs.Says.{Says, is_over, line_says, stage_after}
 use Rattle.cards.specs.Says.Says.{edition, parameters, rule, count, tick, refused, nothing}
 use Rattle.cards.specs.declared.Stage.{Stage}
 use Rattle.cards.proofs.Stages.{rank, near}
 use Rattle.player.specs.Card.{velocities_in, rule_made, ruled_world, step_of, stepped_world}
 use Rattle.player.specs.Card.{World, Effect, with_rule, with_step, played_to, played, lined}
+use Rattle.std.specs.Prelude.{Ok, Err}
 
 -- Where the card is not over after a line, its stage is the one that the line leads to.
 abbrev Reaches : Stage → Effect → Type 0
 Reaches k t = is_over t.world.watch.stage.phase ≡ false → t.world.watch.stage ≡ k
 
 rule-reaches : (k : Stage) (r : Compiled) (w : World) → Reaches k (with_rule k r w)
-rule-reaches k (C.Equations n) w o = refl
-rule-reaches k (C.Refused r) w o = absurd (false≢true (sym o))
+rule-reaches k (Ok n) w o = refl
+rule-reaches k (Err r) w o = absurd (false≢true (sym o))
 
 step-reaches : (k : Stage) (r : Stepped) (w : World) → Reaches k (with_step k r w)
-step-reaches k (S.Verdict v) w o = refl
-step-reaches k (S.Refused r) w o = absurd (false≢true (sym o))
+step-reaches k (Ok v) w o = refl
+step-reaches k (Err r) w o = absurd (false≢true (sym o))
 
 played-reaches : (k : Stage) (s : Says) (w : World) → Reaches k (played_to k s w)
 played-reaches k (edition e) w o = refl
@@ -35,8 +34,8 @@ played-reaches k (parameters ps) w o = refl
 played-reaches k (rule text) w o =
     let r = rule_made w.context text w.table w.state in rule-reaches k r.answer (ruled_world r w) o
 played-reaches k (count m) w o = refl
-played-reaches k (tick start signals velocity) w o =
-    let a = step_of start signals velocity w in step-reaches k a.answer (stepped_world a w) o
+played-reaches k (tick t) w o =
+    let a = step_of t w in step-reaches k a.answer (stepped_world a w) o
 played-reaches k (refused r) w o = absurd (false≢true (sym o))
 played-reaches k nothing w o = absurd (false≢true (sym o))
 

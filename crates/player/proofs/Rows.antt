@@ -8,25 +8,26 @@ use Rattle.cards.specs.Says.{line_says}
 use Rattle.player.specs.Card.{played, lined, owed, prints, printed}
 use Rattle.player.specs.Output.{refusal_digits, output_bytes}
 use Rattle.player.specs.declared.Output.TheVariants as O
+use Rattle.limits.specs.declared.Refusal.TheVariants.{BadTick, EquationCount, ShortTable, TextSize, VelocityTooHigh}
 
 -- SPEC 10.10: the number of a refusal, of one digit and of two.
-refusal-1 : output_bytes (O.Refused 1) ≡ bytes "refused=1" ++ (10 ∷ [])
+refusal-1 : output_bytes (O.Refused TextSize) ≡ bytes "refused=1" ++ (10 ∷ [])
 unfolding output_bytes refusal_digits
 refusal-1 = refl
 
-refusal-9 : output_bytes (O.Refused 9) ≡ bytes "refused=9" ++ (10 ∷ [])
+refusal-9 : output_bytes (O.Refused ShortTable) ≡ bytes "refused=9" ++ (10 ∷ [])
 unfolding output_bytes refusal_digits
 refusal-9 = refl
 
-refusal-10 : output_bytes (O.Refused 10) ≡ bytes "refused=10" ++ (10 ∷ [])
+refusal-10 : output_bytes (O.Refused EquationCount) ≡ bytes "refused=10" ++ (10 ∷ [])
 unfolding output_bytes refusal_digits
 refusal-10 = refl
 
-refusal-18 : output_bytes (O.Refused 18) ≡ bytes "refused=18" ++ (10 ∷ [])
+refusal-18 : output_bytes (O.Refused BadTick) ≡ bytes "refused=18" ++ (10 ∷ [])
 unfolding output_bytes refusal_digits
 refusal-18 = refl
 
-refusal-19 : output_bytes (O.Refused 19) ≡ bytes "refused=19" ++ (10 ∷ [])
+refusal-19 : output_bytes (O.Refused VelocityTooHigh) ≡ bytes "refused=19" ++ (10 ∷ [])
 unfolding output_bytes refusal_digits
 refusal-19 = refl
 

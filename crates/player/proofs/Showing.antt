@@ -5,9 +5,8 @@ use mathlib.Core.Bool.{Bool, true, false}
 use mathlib.Core.List.{List, [], ◌∷◌, ◌++◌}
 use Prim.Native.Nat.{ℕ, zero, suc, ◌+◌}
 use native.Mathlib.Omega.{arith}
-use lib.Dec.{eqb}
 use lib.ListN.{length}
-use borrow.Author.Tests.{eqb-true, eqb-false}
+use Rattle.std.specs.Prelude.{Option, Some, None}
 use Rattle.limits.specs.declared.Context.{Context}
 use Rattle.traces.specs.declared.Tick.{Tick}
 use Rattle.traces.specs.Trace.{tick_of}
@@ -16,16 +15,12 @@ use Rattle.rules.specs.Reading.{Outcome, HasOutcome}
 use Rattle.rules.specs.Computed.{rule_of}
 use Rattle.rules.specs.Reading.Outcome.{rule, refused}
 use Rattle.rules.proofs.Theorems.{has-outcome, computed, has-formula}
-use Rattle.cards.specs.Heads.{IsEdition, edition_line, no_edition, rule_head, after_head}
-use Rattle.cards.specs.Numbers.{has_prefix, Listed, parameters_of, count_of}
-use Rattle.cards.specs.Numbers.Listed.{are, broken as no-numbers}
+use Rattle.cards.specs.Heads.{IsEdition, edition_line, rule_head, after_head}
+use Rattle.cards.specs.Numbers.{has_prefix, parameters_of, count_of}
 use Rattle.cards.specs.Lines.{over_long}
 use Rattle.cards.specs.Says.{edition_of}
 use Rattle.cards.specs.Ticks.{tick_line}
-use Rattle.cards.specs.declared.Count.{Count}
-use Rattle.cards.specs.declared.Count.TheVariants as K
 use Rattle.cards.specs.declared.TickLine.{TickLine}
-use Rattle.cards.specs.declared.TickLine.TheVariants as T
 use Rattle.cards.proofs.Editions.{edition-is, edition-not}
 use Rattle.player.specs.Shows.{TickLines, Closes, LinesShow}
 use Rattle.player.specs.Shows.Fails.{broken, missing, over-long}
@@ -67,14 +62,13 @@ module _ (velocities e : ℕ) (ps tail : List ℕ) where
         these = refl;
       }
 
-  one_more : {m start signals velocity : ℕ} {l : List ℕ} {all : List (List ℕ)}
-      → tick_line velocities e l ≡ T.Is start signals velocity
+  one_more : {m : ℕ} {t : TickLine} {l : List ℕ} {all : List (List ℕ)} → tick_line velocities e l ≡ Some t
       → Ticking velocities e ps m all tail → Ticking velocities e ps (suc m) (l ∷ all) tail
-  one_more {m} {start} {signals} {velocity} {l} said h =
+  one_more {m} {t} {l} said h =
       record {
         ls = l ∷ h.ls;
         rest = h.rest;
-        ks = tick_of start signals velocity ps ∷ h.ks;
+        ks = tick_of t.start t.signals t.velocity ps ∷ h.ks;
         left = h.left;
         output = h.output;
         lines = more-lines said h.lines;
@@ -94,10 +88,10 @@ module _ (velocities e : ℕ) (ps tail : List ℕ) where
   ticking (suc m) [] = closing (tick-fails missing)
   ticking (suc m) (l ∷ ls) = go (tick_line velocities e l) refl (ticking m ls)
     where
-      go : (x : TickLine) → tick_line velocities e l ≡ x → Ticking velocities e ps m ls tail
+      go : (x : Option TickLine) → tick_line velocities e l ≡ x → Ticking velocities e ps m ls tail
           → Ticking velocities e ps (suc m) (l ∷ ls) tail
-      go (T.Is start signals velocity) q h = one_more q h
-      go T.Broken q h = closing (tick-fails (broken q))
+      go (Some t) q h = one_more q h
+      go None q h = closing (tick-fails (broken q))
 
 -- ---- the four first lines
 
@@ -108,24 +102,24 @@ Something context tail ls = (out : List ℕ) × LinesShow context tail ls out
 module _ (context : Context) (tail : List ℕ) where
   module _ {e : ℕ} (one : IsEdition e) where
     -- The lines from the fourth on, from the third, from the second, and all.
-    module _ {second ps text : List ℕ} {t : Tree} (are-ps : parameters_of second ≡ are ps)
+    module _ {second ps text : List ℕ} {t : Tree} (are-ps : parameters_of second ≡ Some ps)
         (is-rule : HasOutcome context text (rule t)) where
-      by_count : (l : List ℕ) (ls : List (List ℕ)) (x : Count) → count_of l ≡ x
+      by_count : (l : List ℕ) (ls : List (List ℕ)) (x : Option ℕ) → count_of l ≡ x
           → Something context tail (edition_line e ∷ second ∷ (rule_head ++ text) ∷ l ∷ ls)
-      by_count l ls (K.Is m) q =
+      by_count l ls (Some m) q =
           let h = ticking context.velocities e ps tail m ls in
           let f = has-formula context text t (computed context text is-rule) in
-          let count = q ∙ ap K.Is (sym h.number) in
+          let count = q ∙ ap Some (sym h.number) in
           subst (λ (x : List (List ℕ)). Something context tail (edition_line e ∷ second ∷ (rule_head ++ text) ∷ l ∷ x))
           h.these
           (_, verdicts one are-ps is-rule f.1 count h.lines h.closes)
-      by_count l ls K.Broken q = (_, count-fails one are-ps is-rule (broken q))
+      by_count l ls None q = (_, count-fails one are-ps is-rule (broken q))
 
       from-fourth : (ls : List (List ℕ)) → Something context tail (edition_line e ∷ second ∷ (rule_head ++ text) ∷ ls)
       from-fourth [] = (_, count-fails one are-ps is-rule missing)
       from-fourth (l ∷ ls) = by_count l ls (count_of l) refl
 
-    module _ {second ps : List ℕ} (are-ps : parameters_of second ≡ are ps) where
+    module _ {second ps : List ℕ} (are-ps : parameters_of second ≡ Some ps) where
       by-outcome : (text : List ℕ) (ls : List (List ℕ)) (x : Outcome) → HasOutcome context text x
           → over_long (rule_head ++ text) ≡ false
           → Something context tail (edition_line e ∷ second ∷ (rule_head ++ text) ∷ ls)
@@ -151,22 +145,21 @@ module _ (context : Context) (tail : List ℕ) where
       from-third [] = (_, rule-fails one are-ps missing)
       from-third (l ∷ ls) = by_length l ls (over_long l) refl
 
-    by-parameters : (l : List ℕ) (ls : List (List ℕ)) (x : Listed) → parameters_of l ≡ x
+    by-parameters : (l : List ℕ) (ls : List (List ℕ)) (x : Option (List ℕ)) → parameters_of l ≡ x
         → Something context tail (edition_line e ∷ l ∷ ls)
-    by-parameters l ls (are ps) q = from-third q ls
-    by-parameters l ls no-numbers q = (_, parameters-fail one (broken q))
+    by-parameters l ls (Some ps) q = from-third q ls
+    by-parameters l ls None q = (_, parameters-fail one (broken q))
 
     from_second : (ls : List (List ℕ)) → Something context tail (edition_line e ∷ ls)
     from_second [] = (_, parameters-fail one missing)
     from_second (l ∷ ls) = by-parameters l ls (parameters_of l) refl
 
-  by-edition : (l : List ℕ) (ls : List (List ℕ)) (b : Bool) → eqb (edition_of l) no_edition ≡ b
-      → Something context tail (l ∷ ls)
-  by-edition l ls true q = (_, edition-fails (broken (edition-not l (eqb-true _ _ q))))
-  by-edition l ls false q =
-      let found = edition-is l (edition_of l) (eqb-false _ _ q) refl in
+  by-edition : (l : List ℕ) (ls : List (List ℕ)) (x : Option ℕ) → edition_of l ≡ x → Something context tail (l ∷ ls)
+  by-edition l ls None q = (_, edition-fails (broken (edition-not l q)))
+  by-edition l ls (Some e) q =
+      let found = edition-is l e q in
       subst (λ (x : List ℕ). Something context tail (x ∷ ls)) (sym found.1) (from_second found.0 ls)
 
   pub lines-show : (ls : List (List ℕ)) → Something context tail ls
   lines-show [] = (_, edition-fails missing)
-  lines-show (l ∷ ls) = by-edition l ls (eqb (edition_of l) no_edition) refl
+  lines-show (l ∷ ls) = by-edition l ls (edition_of l) refl

@@ -6,12 +6,14 @@ use mathlib.Core.List.{List, ◌∷◌, ◌++◌}
 use Prim.Native.Nat.{ℕ, ◌+◌, ◌≤◌, ◌<◌}
 use native.Mathlib.Omega.{arith}
 use lib.ListN.{length, replicate, length-replicate}
-use borrow.Author.Tests.{ne_eqb, lt-leb}
+use borrow.Author.Tests.{lt-leb}
+use Rattle.std.specs.Prelude.{Some}
 use Rattle.formulas.specs.Formula.{Formula}
 use Rattle.formulas.specs.Tree.{Tree}
 use Rattle.limits.specs.Limits.{parameter_count, text_limit, line_limit, equation_limit, table_room}
 use Rattle.limits.specs.Context.{standard_context}
 use Rattle.limits.specs.declared.Context.{Context}
+use Rattle.limits.specs.declared.Refusal.{Refusal}
 use Rattle.words.specs.Contract.{Ranged}
 use Rattle.words.proofs.Bounds.{standard-ranged}
 use Rattle.flows.specs.Step.{freshened}
@@ -20,15 +22,13 @@ use Rattle.rules.specs.Computed.{rule_of}
 use Rattle.rules.specs.Reading.Outcome.{rule, refused}
 use Rattle.rules.proofs.Theorems.{computed, has-formula}
 use Rattle.observers.proofs.Demand.{refused-compiled}
-use Rattle.cards.specs.Heads.{IsEdition, edition_line, no_edition, rule_head}
+use Rattle.cards.specs.Heads.{IsEdition, edition_line, rule_head}
 use Rattle.cards.specs.Numbers.{has_prefix, parameters_of, count_of}
-use Rattle.cards.specs.Numbers.Listed.{are}
 use Rattle.cards.specs.Lines.{over_long, cut}
 use Rattle.cards.specs.Says.{stage_at, first_stage, line_says}
-use Rattle.cards.specs.declared.Count.TheVariants as K
 use Rattle.cards.specs.declared.Phase.TheVariants as P
 use Rattle.cards.specs.declared.Stage.{Stage}
-use Rattle.cards.proofs.Editions.{edition-of, edition-known}
+use Rattle.cards.proofs.Editions.{edition-of}
 use Rattle.cards.proofs.Sized.{parameters-low, parameters-short, count-short}
 use Rattle.player.specs.Card.{World, world_in, watch_of, Effect, effect_of, over_world, rule_made, played, lined}
 use Rattle.player.specs.Card.{owed, prints, printed}
@@ -69,9 +69,9 @@ module _ (context : Context) (table c v : List ℕ) where
     edition-lined : (ps : List ℕ) → IsEdition e
         → lined (early first_stage ps) (edition_line e) ≡ silent (early (stage_at P.Parameters e 0) ps)
     unfolding lined played line_says
-    edition-lined ps one = rw (edition-of one, ne_eqb e no_edition (edition-known one))
+    edition-lined ps one = rw (edition-of one)
 
-    parameters-lined : (old ps l : List ℕ) → parameters_of l ≡ are ps
+    parameters-lined : (old ps l : List ℕ) → parameters_of l ≡ Some ps
         → lined (early (stage_at P.Parameters e 0) old) l ≡ silent (early (stage_at P.Rule e 0) ps)
     unfolding lined played line_says
     parameters-lined old ps l q = rw (lt-leb line_limit (length l) (parameters-short l ps q), q)
@@ -88,15 +88,15 @@ module _ (context : Context) (table c v : List ℕ) where
           o.observes.fresh c (omega (arith, o.few)),
         )
 
-    refused-lined : (ps text : List ℕ) (k : ℕ) → over_long (rule_head ++ text) ≡ false
+    refused-lined : (ps text : List ℕ) (k : Refusal) → over_long (rule_head ++ text) ≡ false
         → rule_of context text ≡ refused k
         → lined (early (stage_at P.Rule e 0) ps) (rule_head ++ text)
         ≡ effect_of (O.Refused k) (over_world (early (stage_at P.Rule e 0) ps))
     unfolding lined played line_says rule_made has_prefix
-    refused-lined ps text k h q = rw (h, ← (refused-compiled context text table k q))
+    refused-lined ps text k h q = rw (h, ← (refused-compiled context text table q))
 
     count-lined : {text : List ℕ} {f : Formula} (o : Compile context text table f) (ps l : List ℕ) (k : ℕ)
-        → count_of l ≡ K.Is k
+        → count_of l ≡ Some k
         → lined (ruled o (stage_at P.Count e 0) ps) l ≡ silent (ruled o (stage_at P.Ticks e k) ps)
     unfolding lined played line_says
     count-lined o ps l k q = rw (lt-leb line_limit (length l) (count-short l k q), q)
@@ -113,14 +113,14 @@ module _ {context : Context} (ranged : Ranged context) (old table c v : List ℕ
         ≡ owed (early context table c v (stage_at P.Parameters e 0) old) ls tail
     after_first ls = silent-owed _ (edition_line e) ls tail (edition-lined context table c v e old one)
 
-    after-second : (second ps : List ℕ) (ls : List (List ℕ)) → parameters_of second ≡ are ps
+    after-second : (second ps : List ℕ) (ls : List (List ℕ)) → parameters_of second ≡ Some ps
         → owed (early context table c v first_stage old) (edition_line e ∷ second ∷ ls) tail
         ≡ owed (early context table c v (stage_at P.Rule e 0) ps) ls tail
     after-second second ps ls q =
         after_first (second ∷ ls) ∙ silent-owed _ second ls tail (parameters-lined context table c v e old ps second q)
 
     after-third : (second ps text : List ℕ) {t : Tree} {f : Formula} (o : Compile context text table f)
-        (ls : List (List ℕ)) → parameters_of second ≡ are ps → HasOutcome context text (rule t)
+        (ls : List (List ℕ)) → parameters_of second ≡ Some ps → HasOutcome context text (rule t)
         → owed (early context table c v first_stage old) (edition_line e ∷ second ∷ (rule_head ++ text) ∷ ls) tail
         ≡ owed (ruled context table c v o (stage_at P.Count e 0) ps) ls tail
     after-third second ps text {t} o ls q r =

@@ -1,29 +1,26 @@
 -- What the program prints for a card, as a definition on the card's bytes: `printed`. What a line says is
 -- `line_says` of the crate cards; here it is played (`played`): a rule is compiled, a tick is a step. Definitions only.
-use Rattle.std.specs.Prelude.{List, [], ◌∷◌, ◌++◌, ◌≡◌, ℕ, ◌+◌, ◌<◌, length, replicate}
+use Rattle.std.specs.Prelude.{List, [], ◌∷◌, ◌++◌, ◌≡◌, ℕ, ◌+◌, ◌<◌, Result, Ok, Err, length, replicate}
+use Rattle.limits.specs.declared.Refusal.{Refusal}
 use Rattle.limits.specs.Limits.{standard_cap, parameter_count, table_room, equation_limit}
 use Rattle.limits.specs.Context.{standard_context}
 use Rattle.limits.specs.declared.Context.{Context}
 use Rattle.lists.specs.Line.{line_from}
 use Rattle.traces.specs.Trace.{tick_of}
 use Rattle.observers.specs.Compile.{AfterCompile, compiled}
-use Rattle.observers.specs.declared.Compiled.{Compiled}
-use Rattle.observers.specs.declared.Compiled.TheVariants as C
-use Rattle.flows.specs.Step.{AfterFresh, freshened, AfterStep, stepped}
-use Rattle.flows.specs.declared.Fresh.{Fresh}
-use Rattle.flows.specs.declared.Fresh.TheVariants as F
-use Rattle.flows.specs.declared.Stepped.{Stepped}
-use Rattle.flows.specs.declared.Stepped.TheVariants as S
+use Rattle.observers.specs.Demand.{Compiled}
+use Rattle.flows.specs.Step.{Fresh, AfterFresh, freshened, Stepped, AfterStep, stepped}
 use Rattle.cards.specs.Lines.{cut}
 use Rattle.cards.specs.Says.{Says, first_stage, over_stage, broken_by, line_says, stage_after, end_says}
 use Rattle.cards.specs.Says.Says.{edition, parameters, rule, count, tick, refused, nothing}
 use Rattle.cards.specs.declared.Phase.{Phase}
 use Rattle.cards.specs.declared.Stage.{Stage}
+use Rattle.cards.specs.declared.TickLine.{TickLine}
 use Rattle.player.specs.Output.{output_bytes}
 use Rattle.player.specs.declared.Output.{Output}
 use Rattle.player.specs.declared.Output.TheVariants as O
+use Rattle.player.specs.declared.Player.{Player}
 use Rattle.player.specs.declared.Watch.{Watch}
-use Rattle.player.specs.declared.Answered.{Answered}
 
 -- ---- the player's memory
 
@@ -47,6 +44,19 @@ velocities_in w = w.context.velocities
 -- The program's world, in the context of the specification,
 abbrev pub world_of : Watch → List ℕ → List ℕ → List ℕ → List ℕ → World
 world_of w ps t c v = world_in standard_context w ps t c v
+
+-- and what the code's player holds.
+abbrev pub held_by : Player → World
+held_by p = world_of p.watch p.parameters p.table.now p.state.now p.values.now
+
+-- The arrays that a player is lent stay the same ones, and so each keeps its length.
+pub record SameArrays (old new : Player) : Type 0 where
+  pub table : new.table.ghost_name ≡ old.table.ghost_name
+  pub state : new.state.ghost_name ≡ old.state.ghost_name
+  pub values : new.values.ghost_name ≡ old.values.ghost_name
+  pub table_length : length new.table.now ≡ length old.table.now
+  pub state_length : length new.state.now ≡ length old.state.now
+  pub values_length : length new.values.now ≡ length old.values.now
 
 abbrev pub watch_of : Stage → ℕ → Watch
 watch_of k n = record { stage = k; n = n }
@@ -78,12 +88,10 @@ over_world w = with_watch over_watch w
 abbrev pub ended_by : Output → World → Effect
 ended_by o w = effect_of o (over_world w)
 
--- The same as the code's answers.
-abbrev pub going_on : Stage → ℕ → Output → Answered
-going_on k n o = record { watch = watch_of k n; output = o }
-
-abbrev pub stopped : Output → Answered
-stopped o = record { watch = over_watch; output = o }
+-- The same as the code's answer: a refusal ends the card.
+abbrev pub answered : Result Output Refusal → World → Effect
+answered (Ok o) w = effect_of o w
+answered (Err r) w = ended_by (O.Refused r) w
 
 -- The rule: its answer, and the table and the state that it leaves.
 pub record AfterRule : Type 0 where
@@ -95,15 +103,15 @@ abbrev pub after_rule : Compiled → List ℕ → List ℕ → AfterRule
 after_rule r t c = record { answer = r; table = t; state = c }
 
 abbrev pub fresh_as : ℕ → Fresh → Compiled
-fresh_as n F.Made = C.Equations n
-fresh_as n (F.Refused r) = C.Refused r
+fresh_as n (Ok tt) = Ok n
+fresh_as n (Err r) = Err r
 
 abbrev pub made_fresh : ℕ → List ℕ → AfterFresh → AfterRule
 made_fresh n t f = after_rule (fresh_as n f.answer) t f.state
 
 abbrev pub made_as : ℕ → Compiled → List ℕ → List ℕ → AfterRule
-made_as velocities (C.Equations n) t c = made_fresh n t (freshened velocities t n c)
-made_as velocities (C.Refused r) t c = after_rule (C.Refused r) t c
+made_as velocities (Ok n) t c = made_fresh n t (freshened velocities t n c)
+made_as velocities (Err r) t c = after_rule (Err r) t c
 
 abbrev pub made_by : ℕ → AfterCompile → List ℕ → AfterRule
 made_by velocities k c = made_as velocities k.answer k.table c
@@ -113,12 +121,9 @@ unfoldable pub rule_made : Context → List ℕ → List ℕ → List ℕ → Af
 rule_made context text t c = made_by context.velocities (compiled context text t) c
 
 -- A rule with a refusal ends the card.
-abbrev pub rule_answer : Stage → Compiled → Answered
-rule_answer k (C.Equations n) = going_on k n O.Quiet
-rule_answer k (C.Refused r) = stopped (O.Refused r)
-
 abbrev pub with_rule : Stage → Compiled → World → Effect
-with_rule k r w = moved_on (rule_answer k r).watch (rule_answer k r).output w
+with_rule k (Ok n) w = moved_on (watch_of k n) O.Quiet w
+with_rule k (Err r) w = ended_by (O.Refused r) w
 
 abbrev pub ruled_world : AfterRule → World → World
 ruled_world r w = world_in w.context w.watch w.parameters r.table r.state w.values
@@ -128,8 +133,8 @@ rule_effect k r w = with_rule k r.answer (ruled_world r w)
 
 -- A tick line: one step.
 abbrev pub with_step : Stage → Stepped → World → Effect
-with_step k (S.Verdict v) w = moved_on (watch_of k w.watch.n) (O.Verdict v) w
-with_step k (S.Refused r) w = ended_by (O.Refused r) w
+with_step k (Ok v) w = moved_on (watch_of k w.watch.n) (O.Verdict v) w
+with_step k (Err r) w = ended_by (O.Refused r) w
 
 abbrev pub stepped_world : AfterStep → World → World
 stepped_world a w = world_in w.context w.watch w.parameters w.table a.state a.values
@@ -137,13 +142,13 @@ stepped_world a w = world_in w.context w.watch w.parameters w.table a.state a.va
 abbrev pub step_effect : Stage → AfterStep → World → Effect
 step_effect k a w = with_step k a.answer (stepped_world a w)
 
-abbrev pub step_of : ℕ → ℕ → ℕ → World → AfterStep
-step_of start signals velocity w =
+abbrev pub step_of : TickLine → World → AfterStep
+step_of t w =
     stepped standard_cap (velocities_in w) w.table w.watch.n w.state w.values
-    (tick_of start signals velocity w.parameters)
+    (tick_of t.start t.signals t.velocity w.parameters)
 
-abbrev pub tick_effect : Stage → ℕ → ℕ → ℕ → World → Effect
-tick_effect k start signals velocity w = step_effect k (step_of start signals velocity w) w
+abbrev pub tick_effect : Stage → TickLine → World → Effect
+tick_effect k t w = step_effect k (step_of t w) w
 
 -- What a line does that says so, k being the stage after it.
 abbrev pub played_to : Stage → Says → World → Effect
@@ -152,7 +157,7 @@ played_to k (parameters ps) w =
     effect_of O.Quiet (world_in w.context (watch_of k 0) ps w.table w.state w.values)
 played_to k (rule text) w = rule_effect k (rule_made w.context text w.table w.state) w
 played_to k (count m) w = moved_on (watch_of k w.watch.n) O.Quiet w
-played_to k (tick start signals velocity) w = tick_effect k start signals velocity w
+played_to k (tick t) w = tick_effect k t w
 played_to k (refused r) w = ended_by (O.Refused r) w
 played_to k nothing w = ended_by O.Quiet w
 
@@ -176,7 +181,7 @@ last_output (edition e) = O.Quiet
 last_output (parameters ps) = O.Quiet
 last_output (rule text) = O.Quiet
 last_output (count k) = O.Quiet
-last_output (tick start signals velocity) = O.Quiet
+last_output (tick t) = O.Quiet
 last_output (refused r) = O.Refused r
 last_output nothing = O.Quiet
 

@@ -9,6 +9,8 @@ use native.Mathlib.Omega.{arith}
 use lib.ListN.{length, take}
 use Rattle.limits.specs.Limits.{standard_cap, table_room, rule_equations}
 use Rattle.limits.specs.declared.Context.{Context}
+use Rattle.limits.specs.declared.Refusal.{Refusal}
+use Rattle.limits.specs.declared.Refusal.TheVariants.{ShortTable}
 use Rattle.traces.specs.Trace.{truth, parameter_at}
 use Rattle.traces.specs.Compare.{op_of}
 use Rattle.traces.specs.declared.Op.TheVariants.{AtMost, Below, Equal, Above, AtLeast}
@@ -32,8 +34,7 @@ use Rattle.rules.proofs.Sides.{side-rule}
 use Rattle.rules.proofs.Sameness.{same_answer}
 use Rattle.rules.proofs.SameRule.{one_answer, same-tree, not-refused, yes-rule, reflexive, symmetric, transitive}
 use Rattle.rules.proofs.SameRule.{same-meaning, numbered-answer}
-use Rattle.tables.specs.Table.{kind_of, checked}
-use Rattle.tables.specs.declared.Checked.TheVariants.{Passed, Refused as Failed}
+use Rattle.tables.specs.Table.{Checked, kind_of, checked}
 use Rattle.tables.proofs.Checks.{failed-passed}
 use Rattle.flows.specs.Flow.{value_of}
 use Rattle.flows.proofs.Lists.{runs-as-lustre}
@@ -41,13 +42,10 @@ use Rattle.agreement.specs.Agreement.{Closing, ExactMemories, FewMemories, Obser
 use Rattle.agreement.proofs.Memories.{few-memories}
 use Rattle.observers.specs.Demand.{Compiles}
 use Rattle.observers.specs.Demand.Compiles.{not-read, no_room, observed}
-use Rattle.observers.specs.declared.Compiled.{Compiled}
-use Rattle.observers.specs.declared.Compiled.TheVariants.{Equations, Refused}
+use Rattle.observers.specs.Demand.{Compiled}
 use Rattle.observers.proofs.SameRule.{refused-equations, same-answers}
-use Rattle.packing.specs.Laws.{Packs, PackAnswer}
+use Rattle.packing.specs.Laws.{Packs, Packed, PackAnswer}
 use Rattle.packing.specs.Laws.PackAnswer.{not-checked, no_room as no_second, packed}
-use Rattle.packing.specs.declared.Packed.{Packed}
-use Rattle.packing.specs.declared.Packed.TheVariants.{Equations as PackedTo, Refused as NotPacked}
 use Rattle.packing.proofs.One.{one_answer as one-packing}
 use Rattle.packing.proofs.Again.{refused-packed, again, behind}
 use Rattle.lustre.proofs.Theorems as lustre
@@ -55,6 +53,7 @@ use Rattle.player.specs.Card.{printed}
 use Rattle.player.proofs.Shown.{shown, one-output}
 use Rattle.promises.specs.Promises.{Reading, Whether, Comparing, SameRules}
 use Rattle.promises.specs.Promises.{Promises}
+use Rattle.std.specs.Prelude.{Ok, Err}
 
 reading : (context : Context) → Reading context
 reading context =
@@ -122,19 +121,19 @@ comparing =
     }
 
 -- What compiling gives for a refused text, for a rule and too short a table,
-refused-text : {context : Context} {text before after : List ℕ} {r : Compiled} {k : ℕ}
+refused-text : {context : Context} {text before after : List ℕ} {r : Compiled} {k : Refusal}
     → Compiles context text before r after
-    → HasOutcome context text (refused k) → (r ≡ Refused k) × (after ≡ before)
-refused-text {context} {text} (not-read e) h = (ap Refused (refusal-of (one-outcome context text _ _ e h)), refl)
+    → HasOutcome context text (refused k) → (r ≡ Err k) × (after ≡ before)
+refused-text {context} {text} (not-read e) h = (ap Err (refusal-of (one-outcome context text _ _ e h)), refl)
   where
-    refusal-of : {m k : ℕ} → refused m ≡ refused k → m ≡ k
+    refusal-of : {m k : Refusal} → refused m ≡ refused k → m ≡ k
     refusal-of e = cc
 refused-text (no_room e l) h = absurd (not-refused e h)
 refused-text (observed e is l few same kept o exact ends) h = absurd (not-refused e h)
 
 short-table : {context : Context} {text before after : List ℕ} {r : Compiled} {t : Tree}
     → Compiles context text before r after
-    → HasOutcome context text (rule t) → length before < table_room → (r ≡ Refused 9) × (after ≡ before)
+    → HasOutcome context text (rule t) → length before < table_room → (r ≡ Err ShortTable) × (after ≡ before)
 short-table (not-read e) h low = absurd (not-refused h e)
 short-table (no_room e l) h low = (refl, refl)
 short-table (observed e is l few same kept o exact ends) h low = absurd (omega arith)
@@ -142,20 +141,20 @@ short-table (observed e is l few same kept o exact ends) h low = absurd (omega a
 -- and for a rule where there is room.
 compiled-rule : {context : Context} {text before after : List ℕ} {r : Compiled} {t : Tree}
     → Compiles context text before r after
-    → HasOutcome context text (rule t) → table_room ≤ length before → (n : ℕ) × (r ≡ Equations n)
+    → HasOutcome context text (rule t) → table_room ≤ length before → (n : ℕ) × (r ≡ Ok n)
 compiled-rule (not-read e) h room = absurd (not-refused h e)
 compiled-rule (no_room e l) h room = absurd (omega arith)
 compiled-rule (observed {n} e is l few same kept o exact ends) h room = (n, refl)
 
 few-equations : {context : Context} {text before after : List ℕ} {r : Compiled} {n : ℕ}
-    → Compiles context text before r after → r ≡ Equations n
+    → Compiles context text before r after → r ≡ Ok n
     → n ≤ rule_equations
 few-equations (not-read e) q = absurd (refused-equations q)
 few-equations (no_room e l) q = absurd (refused-equations q)
 few-equations {n = n} (observed {n = m} e is l few same kept o exact ends) q = let number : m ≡ n = cc in omega arith
 
 closing : {context : Context} {text before after : List ℕ} {r : Compiled} {n : ℕ}
-    → Compiles context text before r after → r ≡ Equations n
+    → Compiles context text before r after → r ≡ Ok n
     → Closing after n
 closing (not-read e) q = absurd (refused-equations q)
 closing (no_room e l) q = absurd (refused-equations q)
@@ -164,7 +163,7 @@ closing {after = after} (observed e is l few same kept o exact ends) q = subst (
 -- A text has one tree, and the table so many memories as that tree asks for;
 remembering : {context : Context} {text before after : List ℕ} {r : Compiled} {n : ℕ} {t : Tree}
     → Compiles context text before r after
-    → r ≡ Equations n → HasOutcome context text (rule t) → (rest : List ℕ)
+    → r ≡ Ok n → HasOutcome context text (rule t) → (rest : List ℕ)
     → ExactMemories (take (4 * n) after ++ rest) n t
 remembering (not-read e) q h rest = absurd (refused-equations q)
 remembering (no_room e l) q h rest = absurd (refused-equations q)
@@ -174,7 +173,7 @@ remembering {after = after} {n = n} {t} (observed {n = m} {t = u} e is l few sam
 
 -- so the bound on them holds.
 remembering-few : {context : Context} {text before after : List ℕ} {n : ℕ} {t : Tree}
-    → Compiles context text before (Equations n) after
+    → Compiles context text before (Ok n) after
     → HasOutcome context text (rule t) → (rest : List ℕ) → FewMemories (take (4 * n) after ++ rest) n t
 remembering-few {after = after} {n} {t} c h rest =
     few-memories (take (4 * n) after ++ rest) n t (remembering c refl h rest)
@@ -184,7 +183,7 @@ one-formula : {x y : Option Formula} {f g : Formula} → x ≡ some f → y ≡ 
 one-formula p q e = cc
 
 observed-rule : {context : Context} {text before after : List ℕ} {r : Compiled} {n : ℕ} {t : Tree} {f : Formula}
-    → Compiles context text before r after → r ≡ Equations n → HasOutcome context text (rule t) → formula_of t ≡ some f
+    → Compiles context text before r after → r ≡ Ok n → HasOutcome context text (rule t) → formula_of t ≡ some f
     → (rest : List ℕ) → Observes standard_cap context.velocities (take (4 * n) after ++ rest) n f
 observed-rule (not-read e) q h is rest = absurd (not-refused h e)
 observed-rule (no_room e l) q h is rest = absurd (refused-equations q)
@@ -196,33 +195,33 @@ observed-rule {context} {after = after} {n = n} {t} {f}
     number formula (o rest)
 
 -- What packing gives for a table that fails its check, for one that passes and too short a second table,
-refused-table : {velocities : ℕ} {t before after : List ℕ} {n k : ℕ} {r : Packed}
-    → PackAnswer velocities t n before r after → checked velocities t n ≡ Failed k
-    → (r ≡ NotPacked k) × (after ≡ before)
-refused-table (not-checked e) h = (ap NotPacked (number_of (sym e ∙ h)), refl)
+refused-table : {velocities : ℕ} {t before after : List ℕ} {n : ℕ} {k : Refusal} {r : Packed}
+    → PackAnswer velocities t n before r after → checked velocities t n ≡ Err k
+    → (r ≡ Err k) × (after ≡ before)
+refused-table (not-checked e) h = (ap Err (number_of (sym e ∙ h)), refl)
   where
-    number_of : {m k : ℕ} → Failed m ≡ Failed k → m ≡ k
+    number_of : {m k : Refusal} → ◌≡◌ {A = Checked} (Err m) (Err k) → m ≡ k
     number_of e = cc
 refused-table (no_second e l) h = absurd (failed-passed (sym h ∙ e))
 refused-table (packed e l long same p) h = absurd (failed-passed (sym h ∙ e))
 
 short-second : {velocities : ℕ} {t before after : List ℕ} {n : ℕ} {r : Packed}
-    → PackAnswer velocities t n before r after → checked velocities t n ≡ Passed
-    → length before < table_room → (r ≡ NotPacked 9) × (after ≡ before)
+    → PackAnswer velocities t n before r after → checked velocities t n ≡ Ok tt
+    → length before < table_room → (r ≡ Err ShortTable) × (after ≡ before)
 short-second (not-checked e) h low = absurd (failed-passed (sym e ∙ h))
 short-second (no_second e l) h low = (refl, refl)
 short-second (packed e l long same p) h low = absurd (omega arith)
 
 -- and for one that passes where there is room.
 served-table : {velocities : ℕ} {t before after : List ℕ} {n : ℕ} {r : Packed}
-    → PackAnswer velocities t n before r after → checked velocities t n ≡ Passed
-    → table_room ≤ length before → (n' : ℕ) × (r ≡ PackedTo n')
+    → PackAnswer velocities t n before r after → checked velocities t n ≡ Ok tt
+    → table_room ≤ length before → (n' : ℕ) × (r ≡ Ok n')
 served-table (not-checked e) h room = absurd (failed-passed (sym e ∙ h))
 served-table (no_second e l) h room = absurd (omega arith)
 served-table (packed {n'} e l long same p) h room = (n', refl)
 
 packed-front : {velocities : ℕ} {t before after : List ℕ} {n n' : ℕ} {r : Packed}
-    → PackAnswer velocities t n before r after → r ≡ PackedTo n'
+    → PackAnswer velocities t n before r after → r ≡ Ok n'
     → (rest : List ℕ) → Packs t n (take (4 * n') after ++ rest) n'
 packed-front (not-checked e) q rest = absurd (refused-packed q)
 packed-front (no_second e l) q rest = absurd (refused-packed q)

@@ -15,9 +15,13 @@
 --   read_lustre    AfterRead      lustre/specs/Read.antt            a text, the answer, the table before and after
 --   towerwatch     Shows          player/specs/Shows.antt           a card and what is printed
 use Rattle.std.specs.Prelude.{true, List, [], ◌∷◌, ◌++◌, map, ◌↔◌, ◌⊎◌, ◌≡◌, ℕ, ◌+◌, ◌*◌, ◌≤◌, ◌<◌, length, take, drop}
+use Rattle.std.specs.Prelude.{Ok, Err}
 use Rattle.std.proofs.Math.Option.{some}
 use Rattle.limits.specs.Limits.{standard_cap, literal_count, parameter_count, table_room, rule_equations}
+use Rattle.limits.specs.Refusal.{number}
 use Rattle.limits.specs.declared.Context.{Context}
+use Rattle.limits.specs.declared.Refusal.{Refusal}
+use Rattle.limits.specs.declared.Refusal.TheVariants.{ShortTable}
 use Rattle.traces.specs.Trace.{Trace, parameter_at}
 use Rattle.traces.specs.Parameters.{run_with}
 use Rattle.traces.specs.Compare.{op_of, compares, Compared}
@@ -32,28 +36,18 @@ use Rattle.words.specs.Word.{PARAMETER}
 use Rattle.grammar.specs.Fragment.{has_word}
 use Rattle.rules.specs.Reading.{Admitted, Outcome, HasOutcome}
 use Rattle.rules.specs.Reading.Outcome.{rule, refused}
-use Rattle.rules.specs.Contract.{Told}
-use Rattle.rules.specs.Same.{Within, SameValues, SameAnswer, SameRule}
-use Rattle.rules.specs.declared.Read.{Read}
-use Rattle.rules.specs.declared.Same.{Same}
-use Rattle.rules.specs.declared.Same.TheVariants.{Refused as NotCompared}
-use Rattle.tables.specs.Table.{Equation, kind_of, checked}
-use Rattle.tables.specs.declared.Checked.TheVariants.{Passed, Refused as Failed}
+use Rattle.rules.specs.Contract.{Read, Told}
+use Rattle.rules.specs.Same.{Within, Same, SameValues, SameAnswer, SameRule}
+use Rattle.tables.specs.Table.{kind_of, checked}
+use Rattle.tables.specs.declared.Equation.{Equation}
 use Rattle.flows.specs.Flow.{value_of}
 use Rattle.flows.specs.Lustre.{RunsAsLustre}
 use Rattle.flows.specs.Run.{Call, call_with, from_fresh, answered}
 use Rattle.agreement.specs.Agreement.{Closing, ExactMemories, FewMemories, Observes}
-use Rattle.observers.specs.Demand.{Compiles}
-use Rattle.observers.specs.declared.Compiled.{Compiled}
-use Rattle.observers.specs.declared.Compiled.TheVariants.{Equations, Refused}
-use Rattle.packing.specs.Laws.{Packs, PackAnswer}
-use Rattle.packing.specs.declared.Packed.{Packed}
-use Rattle.packing.specs.declared.Packed.TheVariants.{Equations as PackedTo, Refused as NotPacked}
+use Rattle.observers.specs.Demand.{Compiled, Compiles}
+use Rattle.packing.specs.Laws.{Packs, Packed, PackAnswer}
 use Rattle.lustre.specs.Write.{after_write, write_effect}
-use Rattle.lustre.specs.Read.{AfterRead}
-use Rattle.lustre.specs.declared.Written.TheVariants.{Length}
-use Rattle.lustre.specs.declared.Loaded.{Loaded}
-use Rattle.lustre.specs.declared.Loaded.TheVariants.{Equations as Loads}
+use Rattle.lustre.specs.Read.{Loaded, AfterRead}
 use Rattle.player.specs.Shows.{Shows}
 
 -- SPEC 12.2 (demand 2), its part on texts: which of them are rules, and that each of these has one tree. It holds in
@@ -65,7 +59,8 @@ pub record Reading (context : Context) : Type 0 where
   pub some-outcome : (text : List ℕ) → (x : Outcome) × HasOutcome context text x
   pub one-outcome : (text : List ℕ) (x y : Outcome) → HasOutcome context text x → HasOutcome context text y → x ≡ y
   -- A refusal is 1 to 8, so that 0 can stand for none.
-  pub numbered : (text : List ℕ) (k : ℕ) → HasOutcome context text (refused k) → (1 ≤ k) × (k ≤ 8)
+  pub numbered : (text : List ℕ) (k : Refusal) → HasOutcome context text (refused k)
+      → (1 ≤ number k) × (number k ≤ 8)
   -- What is read has a formula, and so a meaning.
   pub formula : (text : List ℕ) (t : Tree) → HasOutcome context text (rule t) → (f : Formula) × (formula_of t ≡ some f)
   -- SPEC 3.11: its tree names the parameters whose words (SPEC 2.6) stand in the text, and no others.
@@ -109,7 +104,7 @@ pub record Comparing : Type 0 where
 -- SPEC 12.2 (demand 2), its part on runs of a table: SPEC 6.4, with counts up to the cap (SPEC 5.2).
 abbrev pub Running : ℕ → Type 0
 Running velocities =
-    (t : List ℕ) (n : ℕ) → checked velocities t n ≡ Passed → RunsAsLustre standard_cap velocities t n
+    (t : List ℕ) (n : ℕ) → checked velocities t n ≡ Ok tt → RunsAsLustre standard_cap velocities t n
 
 -- SPEC 12.3 (demand 3). A text with a refusal gets that, a rule with too short a table 9 (SPEC 7.9), and both leave the
 -- table as it was. A rule is compiled where there is room, and then the n equations at the front of the table, whatever
@@ -117,21 +112,21 @@ Running velocities =
 -- that the bound of SPEC 12.3 holds. No rule has more equations than SPEC 12.6 says, and the last three are those of
 -- SPEC 12.7.
 pub record Compiling (context : Context) : Type 0 where
-  pub refuses : {text before after : List ℕ} {r : Compiled} {k : ℕ} → Compiles context text before r after
-      → HasOutcome context text (refused k) → (r ≡ Refused k) × (after ≡ before)
+  pub refuses : {text before after : List ℕ} {r : Compiled} {k : Refusal} → Compiles context text before r after
+      → HasOutcome context text (refused k) → (r ≡ Err k) × (after ≡ before)
   pub no_room : {text before after : List ℕ} {r : Compiled} {t : Tree} → Compiles context text before r after
-      → HasOutcome context text (rule t) → length before < table_room → (r ≡ Refused 9) × (after ≡ before)
+      → HasOutcome context text (rule t) → length before < table_room → (r ≡ Err ShortTable) × (after ≡ before)
   pub compiles : {text before after : List ℕ} {r : Compiled} {t : Tree} → Compiles context text before r after
-      → HasOutcome context text (rule t) → table_room ≤ length before → (n : ℕ) × (r ≡ Equations n)
-  pub few : {text before after : List ℕ} {n : ℕ} → Compiles context text before (Equations n) after → n ≤ rule_equations
-  pub closes : {text before after : List ℕ} {n : ℕ} → Compiles context text before (Equations n) after → Closing after n
+      → HasOutcome context text (rule t) → table_room ≤ length before → (n : ℕ) × (r ≡ Ok n)
+  pub few : {text before after : List ℕ} {n : ℕ} → Compiles context text before (Ok n) after → n ≤ rule_equations
+  pub closes : {text before after : List ℕ} {n : ℕ} → Compiles context text before (Ok n) after → Closing after n
   pub exact-memories : {text before after : List ℕ} {n : ℕ} {t : Tree}
-      → Compiles context text before (Equations n) after → HasOutcome context text (rule t)
+      → Compiles context text before (Ok n) after → HasOutcome context text (rule t)
       → (rest : List ℕ) → ExactMemories (take (4 * n) after ++ rest) n t
-  pub few-memories : {text before after : List ℕ} {n : ℕ} {t : Tree} → Compiles context text before (Equations n) after
+  pub few-memories : {text before after : List ℕ} {n : ℕ} {t : Tree} → Compiles context text before (Ok n) after
       → HasOutcome context text (rule t) → (rest : List ℕ) → FewMemories (take (4 * n) after ++ rest) n t
   pub observes : {text before after : List ℕ} {n : ℕ} {t : Tree} {f : Formula}
-      → Compiles context text before (Equations n) after → HasOutcome context text (rule t) → formula_of t ≡ some f
+      → Compiles context text before (Ok n) after → HasOutcome context text (rule t) → formula_of t ≡ some f
       → (rest : List ℕ) → Observes standard_cap context.velocities (take (4 * n) after ++ rest) n f
 
 -- SPEC 8.3: comparing two texts, each with its parameters.
@@ -141,8 +136,8 @@ pub record SameRules (context : Context) : Type 0 where
   pub one_answer : (a ps b qs : List ℕ) (r r' : Same) → SameAnswer context a ps b qs r → SameAnswer context a ps b qs r'
       → r ≡ r'
   -- A refusal is 1 to 8, or 13, so that 0 can stand for none.
-  pub numbered : (a ps b qs : List ℕ) (k : ℕ) → SameAnswer context a ps b qs (NotCompared k)
-      → ((1 ≤ k) × (k ≤ 8)) ⊎ (k ≡ 13)
+  pub numbered : (a ps b qs : List ℕ) (k : Refusal) → SameAnswer context a ps b qs (Err k)
+      → ((1 ≤ number k) × (number k ≤ 8)) ⊎ (number k ≡ 13)
   -- It is yes exactly if both are rules with one tree, the parameters are admitted, and those that the tree names have
   -- the same values.
   pub exactly : (a ps b qs : List ℕ)
@@ -162,7 +157,7 @@ pub record SameRules (context : Context) : Type 0 where
   -- state, refused ones (by 12 or 19) included, the steps answer the same, each side with its own parameters. That
   -- `compile_rule` leaves the same equations of both is `same_tables` (observers, proofs/SameRule.antt).
   pub same-answers : {a ps b qs before before' t u : List ℕ} {n : ℕ} → SameRule context a ps b qs
-      → Compiles context a before (Equations n) t → Compiles context b before' (Equations n) u
+      → Compiles context a before (Ok n) t → Compiles context b before' (Ok n) u
       → (rest rest' old old' : List ℕ) → n ≤ length old → n ≤ length old' → (calls : List Call)
       → let velocities = context.velocities in
       answered (from_fresh standard_cap velocities (take (4 * n) t ++ rest) n old (map (call_with ps) calls))
@@ -172,13 +167,13 @@ pub record SameRules (context : Context) : Type 0 where
 -- (SPEC 7.9), and both leave the second table as it was. Else the n' equations at the front of the second table,
 -- whatever stands after them, are the given table's, packed.
 pub record Packing (velocities : ℕ) : Type 0 where
-  pub refuses : {t before after : List ℕ} {n k : ℕ} {r : Packed} → PackAnswer velocities t n before r after
-      → checked velocities t n ≡ Failed k → (r ≡ NotPacked k) × (after ≡ before)
+  pub refuses : {t before after : List ℕ} {n : ℕ} {k : Refusal} {r : Packed} → PackAnswer velocities t n before r after
+      → checked velocities t n ≡ Err k → (r ≡ Err k) × (after ≡ before)
   pub no_room : {t before after : List ℕ} {n : ℕ} {r : Packed} → PackAnswer velocities t n before r after
-      → checked velocities t n ≡ Passed → length before < table_room → (r ≡ NotPacked 9) × (after ≡ before)
+      → checked velocities t n ≡ Ok tt → length before < table_room → (r ≡ Err ShortTable) × (after ≡ before)
   pub serves : {t before after : List ℕ} {n : ℕ} {r : Packed} → PackAnswer velocities t n before r after
-      → checked velocities t n ≡ Passed → table_room ≤ length before → (n' : ℕ) × (r ≡ PackedTo n')
-  pub packs : {t before after : List ℕ} {n n' : ℕ} → PackAnswer velocities t n before (PackedTo n') after
+      → checked velocities t n ≡ Ok tt → table_room ≤ length before → (n' : ℕ) × (r ≡ Ok n')
+  pub packs : {t before after : List ℕ} {n n' : ℕ} → PackAnswer velocities t n before (Ok n') after
       → (rest : List ℕ) → Packs t n (take (4 * n') after ++ rest) n'
   -- The contract settles the answer and the second table (SPEC 12.4), so there is one packed table of a table
   -- (SPEC 16.4),
@@ -187,24 +182,24 @@ pub record Packing (velocities : ℕ) : Type 0 where
       → (r ≡ r') × (after ≡ after')
   -- whatever stands behind the given table's numbers (SPEC 5.6) and in the second table, where both are packed,
   pub behind : {t s before after before' after' : List ℕ} {n n' n'' : ℕ} → take (4 * n) t ≡ take (4 * n) s
-      → PackAnswer velocities t n before (PackedTo n') after
-      → PackAnswer velocities s n before' (PackedTo n'') after'
+      → PackAnswer velocities t n before (Ok n') after
+      → PackAnswer velocities s n before' (Ok n'') after'
       → (n' ≡ n'') × (take (4 * n') after ≡ take (4 * n'') after')
   -- and packing the packed table gives it again.
   pub twice : {t before after before' after' : List ℕ} {n n' : ℕ} {r : Packed}
-      → PackAnswer velocities t n before (PackedTo n') after → (rest : List ℕ) → table_room ≤ length before'
+      → PackAnswer velocities t n before (Ok n') after → (rest : List ℕ) → table_room ≤ length before'
       → PackAnswer velocities (take (4 * n') after ++ rest) n' before' r after'
-      → (r ≡ PackedTo n') × (after' ≡ take (4 * n') after ++ drop (4 * n') before')
+      → (r ≡ Ok n') × (after' ≡ take (4 * n') after ++ drop (4 * n') before')
 
 -- SPEC 12.2 (demand 2), its part on Lustre text: writing and reading undo each other.
 pub record RoundTrips (velocities : ℕ) : Type 0 where
   pub table : (t : List ℕ) (n l : ℕ) (buffer before after : List ℕ) (r : Loaded)
-      → (write_effect velocities t n buffer).answer ≡ Length l → table_room ≤ length before
+      → (write_effect velocities t n buffer).answer ≡ Ok l → table_room ≤ length before
       → AfterRead velocities (take l (write_effect velocities t n buffer).buffer) before r after
-      → (r ≡ Loads n) × (after ≡ take (4 * n) t ++ drop (4 * n) before)
-  pub text : (text before after buffer : List ℕ) (n : ℕ) → AfterRead velocities text before (Loads n) after
+      → (r ≡ Ok n) × (after ≡ take (4 * n) t ++ drop (4 * n) before)
+  pub text : (text before after buffer : List ℕ) (n : ℕ) → AfterRead velocities text before (Ok n) after
       → length text ≤ length buffer
-      → write_effect velocities after n buffer ≡ after_write (Length (length text)) (text ++ drop (length text) buffer)
+      → write_effect velocities after n buffer ≡ after_write (Ok (length text)) (text ++ drop (length text) buffer)
   -- The contract of reading settles the answer and the table (SPEC 12.4).
   pub one_answer : (text before after after' : List ℕ) (r r' : Loaded) → AfterRead velocities text before r after
       → AfterRead velocities text before r' after' → (r ≡ r') × (after ≡ after')

@@ -6,45 +6,22 @@
 
 use std::io::Read;
 
-// A write that fails is passed over: it shows in what is compared with `stdout`.
-fn say(rt: &impl Print, text: &[u8]) {
-    let _ = rt.write_all(text);
-}
-
-fn say_number(rt: &impl Print, x: u32) {
-    let _ = print!(rt; "{x}");
-}
-
-// Prints the answer for a text, and the text.
+// Prints the answer for a text, and the text. A write that fails is passed over: it shows in what is compared with
+// `stdout`.
 fn show(rt: &impl Print, text: &[u8]) {
-    match rules::read_rule(text) {
-        rules::Read::Rule(n) => {
-            say(rt, b"nodes=");
-            say_number(rt, n);
-        }
-        rules::Read::Refused(n) => {
-            say(rt, b"refused=");
-            say_number(rt, n);
-        }
-    }
-    say(rt, b": ");
-    say(rt, text);
-    say(rt, b"\n");
+    let _ = match rules::read_rule(text) {
+        Ok(nodes) => print!(rt; "nodes={nodes}: "),
+        Err(refusal) => print!(rt; "refused={refusal}: "),
+    };
+    let _ = rt.write_all(text);
+    let _ = print!(rt; "\n");
 }
 
-// Shows each line.
-fn show_lines(rt: &impl Print, s: &[u8]) {
-    let mut at = 0;
-    while at < s.len() {
-        let end = lines::line_end(s, at);
-        show(rt, &s[at..end]);
-        at = end + 1;
-    }
-}
-
-// A read that fails counts as the end of the input.
+// Shows each line. A read that fails counts as the end of the input.
 fn main(rt: HostRuntime) {
     let mut input = Vec::new(rt.alloc());
     let _ = rt.stdin().read_to_end(&mut input);
-    show_lines(&rt, &input);
+    for line in input.split_inclusive(|b| *b == b'\n') {
+        show(&rt, line.strip_suffix(b"\n").unwrap_or(line));
+    }
 }

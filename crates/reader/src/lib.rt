@@ -8,42 +8,25 @@ ghost use Rattle.reader.specs.Part.{rule_from};
 // The lent bytes, and the place in them where the line `watch=` stands.
 #[derive(Clone, Copy)]
 struct Reader<'a> {
-    pub bytes: &'a [u8],
-    pub at: usize,
+    bytes: &'a [u8],
+    at: usize,
 }
 
-// What stands after `watch=` at a place, up to the line's end, as a part of s; nothing past the end.
-fn rule_at(s: &[u8], at: usize) -> &[u8]
-    ensures { result.now ≡ rule_from s.now at }
-{
-    if s.len() < cards::RULE_HEAD.len() {
-        return &s[..0];
+impl<'a> Reader<'a> {
+    // The rule text, lent for as long as the bytes are: what stands after `watch=`, up to the line's end; nothing past
+    // the end of the bytes.
+    fn rule_text(self) -> &'a [u8]
+        ensures { result.now ≡ rule_from self.entry.bytes.now self.entry.at }
+    {
+        let line = self.bytes.get(self.at..).unwrap_or(&[]);
+        let text = line.get(cards::RULE_HEAD.len()..).unwrap_or(&[]);
+        &text[..lists::line_length(text, 0)]
     }
-    if s.len() - cards::RULE_HEAD.len() < at {
-        return &s[..0];
-    }
-    let from = at + cards::RULE_HEAD.len();
-    let stop = from + lists::line_length(s, from);
-    &s[from..stop]
-}
-
-// The same of a reader: the rule text, lent for as long as the reader's bytes are.
-fn rule_text<'a>(r: Reader<'a>) -> &'a [u8]
-    ensures { result.now ≡ rule_from r.entry.bytes.now r.entry.at }
-{
-    rule_at(r.bytes, r.at)
-}
-
-// A reader at a place of some bytes.
-fn new<'a>(bytes: &'a [u8], at: usize) -> Reader<'a>
-    ensures { (result.bytes ≡ bytes.entry) × (result.at ≡ at) }
-{
-    Reader { bytes, at }
 }
 
 // The rule text of the line `watch=` at a place of s: with a plain slice, so that callers hold no reader.
 pub fn rule_part(s: &[u8], at: usize) -> &[u8]
     ensures { result.now ≡ rule_from s.now at }
 {
-    rule_text(new(s, at))
+    Reader { bytes: s, at }.rule_text()
 }

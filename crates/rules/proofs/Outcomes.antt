@@ -7,19 +7,19 @@ use Prim.Native.Nat.{ℕ, ◌+◌, ◌≤◌}
 use native.Mathlib.Nat.{zero-add}
 use native.Mathlib.Omega.{arith}
 use lib.ListN.{length, take, drop}
-use lib.Seq.{sets, sets-eq, length-sets, take_at}
+use lib.Seq.{sets, sets-eq, take_at}
 use borrow.Author.Tests.{eq-eqb, ne_eqb}
 use Rattle.limits.specs.Limits.{word_limit, arena_limit}
 use Rattle.limits.specs.declared.Context.{Context}
 use Rattle.words.specs.Split.{Out, split_of}
 use Rattle.words.specs.Split.Out.{made}
 use Rattle.words.specs.Contract.{split_answer, Splits}
-use Rattle.words.specs.declared.Split.{Split}
-use Rattle.words.specs.declared.Split.TheVariants.{Words, Refused as No-words}
+use Rattle.words.specs.Contract.{Split}
 use Rattle.formulas.specs.Tree.{Tree}
 use Rattle.formulas.specs.Arena.{flat}
 use Rattle.grammar.specs.Fragment.{beyond}
-use Rattle.grammar.specs.Parse.{Result, read, tree_of, ended}
+use Rattle.grammar.specs.Parse as Parse
+use Rattle.grammar.specs.Parse.{read, tree_of, ended}
 use Rattle.grammar.specs.Parse.Result.{no-rule, ok}
 use Rattle.grammar.specs.Parse.Goal.{go_f}
 use Rattle.grammar.proofs.Theorems.{tree-rule, rule-size}
@@ -28,14 +28,17 @@ use Rattle.parser.proofs.Stored.{Took}
 use Rattle.rules.specs.Limits.{beyond_limits}
 use Rattle.rules.specs.Computed.{rule_of, of_words}
 use Rattle.rules.specs.Reading.Outcome.{refused, rule}
-use Rattle.rules.specs.Laid.{Laid, records_of, split_refusal}
-use Rattle.rules.specs.declared.Records.TheVariants.{Rule as Tree-records}
+use Rattle.rules.specs.Laid.{Laid, records_of}
+use Rattle.rules.specs.declared.Records.{Records}
 use Rattle.rules.proofs.Decided
+use Rattle.std.specs.Prelude.{Result, Ok, Err}
+use Rattle.limits.specs.declared.Refusal.{Refusal}
+use Rattle.limits.specs.declared.Refusal.TheVariants.{BeyondFragment, NoLead}
 
 -- ---- the parser's answer
 
 module _ (ws : List ℕ) where
-  tree_is : {x : Result} → read ws (go_f false) 0 ≡ x → tree_of ws ≡ ended ws x
+  tree_is : {x : Parse.Result} → read ws (go_f false) 0 ≡ x → tree_of ws ≡ ended ws x
   unfolding tree_of
   tree_is e = ap (ended ws) e
 
@@ -46,6 +49,10 @@ module _ (ws : List ℕ) where
   pub part-tree : {t : Tree} {j : ℕ} → read ws (go_f false) 0 ≡ ok t j → (j ≡ length ws → ⊥) → tree_of ws ≡ none
   part-tree {t} e n = tree_is e ∙ ap (λ (b : Bool). cond b (some t) none) (ne_eqb _ _ n)
 
+-- The answer with that many numbers and nodes.
+abbrev laid : ℕ → ℕ → Result Records Refusal
+laid n k = Ok (record { size = n; nodes = k })
+
 -- A tree was read to the last word, and its records stand from 0 up to `top`.
 module _ {ws before : List ℕ} {next top : ℕ} {facts : Facts} {after : List ℕ}
     (h : Took (go_f false) ws 0 before 0 next top facts after)
@@ -53,19 +60,19 @@ module _ {ws before : List ℕ} {next top : ℕ} {facts : Facts} {after : List �
   whole-tree : tree_of ws ≡ some h.part.tree
   whole-tree = tree_is ws h.is ∙ ap (λ (b : Bool). cond b (some h.part.tree) none) (eq-eqb _ _ whole)
 
-  pub beyond-words : beyond ws ≡ true → of_words (made ws) ≡ refused 7
+  pub beyond-words : beyond ws ≡ true → of_words (made ws) ≡ refused BeyondFragment
   beyond-words f = Decided.beyond-words ws in-limits whole-tree f
 
   lead-words : {l : Bool} → beyond ws ≡ false → facts.leads ≡ l →
-      of_words (made ws) ≡ cond l (rule h.part.tree) (refused 8)
+      of_words (made ws) ≡ cond l (rule h.part.tree) (refused NoLead)
   lead-words f g =
       Decided.lead-words ws in-limits whole-tree f (sym (ap (λ (x : Facts). x.leads) h.part.known) ∙ g)
 
-  pub no-lead-words : beyond ws ≡ false → facts.leads ≡ false → of_words (made ws) ≡ refused 8
+  pub no-lead-words : beyond ws ≡ false → facts.leads ≡ false → of_words (made ws) ≡ refused NoLead
   no-lead-words f g = lead-words f g
 
   pub laid-rule : beyond ws ≡ false → facts.leads ≡ true →
-      Laid (of_words (made ws)) before (Tree-records top facts.nodes) after
+      Laid (of_words (made ws)) before (Ok (record { size = top; nodes = facts.nodes })) after
   laid-rule f g =
       let t = h.part.tree in
       let stored = h.part.stored in
@@ -73,7 +80,7 @@ module _ {ws before : List ℕ} {next top : ℕ} {facts : Facts} {after : List �
       let size = rule-size ws t (tree-rule ws t whole-tree) in
       record {
         result =
-            ap₂ Tree-records (stored.end ∙ zero-add _) (ap (λ (x : Facts). x.nodes) h.part.known)
+            ap₂ laid (stored.end ∙ zero-add _) (ap (λ (x : Facts). x.nodes) h.part.known)
             ∙ ap records_of (sym is-rule);
         filled = λ u q. let same : t ≡ u = cc in stored.filled ∙ ap (λ (v : Tree). sets before 0 (flat v)) same;
         small = λ u q.
@@ -84,8 +91,8 @@ module _ {ws before : List ℕ} {next top : ℕ} {facts : Facts} {after : List �
 -- ---- the splitter's answer
 
 -- An answer with words is not one with a refusal.
-no_words : {k n : ℕ} → No-words k ≡ Words n → ⊥
-no_words q = let z : ◌≡◌ {A = ℕ} 0 1 = cc in omega arith
+no_words : {k : Refusal} {n : ℕ} → Err k ≡ Ok n → ⊥
+no_words q = cc
 
 -- The words that were made, in the buffer.
 pub record Made (context : Context) (text before : List ℕ) (n : ℕ) (after : List ℕ) : Type 0 where
@@ -97,29 +104,29 @@ pub record Made (context : Context) (text before : List ℕ) (n : ℕ) (after : 
 
 module _ {context : Context} {text before : List ℕ} {r : Split} {after : List ℕ}
     (h : Splits context text before r after) where
-  pub made_of : {n : ℕ} → r ≡ Words n → Made context text before n after
+  pub made_of : {n : ℕ} → r ≡ Ok n → Made context text before n after
   made_of {n} q = go (split_of context text) refl
     where
       go : (x : Out) → split_of context text ≡ x → Made context text before n after
       go (Out.refused k) p = absurd (no_words (sym (h.result ∙ ap split_answer p) ∙ q))
       go (made ws) p =
-          let b : Words (length ws) ≡ Words n = sym (h.result ∙ ap split_answer p) ∙ q in
+          let b : Ok (length ws) ≡ Ok n = sym (h.result ∙ ap split_answer p) ∙ q in
           let c : n ≡ length ws = cc in
           record { ws = ws; is = p; count = c; few = omega (arith, h.few ws p); filled = h.filled ws p }
 
-  pub refused-of : {k m : ℕ} → r ≡ No-words k → m ≡ split_refusal r → rule_of context text ≡ refused m
+  pub refused-of : {k : Refusal} → r ≡ Err k → rule_of context text ≡ refused k
   unfolding rule_of
-  refused-of {m = m} q e = go (split_of context text) refl
+  refused-of {k} q = go (split_of context text) refl
     where
-      go : (x : Out) → split_of context text ≡ x → of_words (split_of context text) ≡ refused m
-      go (Out.refused n) p = ap of_words p ∙ ap refused (sym (e ∙ ap split_refusal (h.result ∙ ap split_answer p)))
+      go : (x : Out) → split_of context text ≡ x → of_words (split_of context text) ≡ refused k
+      go (Out.refused m) p =
+          let both : Err m ≡ Err k = sym (h.result ∙ ap split_answer p) ∙ q in
+          let same : m ≡ k = cc in
+          ap of_words p ∙ ap refused same
       go (made ws) p = absurd (no_words (sym q ∙ h.result ∙ ap split_answer p))
 
 module _ {context : Context} {text before : List ℕ} {n : ℕ} {after : List ℕ} (h : Made context text before n after)
     (room : word_limit ≤ length before) where
-  pub long : word_limit ≤ length after
-  long = omega (arith, ap length h.filled, length-sets before 0 h.ws)
-
   -- the words are the buffer's first n numbers
   front : take n after ≡ h.ws
   front =

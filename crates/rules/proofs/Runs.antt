@@ -19,10 +19,10 @@ use Rattle.grammar.specs.Fragment.{has_word}
 use Rattle.grammar.specs.Parse.{parse, read, tree_of}
 use Rattle.rules.specs.Limits.{deep, counted, operator_count}
 use Rattle.rules.specs.Computed.{rule_of, same_of}
-use Rattle.rules.specs.declared.Same.TheVariants.{No}
 use Rattle.rules.specs.Reading.{Outcome}
 use Rattle.rules.specs.Reading.Outcome.{rule}
 use Rattle.rules.specs.Runs.{RowHolds}
+use Rattle.std.specs.Prelude.{false, Ok}
 
 -- What reading gives for a row's text.
 abbrev outcome : Trial → Outcome
@@ -70,7 +70,7 @@ further-runs = holds further_trials further-read further-counted further-remembe
 -- SPEC 4.11: with n = 0 and with n = 1 a `lag` is not the same rule.
 pub lag-differs : (ps qs : List ℕ)
     → same_of ps qs (rule_of standard_context (bytes "lag[s0,0,s1]")) (rule_of standard_context (bytes "lag[s0,1,s1]"))
-    ≡ No
+    ≡ Ok false
 unfolding rule_of split_of words word_of run_of run class_of keyword_of keyword_among number_of is_digit digits_after
     numeral
     tree_of read parse is_op is_signal is_num is_velocity is_bit is_test is_count has_word deep counted operator_count

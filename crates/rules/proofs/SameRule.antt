@@ -6,8 +6,10 @@ use mathlib.Core.Path.{◌≡◌, refl, sym, ap, ◌∙◌, subst}
 use mathlib.Core.List.{List}
 use mathlib.Core.Option.{some}
 use Prim.Native.Nat.{ℕ, ◌≤◌}
-use native.Mathlib.Omega.{arith}
 use Rattle.limits.specs.declared.Context.{Context}
+use Rattle.limits.specs.declared.Refusal.{Refusal}
+use Rattle.limits.specs.declared.Refusal.TheVariants.{ParameterTooHigh}
+use Rattle.limits.specs.Refusal.{number}
 use Rattle.traces.specs.Trace.{Trace}
 use Rattle.traces.specs.Parameters.{run_with}
 use Rattle.formulas.specs.Formula.{Formula}
@@ -22,22 +24,19 @@ use Rattle.rules.specs.Reading.Outcome.{refused, rule}
 use Rattle.rules.specs.Same.{Within, HasSide, SameValues, SameAnswer, SameRule}
 use Rattle.rules.specs.Same.HasSide.{text-refused, above, within}
 use Rattle.rules.specs.Same.SameAnswer.{first-refused, second-refused, one-rule, two-trees, two-values}
-use Rattle.rules.specs.declared.Same.{Same}
-use Rattle.rules.specs.declared.Same.TheVariants.{Yes, No, Refused}
+use Rattle.rules.specs.Same.{Same}
 use Rattle.rules.proofs.Decided.{refused-rule}
 use Rattle.rules.proofs.Theorems.{one-outcome, numbered}
 use Rattle.rules.proofs.Sides.{side-rule}
 use Rattle.rules.proofs.Sameness.{computed-answer}
+use Rattle.std.specs.Prelude.{Bool, true, false, Ok, Err}
 
 -- The other answers are not yes.
-refused-yes : {n : ℕ} → Refused n ≡ Yes → ⊥
-refused-yes q = let z : ◌≡◌ {A = ℕ} 0 1 = cc in omega arith
+refused-as : {k : Refusal} {b : Bool} → Err k ≡ Ok b → ⊥
+refused-as q = cc
 
-refused-no : {n : ℕ} → Refused n ≡ No → ⊥
-refused-no q = let z : ◌≡◌ {A = ℕ} 0 1 = cc in omega arith
-
-no-yes : No ≡ Yes → ⊥
-no-yes q = let z : ◌≡◌ {A = ℕ} 0 1 = cc in omega arith
+no-yes : (r : Same) → r ≡ Ok false → r ≡ Ok true → ⊥
+no-yes r p q = let both : false ≡ true = cc in cc
 
 -- Both sides have one tree, and the parameters that it names the same values.
 pub record OneRule (context : Context) (a ps b qs : List ℕ) : Type 0 where
@@ -48,7 +47,8 @@ pub record OneRule (context : Context) (a ps b qs : List ℕ) : Type 0 where
 
 module _ {context : Context} where
   -- A text that is a rule is not refused, and has one tree.
-  pub not-refused : {a : List ℕ} {t : Tree} {n : ℕ} → HasOutcome context a (rule t) → HasOutcome context a (refused n)
+  pub not-refused : {a : List ℕ} {t : Tree} {k : Refusal} → HasOutcome context a (rule t)
+      → HasOutcome context a (refused k)
       → ⊥
   not-refused {a} h k = refused-rule (one-outcome context a _ _ k h)
 
@@ -56,12 +56,13 @@ module _ {context : Context} where
   same-tree {a} {t} {u} h k = let e : rule t ≡ rule u = one-outcome context a _ _ h k in cc
 
   -- SPEC 8.3: where the answer is yes both sides are one rule.
-  pub yes-rule : {a ps b qs : List ℕ} {r : Same} → SameAnswer context a ps b qs r → r ≡ Yes → OneRule context a ps b qs
-  yes-rule (first-refused h) q = absurd (refused-yes q)
-  yes-rule (second-refused h k) q = absurd (refused-yes q)
+  pub yes-rule : {a ps b qs : List ℕ} {r : Same} → SameAnswer context a ps b qs r → r ≡ Ok true
+      → OneRule context a ps b qs
+  yes-rule (first-refused h) q = absurd (refused-as q)
+  yes-rule (second-refused h k) q = absurd (refused-as q)
   yes-rule (one-rule {t} h k v) q = record { tree = t; first = h; second = k; values = v }
-  yes-rule (two-trees h k n) q = absurd (no-yes q)
-  yes-rule (two-values j h k n v) q = absurd (no-yes q)
+  yes-rule (two-trees h k n) q = absurd (no-yes _ refl q)
+  yes-rule (two-values j h k n v) q = absurd (no-yes _ refl q)
 
   -- Two texts with their parameters have one answer.
   pub one_answer : {a ps b qs : List ℕ} {r r' : Same} → SameAnswer context a ps b qs r → SameAnswer context a ps b qs r'
@@ -71,24 +72,24 @@ module _ {context : Context} where
 -- ---- refusals
 
 -- A refusal is 1 to 8, or 13, so that 0 can stand for none.
-abbrev Numbered : ℕ → Type 0
-Numbered k = ((1 ≤ k) × (k ≤ 8)) ⊎ (k ≡ 13)
+abbrev Numbered : Refusal → Type 0
+Numbered k = ((1 ≤ number k) × (number k ≤ 8)) ⊎ (number k ≡ 13)
 
 module _ (context : Context) where
-  side-numbered : {a ps : List ℕ} {x : Outcome} {k : ℕ} → HasSide context a ps x → x ≡ refused k → Numbered k
-  side-numbered {a} {k = k} (text-refused {n} h) q =
-      let same : n ≡ k = cc in
-      inl (numbered context a k (subst (λ (m : ℕ). HasOutcome context a (refused m)) same h))
-  side-numbered (above h high) q = inr (cc)
+  side-numbered : {a ps : List ℕ} {x : Outcome} {k : Refusal} → HasSide context a ps x → x ≡ refused k → Numbered k
+  side-numbered {a} {k = k} (text-refused {r} h) q =
+      let same : r ≡ k = cc in
+      inl (numbered context a k (subst (λ (m : Refusal). HasOutcome context a (refused m)) same h))
+  side-numbered {k = k} (above h high) q = let same : k ≡ ParameterTooHigh = cc in inr (ap number same)
   side-numbered (within h w) q = absurd (refused-rule (sym q))
 
-  pub numbered-answer : {a ps b qs : List ℕ} {r : Same} {k : ℕ} → SameAnswer context a ps b qs r → r ≡ Refused k
+  pub numbered-answer : {a ps b qs : List ℕ} {r : Same} {k : Refusal} → SameAnswer context a ps b qs r → r ≡ Err k
       → Numbered k
-  numbered-answer {k = k} (first-refused {n} h) q = let same : n ≡ k = cc in side-numbered h (ap refused same)
-  numbered-answer {k = k} (second-refused {n = n} h h') q = let same : n ≡ k = cc in side-numbered h' (ap refused same)
-  numbered-answer (one-rule h h' v) q = absurd (refused-yes (sym q))
-  numbered-answer (two-trees h h' n) q = absurd (refused-no (sym q))
-  numbered-answer (two-values j h h' n v) q = absurd (refused-no (sym q))
+  numbered-answer {k = k} (first-refused {r} h) q = let same : r ≡ k = cc in side-numbered h (ap refused same)
+  numbered-answer {k = k} (second-refused {r = r} h h') q = let same : r ≡ k = cc in side-numbered h' (ap refused same)
+  numbered-answer (one-rule h h' v) q = absurd (refused-as (sym q))
+  numbered-answer (two-trees h h' n) q = absurd (refused-as (sym q))
+  numbered-answer (two-values j h h' n v) q = absurd (refused-as (sym q))
 
 -- ---- an equivalence on texts that are rules, with parameters that are admitted
 

@@ -1,10 +1,11 @@
 -- The answer for two texts with their parameters as it is computed, from their trees' records, is that of SPEC 8.3.
 -- Assumes nothing.
-use mathlib.Core.Bool.{Bool, true, false, true≢false, ◌&&◌, cond}
+use mathlib.Core.Bool.{Bool, true, false, true≢false, ◌&&◌}
 use mathlib.Core.Path.{◌≡◌, refl, sym, ap, ap₂, ◌∙◌, subst}
-use mathlib.Core.List.{List}
+use mathlib.Core.List.{List, [], ◌∷◌}
 use Prim.Native.Nat.{ℕ}
-use lib.Dec.{T}
+use lib.Dec.{T, eqb}
+use Rattle.std.specs.Cmp.Lexicographic.{pointwise}
 use lib.ListN.{take}
 use Rattle.limits.specs.declared.Context.{Context}
 use Rattle.lists.specs.Same.{same}
@@ -17,11 +18,12 @@ use Rattle.rules.specs.Reading.Outcome.{refused, rule}
 use Rattle.rules.specs.Computed.{rule_of, side_of, values_agree, same_of, comparison}
 use Rattle.rules.specs.Same.{HasSide, SameAnswer}
 use Rattle.rules.specs.Same.SameAnswer.{first-refused, second-refused, one-rule, two-trees, two-values}
-use Rattle.rules.specs.declared.Same.{Same}
-use Rattle.rules.specs.declared.Same.TheVariants.{Yes, No}
+use Rattle.rules.specs.Same.{Same}
 use Rattle.rules.proofs.Laid.{Front}
 use Rattle.rules.proofs.Sides.{has-side, side-computed}
 use Rattle.rules.proofs.Values.{agree_same, disagree-two, same-agree, two-disagree}
+use Rattle.std.specs.Prelude.{Ok, Err}
+use Rattle.limits.specs.declared.Refusal.{Refusal}
 
 -- Trees with equal records are one, with different records two.
 one_of : (t u : Tree) → same (flat t) (flat u) ≡ true → t ≡ u
@@ -38,9 +40,16 @@ differ t u n = go (same (flat t) (flat u)) refl
     go true e = absurd (n (one_of t u e))
     go false e = refl
 
+-- What `==` answers on slices is that test.
+equal_same : (xs ys : List ℕ) → pointwise eqb xs ys ≡ same xs ys
+equal_same [] [] = refl
+equal_same [] (y ∷ ys) = refl
+equal_same (x ∷ xs) [] = refl
+equal_same (x ∷ xs) (y ∷ ys) = ap (λ (b : Bool). eqb x y && b) (equal_same xs ys)
+
 -- The answer by the two tests.
 abbrev answer : Bool → Bool → Same
-answer x y = cond (x && y) Yes No
+answer x y = Ok (x && y)
 
 module _ (context : Context) (a ps b qs : List ℕ) where
   -- The first outcome, and the second.
@@ -53,7 +62,7 @@ module _ (context : Context) (a ps b qs : List ℕ) where
   -- ---- the computed answer is one that SPEC 8.3 has
 
   of_values : (t : Tree) → HasSide context a ps (rule t) → HasSide context b qs (rule t) → (y : Bool)
-      → values_agree ps qs (flat t) ≡ y → SameAnswer context a ps b qs (cond y Yes No)
+      → values_agree ps qs (flat t) ≡ y → SameAnswer context a ps b qs (Ok y)
   of_values t h k true e = one-rule h k (agree_same ps qs t e)
   of_values t h k false e = let w = disagree-two ps qs t e in two-values w.0 h k w.1 w.2
 
@@ -93,16 +102,21 @@ module _ (context : Context) (a ps b qs : List ℕ) where
       sym (ap₂ answer (same_refl (flat t)) (two-disagree ps qs t j n v)) ∙ of-both h k
 
 -- What the two tests, of the records in two arenas and of the values, tell of the outcomes.
-module _ (ps qs : List ℕ) {x y : Outcome} {n m : ℕ} {a b : List ℕ} (h : Front x n a) (h' : Front y m b) where
-  compared : (z w : Bool) → same (take n a) (take m b) ≡ z → values_agree ps qs (take n a) ≡ w
-      → answer z w ≡ same_of ps qs x y
-  compared z w e e' =
-      ap₂ answer (sym e ∙ ap₂ same h.front h'.front) (sym e' ∙ ap (values_agree ps qs) h.front)
-      ∙ sym (ap₂ (same_of ps qs) h.is h'.is)
+pub compared : (ps qs : List ℕ) {x y : Outcome} {n m : ℕ} {a b : List ℕ} → Front x n a → Front y m b
+    → {r : Bool} (z w : Bool) → r ≡ pointwise eqb (take n a) (take m b) → r ≡ z → values_agree ps qs (take n a) ≡ w
+    → answer z w ≡ same_of ps qs x y
+compared ps qs {n = n} {m} {a} {b} h h' z w e q e' =
+    ap₂ answer (sym q ∙ e ∙ equal_same (take n a) (take m b) ∙ ap₂ same h.front h'.front)
+    (sym e' ∙ ap (values_agree ps qs) h.front)
+    ∙ sym (ap₂ (same_of ps qs) h.is h'.is)
 
-  pub by-trees : same (take n a) (take m b) ≡ false → No ≡ same_of ps qs x y
-  by-trees e = compared false (values_agree ps qs (take n a)) e refl
+-- A refused side.
+module _ (context : Context) (a ps b qs : List ℕ) {k : Refusal} where
+  pub first_told : side_of ps (rule_of context a) ≡ refused k → SameAnswer context a ps b qs (Err k)
+  first_told x =
+      same_answer context a ps b qs (Err k)
+      (sym (ap (λ (o : Outcome). same_of ps qs o (side_of qs (rule_of context b))) x))
 
-  pub by_values : (w : Bool) → same (take n a) (take m b) ≡ true → values_agree ps qs (take n a) ≡ w
-      → cond w Yes No ≡ same_of ps qs x y
-  by_values w e e' = compared true w e e'
+  pub second_told : {t : Tree} → side_of ps (rule_of context a) ≡ rule t → side_of qs (rule_of context b) ≡ refused k
+      → SameAnswer context a ps b qs (Err k)
+  second_told x y = same_answer context a ps b qs (Err k) (sym (ap₂ (same_of ps qs) x y))

@@ -2,7 +2,7 @@
 -- one outcome. Assumes nothing.
 use mathlib.Core.Bool.{Bool, true, false, cond}
 use mathlib.Core.List.{List}
-use mathlib.Core.Path.{◌≡◌, refl, sym, ap, ◌∙◌}
+use mathlib.Core.Path.{◌≡◌, refl, ap, ◌∙◌}
 use Prim.Native.Nat.{ℕ}
 use native.Mathlib.Omega.{arith}
 use borrow.Author.Tests.{ltb-true, ltb-false, lt-ltb, le-ltb}
@@ -15,12 +15,10 @@ use Rattle.formulas.specs.Tree.{Tree}
 use Rattle.rules.specs.Reading.{Outcome, HasOutcome}
 use Rattle.rules.specs.Reading.Outcome.{refused, rule}
 use Rattle.rules.specs.Computed.{rule_of, side_of}
-use Rattle.rules.specs.Laid.{records_of}
-use Rattle.rules.specs.declared.Records.TheVariants.{Refused as No-records}
 use Rattle.rules.specs.Same.{Above, Within, HasSide}
 use Rattle.rules.specs.Same.HasSide.{text-refused, above, within}
-use Rattle.rules.proofs.Laid.{no-records}
 use Rattle.rules.proofs.Theorems.{has-outcome, computed}
+use Rattle.limits.specs.declared.Refusal.TheVariants.{ParameterTooHigh}
 
 module _ (ps : List ℕ) where
   -- The test of SPEC 7.13 says whether all parameters are within the limit or one is above.
@@ -50,23 +48,18 @@ module _ (ps : List ℕ) where
       all-stop (parameter_fits literal_count ps) j parameter_count h
       (le-ltb (number_at ps j) literal_count (omega arith))
 
-  -- So of an outcome: a text that is refused stays so,
-  pub side-refused : (o : Outcome) {k : ℕ} → records_of o ≡ No-records k → side_of ps o ≡ o
-  side-refused (refused n) e = refl
-  side-refused (rule t) e = absurd (no-records (sym e))
-
-  -- and of a rule the parameters decide.
+  -- So of a rule the parameters decide.
   pub side-unfit : {o : Outcome} {t : Tree} → o ≡ rule t → parameters_fit literal_count ps ≡ false
-      → side_of ps o ≡ refused 13
-  side-unfit {t = t} e unfit = ap (side_of ps) e ∙ ap (λ (b : Bool). cond b (rule t) (refused 13)) unfit
+      → side_of ps o ≡ refused ParameterTooHigh
+  side-unfit {t = t} e unfit = ap (side_of ps) e ∙ ap (λ (b : Bool). cond b (rule t) (refused ParameterTooHigh)) unfit
 
   pub side-fit : (o : Outcome) → parameters_fit literal_count ps ≡ true → side_of ps o ≡ o
   side-fit (refused n) fit = refl
-  side-fit (rule t) fit = ap (λ (b : Bool). cond b (rule t) (refused 13)) fit
+  side-fit (rule t) fit = ap (λ (b : Bool). cond b (rule t) (refused ParameterTooHigh)) fit
 
   module _ (context : Context) (text : List ℕ) where
     of-rule : (t : Tree) → HasOutcome context text (rule t) → (b : Bool) → parameters_fit literal_count ps ≡ b
-        → HasSide context text ps (cond b (rule t) (refused 13))
+        → HasSide context text ps (cond b (rule t) (refused ParameterTooHigh))
     of-rule t h true e = within h (fits-within e)
     of-rule t h false e = above h (unfit-above e)
 

@@ -10,6 +10,9 @@ use Prim.Native.Nat.{ℕ, ◌≤◌}
 use native.Mathlib.Omega.{arith}
 use Rattle.limits.specs.Limits.{literal_count}
 use Rattle.limits.specs.declared.Context.{Context}
+use Rattle.limits.specs.declared.Refusal.{Refusal}
+use Rattle.limits.specs.declared.Refusal.TheVariants.{OverLimits, NoRule, BeyondFragment, NoLead}
+use Rattle.limits.specs.Refusal.{number}
 use Rattle.words.specs.Split.{Out, split_of}
 use Rattle.words.specs.Split.Out.{made}
 use Rattle.words.specs.Contract.{Ranged}
@@ -27,20 +30,22 @@ use Rattle.rules.specs.Computed.{rule_of, of_words, of_tree}
 use Rattle.rules.specs.Reading.Outcome.{refused, rule}
 use Rattle.rules.specs.Reading.HasOutcome.{no_words, over-limits, no-grammar, outside, no_lead, is-rule}
 use Rattle.rules.specs.Contract.{Told, answer_of}
-use Rattle.rules.specs.declared.Read.{Read}
+use Rattle.rules.specs.Contract.{Read}
 use Rattle.rules.proofs.Decided.{refused-rule, limits-words, tree-words, beyond-words, lead-words}
+use Rattle.limits.specs.declared.Refusal.TheVariants.{BeyondFragment, NoLead, OverLimits}
 
 -- ---- every text has the outcome that is computed
 
 module _ {context : Context} {text : List ℕ} where
   of-lead : {ws : List ℕ} {t : Tree} → split_of context text ≡ made ws → beyond_limits ws ≡ false → Rule ws t
-      → beyond ws ≡ false → (b : Bool) → leads t ≡ b → HasOutcome context text (cond b (rule t) (refused 8))
+      → beyond ws ≡ false → (b : Bool) → leads t ≡ b → HasOutcome context text (cond b (rule t) (refused NoLead))
   of-lead {ws} e o r f true l =
       is-rule (record { ws = ws; words = e; limits = o; grammar = r; fragment = f; lead = l })
   of-lead e o r f false l = no_lead e o r f l
 
   of-fragment : {ws : List ℕ} {t : Tree} → split_of context text ≡ made ws → beyond_limits ws ≡ false → Rule ws t
-      → (b : Bool) → beyond ws ≡ b → HasOutcome context text (cond b (refused 7) (cond (leads t) (rule t) (refused 8)))
+      → (b : Bool) → beyond ws ≡ b
+      → HasOutcome context text (cond b (refused BeyondFragment) (cond (leads t) (rule t) (refused NoLead)))
   of-fragment e o r true f = outside e o r f
   of-fragment {t = t} e o r false f = of-lead e o r f (leads t) refl
 
@@ -51,7 +56,7 @@ module _ {context : Context} {text : List ℕ} where
   of_tree_lem {ws} e o (some t) g = of-fragment e o (tree-rule ws t g) (beyond ws) refl
 
   of-limits : {ws : List ℕ} → split_of context text ≡ made ws → (b : Bool) → beyond_limits ws ≡ b
-      → HasOutcome context text (cond b (refused 5) (of_tree ws (tree_of ws)))
+      → HasOutcome context text (cond b (refused OverLimits) (of_tree ws (tree_of ws)))
   of-limits e true o = over-limits e o
   of-limits {ws} e false o = of_tree_lem e o (tree_of ws) refl
 
@@ -95,18 +100,22 @@ module _ (context : Context) where
   told text r e = record { outcome = rule_of context text; has = has-outcome context text; answer = e }
 
   -- A refusal of reading is 1 to 8.
-  numbered-as : (text : List ℕ) (x : Outcome) (k : ℕ) → HasOutcome context text x → x ≡ refused k → (1 ≤ k) × (k ≤ 8)
-  numbered-as text x k (no_words {n} e) q =
-      let same : n ≡ k = cc in
-      let low = refusal-numbered context text n e in
-      (omega (arith, low.0), omega (arith, low.1))
-  numbered-as text x k (over-limits e o) q = let same : ◌≡◌ {A = ℕ} 5 k = cc in (omega arith, omega arith)
-  numbered-as text x k (no-grammar e o h) q = let same : ◌≡◌ {A = ℕ} 6 k = cc in (omega arith, omega arith)
-  numbered-as text x k (outside e o r f) q = let same : ◌≡◌ {A = ℕ} 7 k = cc in (omega arith, omega arith)
-  numbered-as text x k (no_lead e o r f l) q = let same : ◌≡◌ {A = ℕ} 8 k = cc in (omega arith, omega arith)
+  numbered-as : (text : List ℕ) (x : Outcome) (k : Refusal) → HasOutcome context text x → x ≡ refused k
+      → (1 ≤ number k) × (number k ≤ 8)
+  numbered-as text x k (no_words {r} e) q =
+      let same : r ≡ k = cc in
+      let low = refusal-numbered context text r e in
+      rw (← same) (omega (arith, low.0), omega (arith, low.1))
+  numbered-as text x k (over-limits e o) q = let same : OverLimits ≡ k = cc in rw (← same) (omega arith, omega arith)
+  numbered-as text x k (no-grammar e o h) q = let same : NoRule ≡ k = cc in rw (← same) (omega arith, omega arith)
+  numbered-as text x k (outside e o r f) q =
+      let same : BeyondFragment ≡ k = cc in
+      rw (← same) (omega arith, omega arith)
+  numbered-as text x k (no_lead e o r f l) q = let same : NoLead ≡ k = cc in rw (← same) (omega arith, omega arith)
   numbered-as text x k (is-rule a) q = absurd (refused-rule (sym q))
 
-  pub numbered : (text : List ℕ) (k : ℕ) → HasOutcome context text (refused k) → (1 ≤ k) × (k ≤ 8)
+  pub numbered : (text : List ℕ) (k : Refusal) → HasOutcome context text (refused k)
+      → (1 ≤ number k) × (number k ≤ 8)
   numbered text k h = numbered-as text (refused k) k h refl
 
   -- ---- SPEC 12.2, demand 2

@@ -2,15 +2,12 @@
 -- Assumes nothing.
 use mathlib.Core.Bool.{Bool, true, false, true≢false, false≢true, not, ◌&&◌, ◌||◌, or-true}
 use mathlib.Core.List.{List, [], ◌∷◌}
-use mathlib.Core.Path.{◌≡◌, refl, sym, ap, ◌∙◌}
-use Prim.Native.Nat.{ℕ, ◌+◌, ◌≤◌, ◌<◌}
-use native.Mathlib.Omega.{arith}
+use mathlib.Core.Path.{◌≡◌, refl, sym, ◌∙◌}
+use Prim.Native.Nat.{ℕ}
 use lib.Dec.{eqb}
-use lib.ListN.{length, drop}
 use borrow.Author.Tests.{eq-eqb, eqb-true, eqb-false}
 use Rattle.lists.specs.Number.{number_at}
 use Rattle.lists.proofs.All.{and-true}
-use Rattle.lists.proofs.Fours.{four, short}
 use Rattle.formulas.specs.Arena.{record_names, flat}
 use Rattle.formulas.specs.Names.{names_parameter}
 use Rattle.formulas.specs.Tree.{Tree}
@@ -75,33 +72,6 @@ module _ (ps qs : List ℕ) where
           → (values_agree ps qs r ≡ false → Differing r) → Differing (k ∷ a ∷ b ∷ c ∷ r)
       go true p e later = let w = later e in (w.0, rw w.1 (or-true (record_names k b && eqb c w.0)), w.2)
       go false p e later = let w = one-differs k b c p in (c, rw (w.0, eq-eqb c c refl), w.1)
-
-  -- ---- record by record, from a place on
-
-  -- The record at a place, of which the value x was computed: it settles the pass, or what is left does.
-  module _ (r : List ℕ) (i : ℕ) (h : i + 4 ≤ length r) {x : Bool}
-      (e : x ≡ value_agrees ps qs (number_at r i) (number_at r (i + 2)) (number_at r (i + 3))) where
-    agree-one : values_agree ps qs (drop i r) ≡ x && values_agree ps qs (drop (i + 4) r)
-    unfolding values_agree
-    agree-one = ap (values_agree ps qs) (four r i h)
-        ∙ ap (λ (y : Bool). y && values_agree ps qs (drop (i + 4) r)) (sym e)
-
-    pub agree-stop : x ≡ false → values_agree ps qs (drop i r) ≡ false
-    agree-stop f = agree-one ∙ ap (λ (y : Bool). y && values_agree ps qs (drop (i + 4) r)) f
-
-    pub agree-next : x ≡ true → values_agree ps qs (drop i r) ≡ values_agree ps qs (drop (i + 4) r)
-    agree-next f = agree-one ∙ ap (λ (y : Bool). y && values_agree ps qs (drop (i + 4) r)) f
-
-  pub agree-short : (r : List ℕ) (i : ℕ) → length r < i + 4 → values_agree ps qs (drop i r) ≡ true
-  unfolding values_agree
-  agree-short r i h = go (drop i r) (short r i h)
-    where
-      go : (l : List ℕ) → length l < 4 → values_agree ps qs l ≡ true
-      go [] l = refl
-      go (k ∷ []) l = refl
-      go (k ∷ a ∷ []) l = refl
-      go (k ∷ a ∷ b ∷ []) l = refl
-      go (k ∷ a ∷ b ∷ c ∷ r) l = absurd (omega arith)
 
   -- ---- of a tree
 

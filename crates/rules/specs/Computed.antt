@@ -1,9 +1,11 @@
 -- Reading a rule and comparing two as computations, by the parser that `grammar` defines. That they agree with the
 -- relations of Reading.antt and Same.antt is shown in proofs/Theorems.antt and proofs/Sameness.antt. Definitions only.
 use Rattle.std.specs.Prelude.{Bool, true, not, ◌&&◌, ◌||◌, cond, List, [], ◌∷◌, ℕ, eqb}
+use Rattle.std.specs.Prelude.{Ok, Err}
 use Rattle.std.proofs.Math.Option.{Option, none, some}
 use Rattle.limits.specs.Limits.{literal_count}
 use Rattle.limits.specs.declared.Context.{Context}
+use Rattle.limits.specs.declared.Refusal.TheVariants.{OverLimits, NoRule, BeyondFragment, NoLead, ParameterTooHigh}
 use Rattle.lists.specs.Number.{number_at}
 use Rattle.lists.specs.Same.{same}
 use Rattle.traces.specs.Parameters.{parameters_fit}
@@ -14,18 +16,17 @@ use Rattle.formulas.specs.Arena.{record_names, flat}
 use Rattle.grammar.specs.Fragment.{beyond}
 use Rattle.grammar.specs.Parse.{tree_of}
 use Rattle.rules.specs.Limits.{beyond_limits}
+use Rattle.rules.specs.Same.{Same}
 use Rattle.rules.specs.Reading.{Outcome}
 use Rattle.rules.specs.Reading.Outcome.{refused, rule}
-use Rattle.rules.specs.declared.Same.{Same}
-use Rattle.rules.specs.declared.Same.TheVariants.{Yes, No, Refused}
 
 abbrev pub of_tree : List ℕ → Option Tree → Outcome
-of_tree ws none = refused 6
-of_tree ws (some t) = cond (beyond ws) (refused 7) (cond (leads t) (rule t) (refused 8))
+of_tree ws none = refused NoRule
+of_tree ws (some t) = cond (beyond ws) (refused BeyondFragment) (cond (leads t) (rule t) (refused NoLead))
 
 abbrev pub of_words : Out → Outcome
-of_words (Out.refused n) = refused n
-of_words (made ws) = cond (beyond_limits ws) (refused 5) (of_tree ws (tree_of ws))
+of_words (Out.refused r) = refused r
+of_words (made ws) = cond (beyond_limits ws) (refused OverLimits) (of_tree ws (tree_of ws))
 
 -- The outcome of a text.
 unfoldable pub rule_of : Context → List ℕ → Outcome
@@ -33,8 +34,8 @@ rule_of context text = of_words (split_of context text)
 
 -- The outcome of a text with its parameters.
 abbrev pub side_of : List ℕ → Outcome → Outcome
-side_of ps (refused n) = refused n
-side_of ps (rule t) = cond (parameters_fit literal_count ps) (rule t) (refused 13)
+side_of ps (refused r) = refused r
+side_of ps (rule t) = cond (parameters_fit literal_count ps) (rule t) (refused ParameterTooHigh)
 
 -- One record, of that kind, with b and c as its last numbers: the parameter that it names, if it names one, has the
 -- same value in ps and in qs;
@@ -52,9 +53,9 @@ values_agree ps qs (k ∷ a ∷ b ∷ c ∷ r) = value_agrees ps qs k b c && val
 -- The answer for two sides with these parameters and outcomes: trees are compared by their records, and the parameters
 -- that these name by their values.
 abbrev pub same_of : List ℕ → List ℕ → Outcome → Outcome → Same
-same_of ps qs (refused n) y = Refused n
-same_of ps qs (rule t) (refused n) = Refused n
-same_of ps qs (rule t) (rule u) = cond (same (flat t) (flat u) && values_agree ps qs (flat t)) Yes No
+same_of ps qs (refused r) y = Err r
+same_of ps qs (rule t) (refused r) = Err r
+same_of ps qs (rule t) (rule u) = Ok (same (flat t) (flat u) && values_agree ps qs (flat t))
 
 -- The answer for two texts with their parameters.
 abbrev pub comparison : Context → List ℕ → List ℕ → List ℕ → List ℕ → Same

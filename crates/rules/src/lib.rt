@@ -1,43 +1,26 @@
 // Reading a rule (SPEC 8.1): its words, limits, grammar and fragment. Same rule (SPEC 8.3).
 #![tactic(auto)]
 
-ghost use Rattle.std.specs.Prelude.{not, ◌&&◌, ◌||◌, ◌≡◌, ◌≤◌, eqb, length};
+ghost use Rattle.std.specs.Prelude.{◌≡◌, ◌≤◌, cond, length};
 ghost use Rattle.limits.specs.Limits.{word_limit, arena_limit};
 ghost use Rattle.limits.specs.Context.{standard_context};
+ghost use Rattle.limits.specs.declared.Refusal.TheVariants.{OverLimits};
 ghost use Rattle.formulas.specs.Arena.{record_names};
-ghost use Rattle.grammar.specs.Fragment.{beyond};
-ghost use Rattle.words.specs.Word.{CHOP, EXISTS};
 ghost use Rattle.words.specs.Split.Out.{made};
-ghost use Rattle.rules.specs.Limits.{bracket_limit, opened, deep, counted, beyond_limits};
+ghost use Rattle.rules.specs.Limits.{bracket_limit, opened, counted, beyond_limits};
 ghost use Rattle.rules.specs.Computed.{rule_of, of_words, side_of, value_agrees, values_agree, comparison};
 ghost use Rattle.rules.specs.Same.{SameAnswer};
 ghost use Rattle.rules.specs.Contract.{answer_of, Told};
-ghost use Rattle.rules.specs.Laid.{Readable, Laid, split_refusal, records_refusal};
+ghost use Rattle.rules.specs.Laid.{Readable, Laid};
 
-use limits::Context;
-use parser::Parsed;
-use words::Split;
+use formulas::RecordKind;
+use limits::{Context, Refusal};
 
-// What reading a rule answers: its node count, or the refusal's number.
+// What reading a rule's tree gives: how many numbers its records take, and its node count.
 #[derive(Clone, Copy)]
-pub enum Read {
-    Rule(u32),
-    Refused(u32),
-}
-
-// What reading a rule's tree answers: how many numbers its records take and its node count, or the refusal's number.
-#[derive(Clone, Copy)]
-pub enum Records {
-    Rule(usize, u32),
-    Refused(u32),
-}
-
-// What comparing two rules answers.
-#[derive(Clone, Copy)]
-pub enum Same {
-    Yes,
-    No,
-    Refused(u32),
+pub struct Records {
+    pub size: usize,
+    pub nodes: u32,
 }
 
 // SPEC 2.10: how many round brackets may be open at a word, and how many of the four counted words there may be.
@@ -50,155 +33,82 @@ fn open_after(depth: usize, w: u32) -> usize
     requires { depth ≤ bracket_limit }
     ensures { result ≡ opened depth w }
 {
-    if w == words::ROUND {
-        return depth + 1;
+    match w {
+        words::ROUND => depth + 1,
+        words::ROUND_END => depth.saturating_sub(1),
+        _ => depth,
     }
-    if w == words::ROUND_END {
-        if depth == 0 {
-            return 0;
-        }
-        return depth - 1;
-    }
-    depth
 }
 
 // Whether a word is `!`, `then`, `chop` or `exists`.
+#[tactic(auto, unfolding(crate::specs::Limits::counted))]
 fn is_counted(w: u32) -> bool
     ensures { result ≡ counted w }
 {
-    if w == words::NOT {
-        return true;
-    }
-    if w == words::THEN {
-        return true;
-    }
-    if w == words::CHOP {
-        return true;
-    }
-    w == words::EXISTS
+    matches!(w, words::NOT | words::THEN | words::CHOP | words::EXISTS)
 }
 
-// Whether `chop` or `exists` is among some words and the word w after them.
-fn beyond_after(beyond: bool, w: u32) -> bool
-    ensures { result ≡ (beyond || (eqb w CHOP || eqb w EXISTS)) }
+// Refusal 5 (SPEC 7.5): too many round brackets are open at a word, or there are too many of the counted words.
+fn check_limits(ws: &[u32]) -> Result<(), Refusal>
+    ensures { result ≡ cond (beyond_limits ws.now) (Err OverLimits) (Ok tt) }
 {
-    if w == words::CHOP {
-        return true;
-    }
-    if w == words::EXISTS {
-        return true;
-    }
-    beyond
-}
-
-// What one pass over the words tells: refusal 5 (SPEC 7.5), and refusal 7 (SPEC 7.7), unless too many brackets end the
-// pass before this is known.
-#[derive(Clone, Copy)]
-struct Limits {
-    pub over: bool,
-    pub beyond: bool,
-}
-
-fn limits_of(ws: &[u32]) -> Limits
-    ensures { (result.over ≡ beyond_limits ws.now)
-        × (result.beyond ≡ (not (deep 0 ws.now) && beyond ws.now)) }
-{
-    let mut depth: usize = 0;
-    let mut n: usize = 0;
-    let mut beyond = false;
-    let mut i: usize = 0;
-    while i < ws.len() {
-        let w = ws[i];
-        depth = open_after(depth, w);
-        if BRACKETS < depth {
-            return Limits {
-                over: true,
-                beyond: false,
-            };
+    let mut depth = 0;
+    let mut n = 0;
+    for w in ws {
+        depth = open_after(depth, *w);
+        if depth > BRACKETS {
+            return Err(Refusal::OverLimits);
         }
-        if is_counted(w) {
+        if is_counted(*w) {
             n += 1;
         }
-        beyond = beyond_after(beyond, w);
-        i += 1;
     }
-    Limits {
-        over: OPERATORS < n,
-        beyond,
+    if n > OPERATORS {
+        return Err(Refusal::OverLimits);
     }
-}
-
-// The words' refusal, where there is one.
-fn split_refusal(s: Split) -> u32
-    ensures { result ≡ split_refusal s }
-{
-    match s {
-        Split::Words(_) => 0,
-        Split::Refused(n) => n,
-    }
+    Ok(())
 }
 
 // The tree of a rule's words: refusals 5 to 8, or its records in the arena.
-fn read_words(ws: &[u32], arena: &mut [u32]) -> Records
+fn read_words(ws: &[u32], arena: &mut [u32]) -> Result<Records, Refusal>
     requires { (length ws.now ≤ word_limit) × (arena_limit ≤ length arena.old) }
     ensures { Laid (of_words (made ws.now)) arena.old result arena.new }
 {
-    let limits = limits_of(ws);
-    let over = limits.over;
-    if over {
-        return Records::Refused(5);
+    check_limits(ws)?;
+    let rule = parser::read_f(ws, false, 0, arena, 0).ok_or(Refusal::NoRule)?;
+    if rule.at != ws.len() {
+        return Err(Refusal::NoRule);
     }
-    let Parsed::At(next, top, facts) = parser::read_f(ws, false, 0, arena, 0) else {
-        return Records::Refused(6);
-    };
-    if next != ws.len() {
-        return Records::Refused(6);
+    if ws.contains(&words::CHOP) || ws.contains(&words::EXISTS) {
+        return Err(Refusal::BeyondFragment);
     }
-    let beyond = limits.beyond;
-    if beyond {
-        return Records::Refused(7);
+    if !rule.facts.leads {
+        return Err(Refusal::NoLead);
     }
-    let leads = facts.leads;
-    if !leads {
-        return Records::Refused(8);
-    }
-    Records::Rule(top, facts.nodes)
+    Ok(Records {
+        size: rule.top,
+        nodes: rule.facts.nodes,
+    })
 }
 
 // The tree of a rule text, for the operations that go on with it: refusals 1 to 8, or its records in the arena.
-pub fn read_tree(context: Context, text: &[u8], arena: &mut [u32]) -> Records
+pub fn read_tree(context: Context, text: &[u8], arena: &mut [u32]) -> Result<Records, Refusal>
     requires { Readable context arena.old }
     ensures { Laid (rule_of context text.now) arena.old result arena.new }
 {
     let mut ws = [0u32; limits::WORDS];
-    let split = words::split_text(context, text, &mut ws);
-    let Split::Words(n) = split else {
-        return Records::Refused(split_refusal(split));
-    };
+    let n = words::split_text(context, text, &mut ws)?;
     read_words(&ws[..n], arena)
 }
 
-// The refusal in an answer that is one, 0 in another.
-pub fn records_refusal(r: Records) -> u32
-    ensures { result ≡ records_refusal r }
-{
-    match r {
-        Records::Rule(_, _) => 0,
-        Records::Refused(n) => n,
-    }
-}
-
 // Read a rule (SPEC 8.1): its node count, or the first of refusals 1 to 8 that the text has.
-pub fn read_rule(text: &[u8]) -> Read
+pub fn read_rule(text: &[u8]) -> Result<u32, Refusal>
     ensures value { result ≡ answer_of (rule_of standard_context text.now) }
     ensures told { Told standard_context text.now result }
 {
     let mut arena = [0u32; limits::ARENA];
-    let records = read_tree(limits::standard(), text, &mut arena);
-    let Records::Rule(_, nodes) = records else {
-        return Read::Refused(records_refusal(records));
-    };
-    Read::Rule(nodes)
+    let records = read_tree(limits::standard(), text, &mut arena)?;
+    Ok(records.nodes)
 }
 
 // One side of a comparison: refusals 1 to 8 of the text, then 13 of its parameters, or the tree's records in the arena.
@@ -207,32 +117,25 @@ fn read_side(
     text: &[u8],
     parameters: &[u32; limits::PARAMETERS],
     arena: &mut [u32],
-) -> Records
+) -> Result<Records, Refusal>
     requires { Readable context arena.old }
     ensures { Laid (side_of parameters.now (rule_of context text.now)) arena.old result
         arena.new }
 {
-    let records = read_tree(context, text, arena);
-    let Records::Rule(_, _) = records else {
-        return records;
-    };
+    let records = read_tree(context, text, arena)?;
     if !traces::parameters_fit(limits::LITERALS, parameters) {
-        return Records::Refused(13);
+        return Err(Refusal::ParameterTooHigh);
     }
-    records
+    Ok(records)
 }
 
 // Whether a record of that kind, whose number after the comparison is b, names a parameter.
 fn names_parameter(kind: u32, b: u32) -> bool
     ensures { result ≡ record_names kind b }
 {
-    if kind < formulas::LEN {
-        return false;
-    }
-    if formulas::FINE < kind {
-        return false;
-    }
-    b == formulas::PARAMETER
+    const FIRST: u32 = RecordKind::Len as u32;
+    const LAST: u32 = RecordKind::Fine as u32;
+    matches!(kind, FIRST..=LAST) && b == formulas::PARAMETER
 }
 
 // Whether the parameter that a record names, if it names one, has the same value on both sides.
@@ -245,14 +148,12 @@ fn value_agrees(
 ) -> bool
     ensures { result ≡ value_agrees ps.now qs.now kind b c }
 {
-    if !names_parameter(kind, b) {
-        return true;
-    }
-    let j = c as usize;
-    lists::number_at(ps, j) == lists::number_at(qs, j)
+    !names_parameter(kind, b)
+        || lists::number_at(ps, c as usize) == lists::number_at(qs, c as usize)
 }
 
 // The same of each record.
+#[tactic(auto, unfolding(crate::specs::Computed::values_agree))]
 fn values_agree(
     records: &[u32],
     ps: &[u32; limits::PARAMETERS],
@@ -260,24 +161,25 @@ fn values_agree(
 ) -> bool
     ensures { result ≡ values_agree ps.now qs.now records.now }
 {
-    let mut i = 0;
-    while i + 4 <= records.len() {
-        if !value_agrees(records[i], records[i + 2], records[i + 3], ps, qs) {
+    let mut rest = records;
+    while let [kind, _, b, c, after @ ..] = rest {
+        if !value_agrees(*kind, *b, *c, ps, qs) {
             return false;
         }
-        i += 4;
+        rest = after;
     }
     true
 }
 
 // Same rule (SPEC 8.3): the refusal of the first text or else 13 of its parameters, or else the second's; or else
-// whether the texts have one tree and the parameters that it names the same values.
+// whether the texts have one tree and the parameters that it names the same values. A text and its parameters are passed
+// singly, as C passes them.
 pub fn same_rule(
     first: &[u8],
     ps: &[u32; limits::PARAMETERS],
     second: &[u8],
     qs: &[u32; limits::PARAMETERS],
-) -> Same
+) -> Result<bool, Refusal>
     ensures value { result ≡ comparison standard_context first.now ps.now
         second.now qs.now }
     ensures same_answer { SameAnswer standard_context first.now ps.now
@@ -285,20 +187,9 @@ pub fn same_rule(
 {
     let context = limits::standard();
     let mut arena = [0u32; limits::ARENA];
-    let records = read_side(context, first, ps, &mut arena);
-    let Records::Rule(n, _) = records else {
-        return Same::Refused(records_refusal(records));
-    };
+    let n = read_side(context, first, ps, &mut arena)?.size;
     let mut other = [0u32; limits::ARENA];
-    let others = read_side(context, second, qs, &mut other);
-    let Records::Rule(m, _) = others else {
-        return Same::Refused(records_refusal(others));
-    };
-    if !lists::same_numbers(&arena[..n], &other[..m]) {
-        return Same::No;
-    }
-    if values_agree(&arena[..n], ps, qs) {
-        return Same::Yes;
-    }
-    Same::No
+    let m = read_side(context, second, qs, &mut other)?.size;
+    let records = &arena[..n];
+    Ok(records == &other[..m] && values_agree(records, ps, qs))
 }

@@ -12,7 +12,7 @@ use Rattle.formulas.specs.Formula.Count.{sum, age}
 use Rattle.formulas.specs.Formula.Formula.{test, len, count, lag, neg, and, or, then}
 use Rattle.formulas.specs.Bounds.{bounded, num_bound}
 use Rattle.formulas.specs.Raw.{raw_p, raw}
-use Rattle.tables.specs.Table.{Equation, equation, kind_of, shape_of, same_sort}
+use Rattle.tables.specs.Table.{equation, kind_of, shape_of, same_sort}
 use Rattle.tables.specs.Kind.{VELOCITY}
 use Rattle.limits.specs.Limits.{literal_count}
 use Rattle.tables.specs.declared.Sort.TheVariants.{Boolean}
@@ -26,6 +26,7 @@ use Rattle.scheme.proofs.Roles.{Before, later, Fits, KindAt}
 use Rattle.scheme.proofs.Rows.{Fine, here, constant-fine, not-fine, and-fine, or-fine}
 use Rattle.scheme.proofs.Rows.{begin-fine, point-fine, kept_fine, held-fine, len-fine, sum-fine, age-fine}
 use Rattle.scheme.proofs.Rows.{always-fine, run-fine, due-fine, lead-end-fine, rest-fine}
+use Rattle.tables.specs.declared.Equation.{Equation}
 
 -- In a table t of N equations:
 module _ (velocities : ℕ) (t : List ℕ) (N : ℕ) where

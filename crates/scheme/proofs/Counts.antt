@@ -17,7 +17,7 @@ use Rattle.formulas.specs.Formula.Formula.{test, len, count, lag, neg, and, or, 
 use Rattle.formulas.specs.Tree.{Tree}
 use Rattle.formulas.specs.Raw.{raw_p, raw}
 use Rattle.tables.specs.Kind.{SIGNAL}
-use Rattle.tables.specs.Table.{Equation, equation}
+use Rattle.tables.specs.Table.{equation}
 use Rattle.limits.specs.Limits.{signal_count}
 use Rattle.scheme.specs.Scheme.{Node, constant_node, signal_node, not_node, and_node, or_node, begin_node}
 use Rattle.scheme.specs.Scheme.{end_node, point_node, held_node, kept_node, len_node, sum_node, age_node, run_node}
@@ -26,6 +26,7 @@ use Rattle.scheme.specs.Emit.{place_after, emit_p, emit, named_by_p, named_by, f
 use Rattle.scheme.specs.Emit.{observer, start_flow, negated_flow, header_count, start-es, whole-es}
 use Rattle.scheme.specs.Emit.{after_run, second_start, second_negated, second_place}
 use Rattle.scheme.specs.Emit.{tests_p, tests_of, next_test_p, next_test, test_place, head_place}
+use Rattle.tables.specs.declared.Equation.{Equation}
 
 -- ---- the count
 

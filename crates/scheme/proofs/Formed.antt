@@ -9,11 +9,10 @@ use Rattle.formulas.specs.Formula.{Formula}
 use Rattle.formulas.specs.Bounds.{bounded}
 use Rattle.formulas.specs.Raw.{raw}
 use Rattle.tables.specs.Kind.{START, NOT, OR}
-use Rattle.tables.specs.Table.{Equation, equation, equation_at, kind_of, shape_of, same_sort, shape_fits, operand_fits}
-use Rattle.tables.specs.Table.{equation_fits, closing_count, started_of, verdict_of, boolean_at, checked, all}
+use Rattle.tables.specs.Table.{equation, equation_at, kind_of, shape_of, same_sort, shape_fits, operand_fits}
+use Rattle.tables.specs.Table.{equation_fits, closing_count, started_of, verdict_of, boolean_at, passed, checked, all}
 use Rattle.limits.specs.Limits.{equation_limit, literal_count, signal_count}
 use Rattle.tables.specs.declared.Sort.TheVariants.{Boolean}
-use Rattle.tables.specs.declared.Checked.TheVariants.{Passed}
 use Rattle.tables.proofs.Tests.{all_of}
 use Rattle.tables.proofs.Checks.{closing-by, long-enough}
 use Rattle.scheme.specs.Scheme.{◌⊕◌}
@@ -27,6 +26,7 @@ use Rattle.scheme.proofs.Roles.{Before, later, Fits, KindAt}
 use Rattle.scheme.proofs.Rows.{here, not-fine, whole-fine}
 use Rattle.scheme.proofs.Blocks.{AllFine, follow, Leaves, fine}
 use Rattle.scheme.proofs.Header.{signal-at, signal-before, signals-fit, tests-fit}
+use Rattle.tables.specs.declared.Equation.{Equation}
 
 module _ (cap velocities : ℕ) (low : cap ≤ literal_count) (m : ℕ) (few : m ≤ signal_count) (f : Formula)
     (bound : bounded cap velocities (raw f) ≡ true) (below : (j : ℕ) → named_by f j ≡ true → j < m) (junk : List ℕ)
@@ -164,7 +164,7 @@ module _ (cap velocities : ℕ) (low : cap ≤ literal_count) (m : ℕ) (few : m
     pub result-before : (body_block m f).out < whole_place m f
     result-before = body-fine.1.earlier
 
-    pub formed-over : n ≤ equation_limit → checked velocities t n ≡ Passed
+    pub formed-over : n ≤ equation_limit → checked velocities t n ≡ passed
     formed-over small =
         long-enough velocities t n (omega arith) small
         (omega (arith, length-append (numbers_of (observer_over m f)) junk, length-numbers (observer_over m f)))

@@ -15,7 +15,7 @@ use Rattle.formulas.specs.Formula.Formula.{test, len, count, lag, neg, and, or, 
 use Rattle.formulas.specs.Bounds.{bounded, num_bound}
 use Rattle.formulas.specs.Raw.{raw_p, raw}
 use Rattle.tables.specs.Kind.{SIGNAL}
-use Rattle.tables.specs.Table.{Equation, kind_of, shape_of, shape_fits, operand_fits}
+use Rattle.tables.specs.Table.{kind_of, shape_of, shape_fits, operand_fits}
 use Rattle.limits.specs.Limits.{comparison_count, signal_count}
 use Rattle.scheme.specs.Scheme.{◌⊕◌}
 use Rattle.tables.specs.Table.{equation}
@@ -24,6 +24,7 @@ use Rattle.scheme.proofs.Offsets.{suc-⊕}
 use Rattle.scheme.proofs.Places.{after-later, Each, each-join}
 use Rattle.scheme.proofs.Roles.{Fits}
 use Rattle.scheme.proofs.Rows.{op-below}
+use Rattle.tables.specs.declared.Equation.{Equation}
 
 -- ---- the named signals among the m from j on
 

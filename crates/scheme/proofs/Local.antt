@@ -8,9 +8,7 @@ use native.Mathlib.Omega.{arith}
 use Rattle.traces.specs.Trace.{Trace, truth, nonzero, signal_at, parameter_at, starts}
 use Rattle.traces.specs.Compare.{op_of, compares}
 use Rattle.traces.proofs.Laws.{nonzero-truth, truth-nonzero}
-use Rattle.tables.specs.Table.{Equation, equation_at, Kind, kind_of, kind_at, shape_of, sort_of, same_sort}
-use Rattle.tables.specs.Table.Kind.{signal, start, constant, negation, conjunction, disjunction, boolean_pre}
-use Rattle.tables.specs.Table.Kind.{count_pre, capped, if_else, compare_literal, compare_parameter, velocity, unknown}
+use Rattle.tables.specs.Table.{equation_at, kind_of, kind_at, shape_of, sort_of, same_sort}
 use Rattle.flows.specs.Flow.{increased, value_of, initial}
 use Rattle.tables.specs.declared.Sort.TheVariants.{Boolean}
 use Rattle.flows.specs.Lustre.{arrow_pre, Lustre}
@@ -18,6 +16,11 @@ use Rattle.flows.proofs.Answers.{boolean-low}
 use Rattle.scheme.specs.Emit.{numbers_of}
 use Rattle.scheme.proofs.Offsets.{zero-⊕}
 use Rattle.scheme.proofs.Places.{Each, each_from, equation-at}
+use Rattle.std.specs.Prelude.{Option, Some, None}
+use Rattle.tables.specs.declared.Kind.TheVariants.{Signal, Start, Constant, Not, And, Or, BooleanPre}
+use Rattle.tables.specs.declared.Kind.TheVariants.{CountPre, Capped, If, CompareLiteral, CompareParameter, Velocity}
+use Rattle.tables.specs.declared.Equation.{Equation}
+use Rattle.tables.specs.declared.Kind.{Kind}
 
 -- Boolean flow i is true at tick k.
 abbrev pub on : (ℕ → ℕ → ℕ) → ℕ → ℕ → Bool
@@ -25,44 +28,44 @@ on flow i k = nonzero (flow k i)
 
 module _ (cap : ℕ) (trace : Trace) (flow : ℕ → ℕ → ℕ) where
   -- What flow i, of an equation e of that kind, is at every tick; of a memory, at the first tick and after each tick.
-  abbrev pub Local : Kind → ℕ → Equation → Type 0
-  Local signal i e = (k : ℕ) → on flow i k ≡ signal_at (trace k) e.a
-  Local start i e = (k : ℕ) → on flow i k ≡ starts (trace k)
-  Local constant i e = (k : ℕ) → on flow i k ≡ nonzero e.a
-  Local negation i e = (k : ℕ) → on flow i k ≡ not (on flow e.a k)
-  Local conjunction i e = (k : ℕ) → on flow i k ≡ on flow e.a k && on flow e.b k
-  Local disjunction i e = (k : ℕ) → on flow i k ≡ on flow e.a k || on flow e.b k
-  Local boolean_pre i e = (on flow i 0 ≡ nonzero e.c) × ((k : ℕ) → on flow i (suc k) ≡ on flow e.a k)
-  Local count_pre i e = (flow 0 i ≡ 0) × ((k : ℕ) → flow (suc k) i ≡ flow k e.a)
-  Local capped i e = (k : ℕ) → flow k i ≡ increased cap (flow k e.a) (on flow e.b k)
-  Local if_else i e = (k : ℕ) → flow k i ≡ cond (on flow e.a k) (flow k e.b) 0
-  Local compare_literal i e = (k : ℕ) → on flow i k ≡ compares (op_of e.b) (flow k e.a) e.c
-  Local compare_parameter i e =
+  abbrev pub Local : Option Kind → ℕ → Equation → Type 0
+  Local (Some Signal) i e = (k : ℕ) → on flow i k ≡ signal_at (trace k) e.a
+  Local (Some Start) i e = (k : ℕ) → on flow i k ≡ starts (trace k)
+  Local (Some Constant) i e = (k : ℕ) → on flow i k ≡ nonzero e.a
+  Local (Some Not) i e = (k : ℕ) → on flow i k ≡ not (on flow e.a k)
+  Local (Some And) i e = (k : ℕ) → on flow i k ≡ on flow e.a k && on flow e.b k
+  Local (Some Or) i e = (k : ℕ) → on flow i k ≡ on flow e.a k || on flow e.b k
+  Local (Some BooleanPre) i e = (on flow i 0 ≡ nonzero e.c) × ((k : ℕ) → on flow i (suc k) ≡ on flow e.a k)
+  Local (Some CountPre) i e = (flow 0 i ≡ 0) × ((k : ℕ) → flow (suc k) i ≡ flow k e.a)
+  Local (Some Capped) i e = (k : ℕ) → flow k i ≡ increased cap (flow k e.a) (on flow e.b k)
+  Local (Some If) i e = (k : ℕ) → flow k i ≡ cond (on flow e.a k) (flow k e.b) 0
+  Local (Some CompareLiteral) i e = (k : ℕ) → on flow i k ≡ compares (op_of e.b) (flow k e.a) e.c
+  Local (Some CompareParameter) i e =
       (k : ℕ) → on flow i k ≡ compares (op_of e.b) (flow k e.a) (parameter_at (trace k) e.c)
-  Local velocity i e = (k : ℕ) → on flow i k ≡ compares (op_of e.a) (trace k).velocity e.b
-  Local unknown i e = Unit {0}
+  Local (Some Velocity) i e = (k : ℕ) → on flow i k ≡ compares (op_of e.a) (trace k).velocity e.b
+  Local None i e = Unit {0}
 
   -- A flow that satisfies its equation is so.
-  local : (q : Kind) (i : ℕ) (e : Equation)
+  local : (q : Option Kind) (i : ℕ) (e : Equation)
       → ((k : ℕ) → flow k i
       ≡ value_of cap (trace k) (flow k) (arrow_pre (initial (sort_of q) e.c) (λ j. flow j e.a) k) q e)
       → Local q i e
   unfolding value_of initial shape_of
-  local signal i e h = λ k. rw (h k) (nonzero-truth (signal_at (trace k) e.a))
-  local start i e h = λ k. rw (h k) (nonzero-truth (starts (trace k)))
-  local constant i e h = λ k. rw (h k)
-  local negation i e h = λ k. rw (h k) (nonzero-truth (not (on flow e.a k)))
-  local conjunction i e h = λ k. rw (h k) (nonzero-truth (on flow e.a k && on flow e.b k))
-  local disjunction i e h = λ k. rw (h k) (nonzero-truth (on flow e.a k || on flow e.b k))
-  local boolean_pre i e h = (rw (h 0), λ k. rw (h (suc k)))
-  local count_pre i e h = (h 0, λ k. h (suc k))
-  local capped i e h = h
-  local if_else i e h = h
-  local compare_literal i e h = λ k. rw (h k) (nonzero-truth (compares (op_of e.b) (flow k e.a) e.c))
-  local compare_parameter i e h = λ k.
+  local (Some Signal) i e h = λ k. rw (h k) (nonzero-truth (signal_at (trace k) e.a))
+  local (Some Start) i e h = λ k. rw (h k) (nonzero-truth (starts (trace k)))
+  local (Some Constant) i e h = λ k. rw (h k)
+  local (Some Not) i e h = λ k. rw (h k) (nonzero-truth (not (on flow e.a k)))
+  local (Some And) i e h = λ k. rw (h k) (nonzero-truth (on flow e.a k && on flow e.b k))
+  local (Some Or) i e h = λ k. rw (h k) (nonzero-truth (on flow e.a k || on flow e.b k))
+  local (Some BooleanPre) i e h = (rw (h 0), λ k. rw (h (suc k)))
+  local (Some CountPre) i e h = (h 0, λ k. h (suc k))
+  local (Some Capped) i e h = h
+  local (Some If) i e h = h
+  local (Some CompareLiteral) i e h = λ k. rw (h k) (nonzero-truth (compares (op_of e.b) (flow k e.a) e.c))
+  local (Some CompareParameter) i e h = λ k.
       rw (h k) (nonzero-truth (compares (op_of e.b) (flow k e.a) (parameter_at (trace k) e.c)))
-  local velocity i e h = λ k. rw (h k) (nonzero-truth (compares (op_of e.a) (trace k).velocity e.b))
-  local unknown i e h = tt
+  local (Some Velocity) i e h = λ k. rw (h k) (nonzero-truth (compares (op_of e.a) (trace k).velocity e.b))
+  local None i e h = tt
 
   -- The same of an equation with its own kind number, at place i,
   abbrev pub LocalAt : ℕ → Equation → Type 0

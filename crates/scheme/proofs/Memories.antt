@@ -18,7 +18,7 @@ use Rattle.formulas.specs.Tree.{memories_of, rule_memories}
 use Rattle.formulas.specs.Raw.{raw}
 use Rattle.limits.specs.Limits.{signal_count}
 use Rattle.tables.specs.Kind.{SIGNAL, BOOLEAN-PRE, COUNT-PRE}
-use Rattle.tables.specs.Table.{Equation, kind_of, kind_at, is_memory}
+use Rattle.tables.specs.Table.{kind_of, kind_at, is_memory}
 use Rattle.scheme.specs.Scheme.{◌⊕◌, comparison_of}
 use Rattle.tables.specs.Table.{equation}
 use Rattle.scheme.specs.Emit.{place_after, emit_p, emit, named_by, flow_in, signals-es, header, whole-es, body}
@@ -26,6 +26,7 @@ use Rattle.scheme.specs.Emit.{observer, start_flow, negated_flow, start-es, numb
 use Rattle.scheme.specs.Emit.{next_test_p, next_test, test_place, head_place}
 use Rattle.tables.specs.Table.{memories}
 use Rattle.scheme.proofs.Places.{four-more}
+use Rattle.tables.specs.declared.Equation.{Equation}
 
 -- ---- counted over equations
 

@@ -22,7 +22,7 @@ use Rattle.formulas.specs.Names.{num_names, names_parameter}
 use Rattle.formulas.specs.Raw.{raw_p, raw}
 use Rattle.formulas.proofs.Named.{Unchanging, Steady, named-left, named-right, value_same, value-small}
 use Rattle.formulas.proofs.Meaning.{lead-falls}
-use Rattle.tables.specs.Table.{Equation, kind_of}
+use Rattle.tables.specs.Table.{kind_of}
 use Rattle.scheme.specs.Scheme.{◌⊕◌}
 use Rattle.scheme.specs.Emit.{Block, place_after, tests_p, tests_of, next_test_p, next_test, emit_p, emit}
 use Rattle.scheme.specs.Emit.{named_by_p, named_by, lead-end-es, then-es}
@@ -34,6 +34,7 @@ use Rattle.scheme.proofs.Atoms.{Since, begin-is, point-is, kept-is, held-is, len
 use Rattle.scheme.proofs.Atoms.{compare-is}
 use Rattle.scheme.proofs.Lag.{lag-is}
 use Rattle.scheme.proofs.Then.{then_is, second-negated}
+use Rattle.tables.specs.declared.Equation.{Equation}
 
 -- The flow i says what f means, from the latest start of the flow s on.
 abbrev pub Agrees : Trace → (ℕ → ℕ → ℕ) → ℕ → ℕ → Formula → Type 0

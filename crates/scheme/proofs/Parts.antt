@@ -9,11 +9,12 @@ use lib.ListN.{length}
 use Rattle.lists.specs.Number.{number_at}
 use Rattle.formulas.specs.Formula.{Formula}
 use Rattle.limits.specs.Limits.{signal_count}
-use Rattle.tables.specs.Table.{Equation, started_of, verdict_of}
+use Rattle.tables.specs.Table.{started_of, verdict_of}
 use Rattle.scheme.specs.Scheme.{◌⊕◌}
 use Rattle.scheme.specs.Emit.{Block, place_after, emit, named_by, signals-es, places, whole-es, observer}
 use Rattle.scheme.specs.Emit.{start_flow, negated_flow, header_count, start-es, tests_of, next_test}
 use Rattle.scheme.proofs.Places.{after-append, after-length}
+use Rattle.tables.specs.declared.Equation.{Equation}
 
 -- The start flow, its negation, and the named signals among the first m.
 abbrev pub head_rows : (ℕ → Bool) → ℕ → List Equation

@@ -4,11 +4,12 @@ use mathlib.Core.Path.{◌≡◌, refl}
 use Prim.Native.Nat.{ℕ, zero, suc, ◌+◌, ◌*◌, ◌≤◌, ◌<◌}
 use native.Mathlib.Omega.{arith}
 use lib.ListN.{get_or, length}
-use Rattle.tables.specs.Table.{Equation, equation_at}
+use Rattle.tables.specs.Table.{equation_at}
 use Rattle.scheme.specs.Scheme.{◌⊕◌}
 use Rattle.tables.specs.Table.{equation}
 use Rattle.scheme.specs.Emit.{place_after, numbers_of}
 use Rattle.scheme.proofs.Offsets.{suc-⊕}
+use Rattle.tables.specs.declared.Equation.{Equation}
 
 -- ---- the place after equations
 

@@ -1,5 +1,6 @@
 -- When rows of the scheme fit: a test that computes, of what the names in them stand for. Rows that pass it keep the
 -- rules of their kinds wherever they are put. Assumes nothing.
+use Rattle.std.specs.Prelude.{Option}
 use mathlib.Core.Bool.{Bool, true, false, ◌&&◌, and-eq-true_iff, false≢true}
 use mathlib.Core.List.{List, [], ◌∷◌}
 use mathlib.Core.Path.{◌≡◌, refl, ap, ◌∙◌}
@@ -8,7 +9,7 @@ use native.Mathlib.Omega.{arith}
 use lib.Dec.{ltb, leb}
 use lib.ListN.{get_or, length}
 use borrow.Author.Tests.{lt-ltb, ltb-true, leb-true, eq-eqb}
-use Rattle.tables.specs.Table.{all, Equation, Kind, kind_of, kind_at, shape_of, sort_of, same_sort, is_flow}
+use Rattle.tables.specs.Table.{all, kind_of, kind_at, shape_of, sort_of, same_sort, is_flow}
 use Rattle.tables.specs.Table.{operand_fits}
 use Rattle.tables.specs.Table.{shape_fits}
 use Rattle.tables.specs.declared.Sort.{Sort}
@@ -25,6 +26,8 @@ use Rattle.scheme.specs.Scheme.{Row}
 use Rattle.scheme.specs.Scheme.{Values}
 use Rattle.scheme.proofs.Offsets.{⊕-add}
 use Rattle.scheme.proofs.Places.{Each, each_at, each_from, nothing}
+use Rattle.tables.specs.declared.Equation.{Equation}
+use Rattle.tables.specs.declared.Kind.{Kind}
 
 -- ---- the test
 
@@ -67,7 +70,7 @@ is_below k (below b) = leb b k
 is_below k (own j) = false
 
 -- The kind of a row, with these values.
-abbrev pub kind_in : Values → Row → Kind
+abbrev pub kind_in : Values → Row → Option Kind
 kind_in v r = kind_of (kind_for v r.kind)
 
 -- Rows with these values and these roles.

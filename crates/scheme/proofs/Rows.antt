@@ -15,7 +15,7 @@ use Rattle.formulas.specs.Formula.{Num}
 use Rattle.formulas.specs.Formula.Num.{literal, parameter}
 use Rattle.formulas.specs.Arena.{num_kind}
 use Rattle.formulas.specs.Bounds.{num_bound}
-use Rattle.tables.specs.Table.{all, Equation, kind_of, kind_at, shape_of, sort_of, same_sort}
+use Rattle.tables.specs.Table.{all, kind_of, kind_at, shape_of, sort_of, same_sort}
 use Rattle.limits.specs.Limits.{truth_count, comparison_count}
 use Rattle.limits.specs.Limits.{literal_count, parameter_count}
 use Rattle.tables.specs.declared.Sort.{Sort}
@@ -35,6 +35,7 @@ use Rattle.scheme.specs.Emit.{len-es, sum-es, age-es, run-es, fine-es, always-es
 use Rattle.scheme.proofs.Places.{Each}
 use Rattle.scheme.proofs.Roles.{Role, roles_of, rows_ok, Before, later, Fits, KindAt, Plays, rows_fit}
 use Rattle.scheme.proofs.Roles.Role.{given, free}
+use Rattle.tables.specs.declared.Equation.{Equation}
 
 truth-below : (c : Bool) → truth c < truth_count
 truth-below true = omega arith

@@ -14,13 +14,13 @@ use Rattle.formulas.specs.Formula.Count.{sum, age}
 use Rattle.formulas.specs.Formula.Formula.{test, len, count, lag, neg, and, or, then}
 use Rattle.formulas.specs.Arena.{flat}
 use Rattle.formulas.specs.Raw.{raw_p, raw}
-use Rattle.tables.specs.Table.{Equation}
 use Rattle.limits.specs.Limits.{record_limit, arena_limit, equation_limit, signal_count}
 use Rattle.scheme.specs.Scheme.{◌⊕◌, widest}
 use Rattle.scheme.specs.Emit.{place_after, emit_p, emit, named_by, flow_in, signals-es, header, whole-es, body}
 use Rattle.scheme.specs.Emit.{observer, start_flow, negated_flow, header_count, start-es, after_run, tests_p, tests_of}
 use Rattle.scheme.specs.Emit.{next_test_p, next_test, test_place, head_place}
 use Rattle.scheme.proofs.Header.{signals-length}
+use Rattle.tables.specs.declared.Equation.{Equation}
 
 module _ (flow_of : ℕ → ℕ) where
   -- One equation for each record of a proposition but a signal's: a test's stands in the table's head.

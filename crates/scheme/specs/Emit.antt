@@ -14,7 +14,6 @@ use Rattle.formulas.specs.Formula.Test.{begin, end, point, held, kept}
 use Rattle.formulas.specs.Formula.Count.{sum, age}
 use Rattle.formulas.specs.Formula.Formula.{test, len, count, lag, neg, and, or, then}
 use Rattle.formulas.specs.Arena.{num_kind, num_value}
-use Rattle.tables.specs.Table.{Equation}
 use Rattle.tables.specs.Kind.{SIGNAL, START, NOT, VELOCITY}
 use Rattle.limits.specs.Limits.{signal_count}
 use Rattle.tables.specs.Table.{equation}
@@ -23,6 +22,7 @@ use Rattle.scheme.specs.Scheme.{end_node, point_node, held_node, kept_node, len_
 use Rattle.scheme.specs.Scheme.{fine_node, always_node, lead_end_node, then_node, velocity_node, whole_node}
 use Rattle.scheme.specs.Scheme.{Values, value_named, comparison_of, filled}
 use Rattle.scheme.specs.Scheme.Name.{Fourth}
+use Rattle.tables.specs.declared.Equation.{Equation}
 
 -- A block of equations, and the flow that is its result.
 pub record Block : Type 0 where

@@ -3,9 +3,10 @@
 -- Definitions only.
 use Rattle.std.specs.Prelude.{cond, List, [], ◌∷◌, ◌++◌, ℕ, zero, suc, eqb, get_or}
 use Rattle.formulas.specs.Arena.{LITERAL, WHOLE}
-use Rattle.tables.specs.Table.{Equation, equation}
+use Rattle.tables.specs.Table.{equation}
 use Rattle.tables.specs.Kind.{CONSTANT, NOT, AND, OR, BOOLEAN-PRE, COUNT-PRE, CAPPED, IF}
 use Rattle.tables.specs.Kind.{COMPARE-LITERAL, COMPARE-PARAMETER}
+use Rattle.tables.specs.declared.Equation.{Equation}
 
 -- o ⊕ k is o + k, by recursion on k: it computes where k is a numeral.
 infixl 65 ◌⊕◌

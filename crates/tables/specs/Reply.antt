@@ -1,9 +1,10 @@
 -- The reply of a table's check. Definitions only.
 use Rattle.limits.specs.Reply.{Reply, refused, gives}
-use Rattle.tables.specs.declared.Checked.{Checked}
-use Rattle.tables.specs.declared.Checked.TheVariants.{Passed, Refused}
+use Rattle.limits.specs.Refusal.{number}
+use Rattle.tables.specs.Table.{Checked}
+use Rattle.std.specs.Prelude.{Ok, Err}
 
 -- It gives no number.
 abbrev pub checked_reply : Checked → Reply
-checked_reply Passed = gives 0
-checked_reply (Refused r) = refused r
+checked_reply (Ok tt) = gives 0
+checked_reply (Err r) = refused (number r)

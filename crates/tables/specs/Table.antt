@@ -5,21 +5,21 @@ unfoldable pub use Rattle.lists.specs.All.{all}
 use Rattle.lists.specs.Number.{number_at}
 use Rattle.limits.specs.Limits.{signal_count, truth_count, comparison_count, literal_count, parameter_count}
 use Rattle.limits.specs.Limits.{equation_limit}
+use Rattle.tables.specs.declared.Kind.{Kind}
+use Rattle.tables.specs.declared.Kind.TheVariants.{Signal, Start, Constant, Not, And, Or, BooleanPre, CountPre, Capped, If}
+use Rattle.tables.specs.declared.Kind.TheVariants.{CompareLiteral, CompareParameter, Velocity}
+use Rattle.tables.specs.declared.UnknownKind.{UnknownKind}
+use Rattle.tables.specs.declared.Equation.{Equation}
 use Rattle.tables.specs.declared.Sort.{Sort}
 use Rattle.tables.specs.declared.Sort.TheVariants.{Boolean, Count}
 use Rattle.tables.specs.declared.Operand.{Operand}
-use Rattle.tables.specs.declared.Operand.TheVariants.{Unused, Earlier, Anywhere, Below, Velocity}
+use Rattle.tables.specs.declared.Operand.TheVariants.{Unused, Earlier, Anywhere, Below, Velocity as AnyVelocity}
 use Rattle.tables.specs.declared.Shape.{Shape}
-use Rattle.tables.specs.declared.Checked.{Checked}
-use Rattle.tables.specs.declared.Checked.TheVariants.{Passed, Refused}
+use Rattle.std.specs.Prelude.{Option, Some, None, Result, Ok, Err, ◌≡◌, map}
+use Rattle.limits.specs.declared.Refusal.{Refusal}
+use Rattle.limits.specs.declared.Refusal.TheVariants.{BadEquation, EquationCount}
 
--- SPEC 5.1: the numbers of an equation.
-pub record Equation : Type 0 where
-  pub kind : ℕ
-  pub a : ℕ
-  pub b : ℕ
-  pub c : ℕ
-
+-- SPEC 5.1: an equation of these numbers.
 abbrev pub equation : ℕ → ℕ → ℕ → ℕ → Equation
 equation k a b c = record { kind = k; a = a; b = b; c = c }
 
@@ -33,23 +33,23 @@ equation_at t i =
       c = number_at t (4 * i + 3);
     }
 
--- The thirteen kinds, and one for every number that is the number of none of them.
-pub data Kind : Type 0 where
-  signal start constant negation conjunction disjunction boolean_pre count_pre capped if_else : Kind
-  compare_literal compare_parameter velocity unknown : Kind
-
 -- SPEC 5.3: the kinds in the order of their numbers.
 abbrev pub kinds : List Kind
 kinds =
-    signal ∷ start ∷ constant ∷ negation ∷ conjunction ∷ disjunction ∷ boolean_pre ∷ count_pre ∷ capped ∷ if_else
-    ∷ compare_literal ∷ compare_parameter ∷ velocity ∷ []
+    Signal ∷ Start ∷ Constant ∷ Not ∷ And ∷ Or ∷ BooleanPre ∷ CountPre ∷ Capped ∷ If
+    ∷ CompareLiteral ∷ CompareParameter ∷ Velocity ∷ []
 
--- The kind of that number.
-unfoldable pub kind_of : ℕ → Kind
-kind_of k = get_or kinds k unknown
+-- The kind of that number; none, where it is the number of none.
+unfoldable pub kind_of : ℕ → Option Kind
+kind_of k = get_or (map Some kinds) k None
+
+-- The answer r names the kind of the number k, or says that it has none.
+abbrev pub Named : ℕ → Result Kind UnknownKind → Type 0
+Named k (Ok x) = kind_of k ≡ Some x
+Named k (Err e) = kind_of k ≡ None
 
 -- The kind of equation i of a table.
-abbrev pub kind_at : List ℕ → ℕ → Kind
+abbrev pub kind_at : List ℕ → ℕ → Option Kind
 kind_at t i = kind_of (number_at t (4 * i))
 
 -- A row of the table of kinds: what A, B and C have to be, and the sort of the flow.
@@ -58,24 +58,24 @@ row x y z s = record { a = x; b = y; c = z; gives = s }
 
 -- SPEC 5.3: the table of kinds. SPEC 5.4: operands stand before, those of the memories anywhere. No number fits A of an
 -- unknown kind.
-unfoldable pub shape_of : Kind → Shape
-shape_of signal = row (Below signal_count) Unused Unused Boolean
-shape_of start = row Unused Unused Unused Boolean
-shape_of constant = row (Below truth_count) Unused Unused Boolean
-shape_of negation = row (Earlier Boolean) Unused Unused Boolean
-shape_of conjunction = row (Earlier Boolean) (Earlier Boolean) Unused Boolean
-shape_of disjunction = row (Earlier Boolean) (Earlier Boolean) Unused Boolean
-shape_of boolean_pre = row (Anywhere Boolean) Unused (Below truth_count) Boolean
-shape_of count_pre = row (Anywhere Count) Unused Unused Count
-shape_of capped = row (Earlier Count) (Earlier Boolean) Unused Count
-shape_of if_else = row (Earlier Boolean) (Earlier Count) Unused Count
-shape_of compare_literal = row (Earlier Count) (Below comparison_count) (Below literal_count) Boolean
-shape_of compare_parameter = row (Earlier Count) (Below comparison_count) (Below parameter_count) Boolean
-shape_of velocity = row (Below comparison_count) Velocity Unused Boolean
-shape_of unknown = row (Below 0) Unused Unused Boolean
+unfoldable pub shape_of : Option Kind → Shape
+shape_of (Some Signal) = row (Below signal_count) Unused Unused Boolean
+shape_of (Some Start) = row Unused Unused Unused Boolean
+shape_of (Some Constant) = row (Below truth_count) Unused Unused Boolean
+shape_of (Some Not) = row (Earlier Boolean) Unused Unused Boolean
+shape_of (Some And) = row (Earlier Boolean) (Earlier Boolean) Unused Boolean
+shape_of (Some Or) = row (Earlier Boolean) (Earlier Boolean) Unused Boolean
+shape_of (Some BooleanPre) = row (Anywhere Boolean) Unused (Below truth_count) Boolean
+shape_of (Some CountPre) = row (Anywhere Count) Unused Unused Count
+shape_of (Some Capped) = row (Earlier Count) (Earlier Boolean) Unused Count
+shape_of (Some If) = row (Earlier Boolean) (Earlier Count) Unused Count
+shape_of (Some CompareLiteral) = row (Earlier Count) (Below comparison_count) (Below literal_count) Boolean
+shape_of (Some CompareParameter) = row (Earlier Count) (Below comparison_count) (Below parameter_count) Boolean
+shape_of (Some Velocity) = row (Below comparison_count) AnyVelocity Unused Boolean
+shape_of None = row (Below 0) Unused Unused Boolean
 
 -- The sort of a kind's flow.
-abbrev pub sort_of : Kind → Sort
+abbrev pub sort_of : Option Kind → Sort
 sort_of q = (shape_of q).gives
 
 -- Both sorts are the same.
@@ -86,21 +86,21 @@ same_sort Count Boolean = false
 same_sort Count Count = true
 
 -- SPEC 5.7: the kinds that are memories.
-unfoldable pub is_memory : Kind → Bool
-is_memory signal = false
-is_memory start = false
-is_memory constant = false
-is_memory negation = false
-is_memory conjunction = false
-is_memory disjunction = false
-is_memory boolean_pre = true
-is_memory count_pre = true
-is_memory capped = false
-is_memory if_else = false
-is_memory compare_literal = false
-is_memory compare_parameter = false
-is_memory velocity = false
-is_memory unknown = false
+unfoldable pub is_memory : Option Kind → Bool
+is_memory (Some Signal) = false
+is_memory (Some Start) = false
+is_memory (Some Constant) = false
+is_memory (Some Not) = false
+is_memory (Some And) = false
+is_memory (Some Or) = false
+is_memory (Some BooleanPre) = true
+is_memory (Some CountPre) = true
+is_memory (Some Capped) = false
+is_memory (Some If) = false
+is_memory (Some CompareLiteral) = false
+is_memory (Some CompareParameter) = false
+is_memory (Some Velocity) = false
+is_memory None = false
 
 -- SPEC 5.7: how many of the first equations of a table are memories.
 abbrev pub memories : List ℕ → ℕ → ℕ
@@ -118,7 +118,7 @@ operand_fits velocities t n i Unused x = eqb x 0
 operand_fits velocities t n i (Earlier s) x = is_flow t i s x
 operand_fits velocities t n i (Anywhere s) x = is_flow t n s x
 operand_fits velocities t n i (Below m) x = ltb x m
-operand_fits velocities t n i Velocity x = ltb x velocities
+operand_fits velocities t n i AnyVelocity x = ltb x velocities
 
 -- The three numbers of the equation e, i of n, are what its kind's row asks for.
 unfoldable pub shape_fits : ℕ → List ℕ → ℕ → ℕ → Shape → Equation → Bool
@@ -159,20 +159,27 @@ equations_fit velocities t n = all (equation_fits velocities t n) n && closes t 
 
 -- A test and the refusal of a call that fails it.
 pub record Test : Type 0 where
-  pub refusal : ℕ
+  pub refusal : Refusal
   pub passed : Bool
 
-abbrev pub test : ℕ → Bool → Test
+abbrev pub test : Refusal → Bool → Test
 test r b = record { refusal = r; passed = b }
+
+-- What the check of a call answers: no refusal applies, or the first that does.
+abbrev pub Checked : Type 0
+Checked = Result (Unit {0}) Refusal
+
+abbrev pub passed : Checked
+passed = Ok tt
 
 -- SPEC 1.4: the first test that fails gives the refusal.
 abbrev pub first_failed : List Test → Checked
-first_failed [] = Passed
-first_failed (x ∷ xs) = cond x.passed (first_failed xs) (Refused x.refusal)
+first_failed [] = passed
+first_failed (x ∷ xs) = cond x.passed (first_failed xs) (Err x.refusal)
 
 -- The tests of a table of n equations, where there are so many velocities.
 abbrev pub table_tests : ℕ → List ℕ → ℕ → List Test
-table_tests velocities t n = test 10 (length_fits t n) ∷ test 11 (equations_fit velocities t n) ∷ []
+table_tests velocities t n = test EquationCount (length_fits t n) ∷ test BadEquation (equations_fit velocities t n) ∷ []
 
 -- What the check of a table answers.
 unfoldable pub checked : ℕ → List ℕ → ℕ → Checked

@@ -2,13 +2,16 @@
 // (SPEC 7.10, SPEC 7.11). What they mean is in specs/.
 #![tactic(auto)]
 
-ghost use Rattle.std.specs.Prelude.{◌≡◌, ◌&&◌, ◌*◌, ◌≤◌, ◌<◌, length};
-ghost use Rattle.tables.specs.Kind.{kind_count};
-ghost use Rattle.tables.specs.Table.{all, kind_of, shape_of, sort_of, same_sort, is_memory, is_flow, operand_fits};
+ghost use Rattle.std.specs.Prelude.{◌≡◌, ◌&&◌, ◌+◌, ◌*◌, ◌≤◌, ◌<◌, length};
+ghost use Rattle.tables.specs.Table.{all, kind_of, shape_of, sort_of, same_sort, is_memory, is_flow, operand_fits, row, shape_fits};
 ghost use Rattle.tables.specs.Table.{equation_at, equation_fits, closes, checked};
 
+use Operand::{Anywhere, Below, Earlier, Unused};
+use Sort::{Boolean, Count};
+use limits::Refusal;
+
 // The sort of a flow.
-#[derive(Clone, Copy)]
+#[derive(Clone, Copy, PartialEq, Eq)]
 pub enum Sort {
     Boolean,
     Count,
@@ -38,412 +41,312 @@ pub struct Shape {
     pub gives: Sort,
 }
 
-// What a check answers: no refusal applies, or the number of the first that does.
-#[derive(Clone, Copy)]
-pub enum Checked {
-    Passed,
-    Refused(u32),
+// SPEC 5.3: the kinds of equations, in the order of their numbers.
+#[derive(Clone, Copy, PartialEq, Eq)]
+pub enum Kind {
+    // A signal.
+    Signal,
+    // The start.
+    Start,
+    // A constant.
+    Constant,
+    // Not.
+    Not,
+    // And.
+    And,
+    // Or.
+    Or,
+    // The memory of a boolean, which C begins.
+    BooleanPre,
+    // The memory of a count.
+    CountPre,
+    // A count that goes up to the cap.
+    Capped,
+    // A count or 0.
+    If,
+    // A count compared with a literal.
+    CompareLiteral,
+    // A count compared with a parameter.
+    CompareParameter,
+    // The velocity compared with a literal.
+    Velocity,
 }
 
-// The numbers of the kinds. Every crate that names a kind by its number names it by these.
-pub const SIGNAL: u32 = 0;
-
-pub const START: u32 = 1;
-
-pub const CONSTANT: u32 = 2;
-
-pub const NOT: u32 = 3;
-
-pub const AND: u32 = 4;
-
-pub const OR: u32 = 5;
-
-pub const BOOLEAN_PRE: u32 = 6;
-
-pub const COUNT_PRE: u32 = 7;
-
-pub const CAPPED: u32 = 8;
-
-pub const IF: u32 = 9;
-
-pub const COMPARE_LITERAL: u32 = 10;
-
-pub const COMPARE_PARAMETER: u32 = 11;
-
-pub const VELOCITY: u32 = 12;
-
 // How many kinds there are.
-pub const KIND_COUNT: usize = 13;
+pub const KIND_COUNT: usize = Kind::Velocity as usize + 1;
+
+// A number that no kind has.
+#[derive(Clone, Copy, PartialEq, Eq)]
+pub struct UnknownKind(pub u32);
+
+impl TryFrom<u32> for Kind {
+    type Error = UnknownKind;
+
+    ghost use Rattle.tables.specs.Table.{Named};
+
+    ghost try_from_gives = { Named };
+
+    #[tactic(auto, unfolding(crate::specs::Table::kind_of))]
+    fn try_from(number: u32) -> Result<Self, UnknownKind> {
+        match number {
+            0 => Ok(Kind::Signal),
+            1 => Ok(Kind::Start),
+            2 => Ok(Kind::Constant),
+            3 => Ok(Kind::Not),
+            4 => Ok(Kind::And),
+            5 => Ok(Kind::Or),
+            6 => Ok(Kind::BooleanPre),
+            7 => Ok(Kind::CountPre),
+            8 => Ok(Kind::Capped),
+            9 => Ok(Kind::If),
+            10 => Ok(Kind::CompareLiteral),
+            11 => Ok(Kind::CompareParameter),
+            12 => Ok(Kind::Velocity),
+            _ => Err(UnknownKind(number)),
+        }
+    }
+}
+
+// SPEC 5.1: the four numbers of an equation.
+#[derive(Clone, Copy, PartialEq, Eq)]
+pub struct Equation {
+    pub kind: u32,
+    pub a: u32,
+    pub b: u32,
+    pub c: u32,
+}
 
 // SPEC 5.5: how many equations close a table, the started flow's and then the verdict's.
 pub const CLOSING: usize = 2;
 
-// The table of kinds (SPEC 5.3, SPEC 12.5): a row for each, by its number.
-const KINDS: [Shape; KIND_COUNT] = [
-    // 0: a signal.
-    Shape {
-        a: Operand::Below(limits::SIGNALS),
-        b: Operand::Unused,
-        c: Operand::Unused,
-        gives: Sort::Boolean,
-    },
-    // 1: the start.
-    Shape {
-        a: Operand::Unused,
-        b: Operand::Unused,
-        c: Operand::Unused,
-        gives: Sort::Boolean,
-    },
-    // 2: a constant.
-    Shape {
-        a: Operand::Below(limits::TRUTHS),
-        b: Operand::Unused,
-        c: Operand::Unused,
-        gives: Sort::Boolean,
-    },
-    // 3: not.
-    Shape {
-        a: Operand::Earlier(Sort::Boolean),
-        b: Operand::Unused,
-        c: Operand::Unused,
-        gives: Sort::Boolean,
-    },
-    // 4: and.
-    Shape {
-        a: Operand::Earlier(Sort::Boolean),
-        b: Operand::Earlier(Sort::Boolean),
-        c: Operand::Unused,
-        gives: Sort::Boolean,
-    },
-    // 5: or.
-    Shape {
-        a: Operand::Earlier(Sort::Boolean),
-        b: Operand::Earlier(Sort::Boolean),
-        c: Operand::Unused,
-        gives: Sort::Boolean,
-    },
-    // 6: the memory of a boolean, which C begins.
-    Shape {
-        a: Operand::Anywhere(Sort::Boolean),
-        b: Operand::Unused,
-        c: Operand::Below(limits::TRUTHS),
-        gives: Sort::Boolean,
-    },
-    // 7: the memory of a count.
-    Shape {
-        a: Operand::Anywhere(Sort::Count),
-        b: Operand::Unused,
-        c: Operand::Unused,
-        gives: Sort::Count,
-    },
-    // 8: a count that goes up to the cap.
-    Shape {
-        a: Operand::Earlier(Sort::Count),
-        b: Operand::Earlier(Sort::Boolean),
-        c: Operand::Unused,
-        gives: Sort::Count,
-    },
-    // 9: a count or 0.
-    Shape {
-        a: Operand::Earlier(Sort::Boolean),
-        b: Operand::Earlier(Sort::Count),
-        c: Operand::Unused,
-        gives: Sort::Count,
-    },
-    // 10: a count compared with a literal.
-    Shape {
-        a: Operand::Earlier(Sort::Count),
-        b: Operand::Below(limits::COMPARISONS),
-        c: Operand::Below(limits::LITERALS),
-        gives: Sort::Boolean,
-    },
-    // 11: a count compared with a parameter.
-    Shape {
-        a: Operand::Earlier(Sort::Count),
-        b: Operand::Below(limits::COMPARISONS),
-        c: Operand::Below(limits::PARAMETERS as u32),
-        gives: Sort::Boolean,
-    },
-    // 12: the velocity compared with a literal.
-    Shape {
-        a: Operand::Below(limits::COMPARISONS),
-        b: Operand::Velocity,
-        c: Operand::Unused,
-        gives: Sort::Boolean,
-    },
-];
+// How many parameters there are.
+const PARAMETERS: u32 = limits::PARAMETERS as u32;
 
-// The row of kind k.
-fn shape_at(k: u32) -> Shape
-    requires { k < kind_count }
-    ensures { result ≡ shape_of (kind_of k) }
+// A row: what A, B and C have to be, and the sort of the flow.
+fn row(a: Operand, b: Operand, c: Operand, gives: Sort) -> Shape
+    ensures { result ≡ row a b c gives }
 {
-    let i = k as usize;
-    KINDS[i]
+    Shape { a, b, c, gives }
 }
 
-// The row for every number; one that is no kind's gets a row whose A nothing fits. In each arm the row is known as the
-// program is compiled.
+impl Kind {
+    ghost use Rattle.tables.specs.Table.{shape_of};
+
+    // The table of kinds (SPEC 5.3, SPEC 12.5).
+    #[tactic(auto, unfolding(crate::specs::Table::shape_of))]
+    pub fn shape(self) -> Shape
+        ensures { result ≡ shape_of (Some self) }
+    {
+        match self {
+            Kind::Signal => row(Below(limits::SIGNALS), Unused, Unused, Boolean),
+            Kind::Start => row(Unused, Unused, Unused, Boolean),
+            Kind::Constant => row(Below(limits::TRUTHS), Unused, Unused, Boolean),
+            Kind::Not => row(Earlier(Boolean), Unused, Unused, Boolean),
+            Kind::And | Kind::Or => row(Earlier(Boolean), Earlier(Boolean), Unused, Boolean),
+            Kind::BooleanPre => row(Anywhere(Boolean), Unused, Below(limits::TRUTHS), Boolean),
+            Kind::CountPre => row(Anywhere(Count), Unused, Unused, Count),
+            Kind::Capped => row(Earlier(Count), Earlier(Boolean), Unused, Count),
+            Kind::If => row(Earlier(Boolean), Earlier(Count), Unused, Count),
+            Kind::CompareLiteral => row(
+                Earlier(Count),
+                Below(limits::COMPARISONS),
+                Below(limits::LITERALS),
+                Boolean,
+            ),
+            Kind::CompareParameter => row(
+                Earlier(Count),
+                Below(limits::COMPARISONS),
+                Below(PARAMETERS),
+                Boolean,
+            ),
+            Kind::Velocity => row(
+                Below(limits::COMPARISONS),
+                Operand::Velocity,
+                Unused,
+                Boolean,
+            ),
+        }
+    }
+}
+
+// The row for every number; one that is no kind's gets a row whose A nothing fits.
+#[tactic(auto, unfolding(crate::specs::Table::shape_of))]
 pub fn row_of(k: u32) -> Shape
     ensures { result ≡ shape_of (kind_of k) }
 {
-    match k {
-        SIGNAL => shape_at(SIGNAL),
-        START => shape_at(START),
-        CONSTANT => shape_at(CONSTANT),
-        NOT => shape_at(NOT),
-        AND => shape_at(AND),
-        OR => shape_at(OR),
-        BOOLEAN_PRE => shape_at(BOOLEAN_PRE),
-        COUNT_PRE => shape_at(COUNT_PRE),
-        CAPPED => shape_at(CAPPED),
-        IF => shape_at(IF),
-        COMPARE_LITERAL => shape_at(COMPARE_LITERAL),
-        COMPARE_PARAMETER => shape_at(COMPARE_PARAMETER),
-        VELOCITY => shape_at(VELOCITY),
-        _ => Shape {
-            a: Operand::Below(0),
-            b: Operand::Unused,
-            c: Operand::Unused,
-            gives: Sort::Boolean,
-        },
+    match Kind::try_from(k) {
+        Ok(kind) => kind.shape(),
+        Err(_) => row(
+            Operand::Below(0),
+            Operand::Unused,
+            Operand::Unused,
+            Sort::Boolean,
+        ),
     }
 }
 
-// What A has to be in an equation of kind k.
-#[inline(always)]
-fn a(k: u32) -> Operand
-    requires { k < kind_count }
-    ensures { result ≡ (shape_of (kind_of k)).a }
-{
-    let shape = shape_at(k);
-    shape.a
-}
-
-// What B has to be in an equation of kind k.
-#[inline(always)]
-fn b(k: u32) -> Operand
-    requires { k < kind_count }
-    ensures { result ≡ (shape_of (kind_of k)).b }
-{
-    let shape = shape_at(k);
-    shape.b
-}
-
-// What C has to be in an equation of kind k.
-#[inline(always)]
-fn c(k: u32) -> Operand
-    requires { k < kind_count }
-    ensures { result ≡ (shape_of (kind_of k)).c }
-{
-    let shape = shape_at(k);
-    shape.c
-}
-
-// The sort of the flow of an equation of kind k.
-fn gives(k: u32) -> Sort
-    requires { k < kind_count }
-    ensures { result ≡ sort_of (kind_of k) }
-{
-    let shape = shape_at(k);
-    shape.gives
-}
-
-// The same for every number: one that is no kind's has a boolean flow. In each arm the row is known as the program is
-// compiled.
+// The sort of the flow for every number: one that is no kind's has a boolean flow. A step asks for it at each operand,
+// and the numbers are compared as they are, since a kind takes instructions to make.
+#[tactic(auto, using(crate::proofs::Numbers::counts))]
 pub fn sort_of(k: u32) -> Sort
     ensures { result ≡ sort_of (kind_of k) }
 {
-    match k {
-        SIGNAL => gives(SIGNAL),
-        START => gives(START),
-        CONSTANT => gives(CONSTANT),
-        NOT => gives(NOT),
-        AND => gives(AND),
-        OR => gives(OR),
-        BOOLEAN_PRE => gives(BOOLEAN_PRE),
-        COUNT_PRE => gives(COUNT_PRE),
-        CAPPED => gives(CAPPED),
-        IF => gives(IF),
-        COMPARE_LITERAL => gives(COMPARE_LITERAL),
-        COMPARE_PARAMETER => gives(COMPARE_PARAMETER),
-        VELOCITY => gives(VELOCITY),
-        _ => Sort::Boolean,
+    if Kind::CountPre as u32 <= k && k <= Kind::If as u32 {
+        return Count;
     }
+    Boolean
 }
 
 // Whether the flow of a kind is a count.
+#[tactic(auto, unfolding(crate::specs::Table::same_sort))]
 pub fn is_count(k: u32) -> bool
     ensures { result ≡ same_sort (sort_of (kind_of k)) Sort.Count }
 {
-    let sort = sort_of(k);
-    match sort {
-        Sort::Boolean => false,
-        Sort::Count => true,
-    }
+    sort_of(k) == Sort::Count
 }
 
-// Whether x is one of the first m equations, and its flow has the sort s.
-fn is_flow(table: &[u32], m: usize, s: Sort, x: u32) -> bool
-    requires { 4 * m ≤ length table.now }
-    ensures { result ≡ is_flow table.now m s x }
-{
-    let j = x as usize;
-    if m <= j {
-        return false;
-    }
-    let count = is_count(table[4 * j]);
-    match s {
-        Sort::Boolean => !count,
-        Sort::Count => count,
-    }
+// A table of n equations, four numbers for each.
+#[derive(Clone, Copy)]
+pub struct Table<'a> {
+    pub numbers: &'a [u32],
+    pub n: usize,
+    ghost whole: { 4 * n ≤ length numbers.now },
 }
 
-// Whether x can be such an operand in equation i of n, where there are so many velocities.
-fn operand_fits(velocities: u32, table: &[u32], n: usize, i: usize, o: Operand, x: u32) -> bool
-    requires { (i < n) × (4 * n ≤ length table.now) }
-    ensures { result ≡ operand_fits velocities table.now n i o x }
-{
-    match o {
-        Operand::Unused => x == 0,
-        Operand::Earlier(s) => is_flow(table, i, s, x),
-        Operand::Anywhere(s) => is_flow(table, n, s, x),
-        Operand::Below(m) => x < m,
-        Operand::Velocity => x < velocities,
-    }
-}
+impl Table<'_> {
+    ghost use Rattle.tables.specs.Table.{all, kind_at, sort_of, is_flow, operand_fits, equation_at, equation_fits};
+    ghost use Rattle.tables.specs.Table.{closes, shape_fits, same_sort};
 
-// Whether all three hold.
-fn all_three(p: bool, q: bool, r: bool) -> bool
-    ensures { result ≡ (p && (q && r)) }
-{
-    if p {
-        if q {
-            return r;
+    // Equation i.
+    pub fn equation(self, i: usize) -> Equation
+        requires { i < self.n }
+        ensures { result ≡ equation_at self.entry.numbers.now i }
+    {
+        Equation {
+            kind: self.numbers[4 * i],
+            a: self.numbers[4 * i + 1],
+            b: self.numbers[4 * i + 2],
+            c: self.numbers[4 * i + 3],
         }
     }
-    false
-}
 
-// Whether A, B and C of equation i of n can be such operands, where there are vs velocities.
-#[inline(always)]
-fn operands_fit(
-    vs: u32,
-    table: &[u32],
-    n: usize,
-    i: usize,
-    a: Operand,
-    b: Operand,
-    c: Operand,
-) -> bool
-    requires { (i < n) × (4 * n ≤ length table.now) }
-    ensures { result ≡ (operand_fits vs table.now n i a (equation_at table.now i).a
-        && (operand_fits vs table.now n i b (equation_at table.now i).b
-        && operand_fits vs table.now n i c (equation_at table.now i).c)) }
-{
-    let first = operand_fits(vs, table, n, i, a, table[4 * i + 1]);
-    let second = operand_fits(vs, table, n, i, b, table[4 * i + 2]);
-    let third = operand_fits(vs, table, n, i, c, table[4 * i + 3]);
-    all_three(first, second, third)
-}
-
-// Whether equation i of n of the table t keeps the rules of its kind, where there are vs velocities. In each arm the
-// row is known as the program is compiled.
-fn equation_fits(vs: u32, t: &[u32], n: usize, i: usize) -> bool
-    requires { (i < n) × (4 * n ≤ length t.now) }
-    ensures { result ≡ equation_fits vs t.now n i }
-{
-    match t[4 * i] {
-        SIGNAL => operands_fit(vs, t, n, i, a(SIGNAL), b(SIGNAL), c(SIGNAL)),
-        START => operands_fit(vs, t, n, i, a(START), b(START), c(START)),
-        CONSTANT => operands_fit(vs, t, n, i, a(CONSTANT), b(CONSTANT), c(CONSTANT)),
-        NOT => operands_fit(vs, t, n, i, a(NOT), b(NOT), c(NOT)),
-        AND => operands_fit(vs, t, n, i, a(AND), b(AND), c(AND)),
-        OR => operands_fit(vs, t, n, i, a(OR), b(OR), c(OR)),
-        BOOLEAN_PRE => operands_fit(vs, t, n, i, a(BOOLEAN_PRE), b(BOOLEAN_PRE), c(BOOLEAN_PRE)),
-        COUNT_PRE => operands_fit(vs, t, n, i, a(COUNT_PRE), b(COUNT_PRE), c(COUNT_PRE)),
-        CAPPED => operands_fit(vs, t, n, i, a(CAPPED), b(CAPPED), c(CAPPED)),
-        IF => operands_fit(vs, t, n, i, a(IF), b(IF), c(IF)),
-        COMPARE_LITERAL => operands_fit(
-            vs,
-            t,
-            n,
-            i,
-            a(COMPARE_LITERAL),
-            b(COMPARE_LITERAL),
-            c(COMPARE_LITERAL),
-        ),
-        COMPARE_PARAMETER => operands_fit(
-            vs,
-            t,
-            n,
-            i,
-            a(COMPARE_PARAMETER),
-            b(COMPARE_PARAMETER),
-            c(COMPARE_PARAMETER),
-        ),
-        VELOCITY => operands_fit(vs, t, n, i, a(VELOCITY), b(VELOCITY), c(VELOCITY)),
-        _ => false,
+    // The sort of the flow of equation i.
+    pub fn sort(self, i: usize) -> Sort
+        requires { i < self.n }
+        ensures { result ≡ sort_of (kind_at self.entry.numbers.now i) }
+    {
+        sort_of(self.numbers[4 * i])
     }
-}
 
-// Whether each of the n equations keeps the rules of its kind.
-fn equations_fit(velocities: u32, table: &[u32], n: usize) -> bool
-    requires { 4 * n ≤ length table.now }
-    ensures { result ≡ all (equation_fits velocities table.now n) n }
-{
-    let mut i = 0;
-    while i < n {
-        if !equation_fits(velocities, table, n, i) {
+    // Whether x is one of the first m equations, and its flow has the sort s.
+    #[tactic(auto, unfolding(crate::specs::Table::is_flow, crate::specs::Table::same_sort))]
+    fn is_flow(self, m: usize, s: Sort, x: u32) -> bool
+        requires { m ≤ self.n }
+        ensures { result ≡ is_flow self.entry.numbers.now m s x }
+    {
+        let j = x as usize;
+        j < m && self.sort(j) == s
+    }
+
+    // Whether x can be such an operand in equation i, where there are so many velocities.
+    #[tactic(auto, unfolding(crate::specs::Table::operand_fits))]
+    fn operand_fits(self, velocities: u32, i: usize, o: Operand, x: u32) -> bool
+        requires { i < self.n }
+        ensures { result ≡ operand_fits velocities self.entry.numbers.now self.entry.n i o x }
+    {
+        match o {
+            Operand::Unused => x == 0,
+            Operand::Earlier(s) => self.is_flow(i, s, x),
+            Operand::Anywhere(s) => self.is_flow(self.n, s, x),
+            Operand::Below(m) => x < m,
+            Operand::Velocity => x < velocities,
+        }
+    }
+
+    // Whether A, B and C of equation i can be what that row has.
+    #[inline(always)]
+    #[tactic(auto, unfolding(crate::specs::Table::shape_fits))]
+    fn shape_fits(self, velocities: u32, i: usize, shape: Shape) -> bool
+        requires { i < self.n }
+        ensures { result ≡ shape_fits velocities self.entry.numbers.now self.entry.n i shape (equation_at self.entry.numbers.now i) }
+    {
+        let e = self.equation(i);
+        self.operand_fits(velocities, i, shape.a, e.a)
+            && self.operand_fits(velocities, i, shape.b, e.b)
+            && self.operand_fits(velocities, i, shape.c, e.c)
+    }
+
+    // Whether equation i keeps the rules of its kind. In each arm the row is known as the program is compiled.
+    #[tactic(auto, using(crate::proofs::Checks::no_row))]
+    fn equation_fits(self, velocities: u32, i: usize) -> bool
+        requires { i < self.n }
+        ensures { result ≡ equation_fits velocities self.entry.numbers.now self.entry.n i }
+    {
+        let Ok(kind) = Kind::try_from(self.numbers[4 * i]) else {
             return false;
+        };
+        match kind {
+            Kind::Signal => self.shape_fits(velocities, i, Kind::Signal.shape()),
+            Kind::Start => self.shape_fits(velocities, i, Kind::Start.shape()),
+            Kind::Constant => self.shape_fits(velocities, i, Kind::Constant.shape()),
+            Kind::Not => self.shape_fits(velocities, i, Kind::Not.shape()),
+            Kind::And => self.shape_fits(velocities, i, Kind::And.shape()),
+            Kind::Or => self.shape_fits(velocities, i, Kind::Or.shape()),
+            Kind::BooleanPre => self.shape_fits(velocities, i, Kind::BooleanPre.shape()),
+            Kind::CountPre => self.shape_fits(velocities, i, Kind::CountPre.shape()),
+            Kind::Capped => self.shape_fits(velocities, i, Kind::Capped.shape()),
+            Kind::If => self.shape_fits(velocities, i, Kind::If.shape()),
+            Kind::CompareLiteral => self.shape_fits(velocities, i, Kind::CompareLiteral.shape()),
+            Kind::CompareParameter => self.shape_fits(
+                velocities,
+                i,
+                Kind::CompareParameter.shape(),
+            ),
+            Kind::Velocity => self.shape_fits(velocities, i, Kind::Velocity.shape()),
         }
-        i += 1;
     }
-    true
-}
 
-// Whether the two equations that close a table are there, and both of their flows are boolean.
-fn closes(table: &[u32], n: usize) -> bool
-    requires { 4 * n ≤ length table.now }
-    ensures { result ≡ closes table.now n }
-{
-    if n < CLOSING {
-        return false;
+    // Whether each equation keeps the rules of its kind.
+    fn equations_fit(self, velocities: u32) -> bool
+        ensures { result ≡ all (equation_fits velocities self.entry.numbers.now self.entry.n) self.entry.n }
+    {
+        for i in 0..self.n {
+            if !self.equation_fits(velocities, i) {
+                return false;
+            }
+        }
+        true
     }
-    if is_count(table[4 * (n - CLOSING)]) {
-        return false;
+
+    // Whether the two equations that close a table are there, and both of their flows are boolean.
+    #[tactic(auto, unfolding(crate::specs::Table::closes, crate::specs::Table::same_sort))]
+    fn closes(self) -> bool
+        ensures { result ≡ closes self.entry.numbers.now self.entry.n }
+    {
+        CLOSING <= self.n
+            && self.sort(self.n - CLOSING) == Sort::Boolean
+            && self.sort(self.n - 1) == Sort::Boolean
     }
-    !is_count(table[4 * (n - 1)])
 }
 
 // The check of a table of n equations, where there are so many velocities: refusals 10 and 11.
-pub fn check_table(velocities: u32, table: &[u32], n: usize) -> Checked
+pub fn check_table(velocities: u32, table: &[u32], n: usize) -> Result<(), Refusal>
     ensures { result ≡ checked velocities table.now n }
 {
-    if n == 0 {
-        return Checked::Refused(10);
+    if n == 0 || limits::EQUATIONS < n || table.len() < 4 * n {
+        return Err(Refusal::EquationCount);
     }
-    if limits::EQUATIONS < n {
-        return Checked::Refused(10);
+    let table = Table { numbers: table, n };
+    if !table.equations_fit(velocities) || !table.closes() {
+        return Err(Refusal::BadEquation);
     }
-    if table.len() < 4 * n {
-        return Checked::Refused(10);
-    }
-    if !equations_fit(velocities, table, n) {
-        return Checked::Refused(11);
-    }
-    if !closes(table, n) {
-        return Checked::Refused(11);
-    }
-    Checked::Passed
+    Ok(())
 }
 
 // Whether an equation of that kind is a memory: kinds 6 and 7.
+#[tactic(auto, using(crate::proofs::Numbers::memories))]
 pub fn is_memory(k: u32) -> bool
     ensures { result ≡ is_memory (kind_of k) }
 {
-    match k {
-        BOOLEAN_PRE..=COUNT_PRE => true,
-        _ => false,
-    }
+    k == Kind::BooleanPre as u32 || k == Kind::CountPre as u32
 }

@@ -15,12 +15,6 @@ pub record Taken (out : List ℕ) (n at from : ℕ) : Type 0 where
   pub within : from ≤ n
   pub leads : (done : Bool) → Handed (at + from) (take (n - from) (drop from out)) done → Handed at (take n out) done
 
-pub taken_none : (out : List ℕ) (n at : ℕ) → Taken out n at 0
-taken_none out n at =
-    let place : at + 0 ≡ at = omega arith in
-    let count : n - 0 ≡ n = omega arith in
-    record { within = omega arith; leads = λ done h. rw (place, count) at h }
-
 module _ {out : List ℕ} {n at from : ℕ} (t : Taken out n at from) where
   pub taken-all : n ≤ from → Handed at (take n out) true
   taken-all h =

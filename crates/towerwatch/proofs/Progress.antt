@@ -8,15 +8,15 @@ use Prim.Native.Nat.{ℕ, ◌+◌, ◌-◌, ◌*◌, ◌≤◌, ◌<◌}
 use native.Mathlib.Omega.{arith}
 use lib.ListN.{length, take, drop, length-append, length-drop}
 use lib.Seq.{length-take-le, take-add}
-use Rattle.player.specs.Card.{World, world_of, prints, start_world}
+use Rattle.player.specs.Card.{World, prints, start_world}
 use Rattle.limits.specs.Limits.{literal_count, line_limit}
 use Rattle.cards.specs.Says.{is_over}
-use Rattle.feeder.specs.Feed.{Goes, Ready, Turns, Finishes, fed_world, left_over}
+use Rattle.feeder.specs.Feed.{Goes, Turns, fed_world, left_over}
 use Rattle.player.specs.declared.Watch.{Watch}
 use Rattle.feeder.specs.declared.Turn.{Turn}
 use Rattle.cards.proofs.Lines.{append-nil}
 use Rattle.player.proofs.Printing.{over-prints}
-use Rattle.feeder.proofs.Resuming.{goes_none, fed-short, left-short, short-eq, short_none}
+use Rattle.feeder.proofs.Resuming.{goes_none, fed-short, left-short, short_none}
 use Rattle.cards.proofs.Stages.{rank, rank-first, rank-positive, is-over}
 use Rattle.feeder.proofs.Ending.{fed-near}
 use Rattle.towerwatch.specs.declared.Next.{Next}
@@ -30,71 +30,11 @@ use Rattle.towerwatch.specs.Run.{Takes, Once, Whole}
 use Rattle.towerwatch.specs.Turns.{Turned}
 use Rattle.towerwatch.proofs.Joining.{Joined, joined}
 
--- ---- after a read
-
--- A read keeps what was left over, and the buffers stay ready.
-pub ready_read : {buf buf' out : List ℕ} {to : ℕ} → Ready buf to out → take to buf' ≡ take to buf
-    → length buf' ≡ length buf → Ready buf' to out
-ready_read r e h =
-    record {
-      short = short-eq e r.short;
-      within = omega (arith, h, r.within);
-      size = omega (arith, h, r.size);
-      room = omega (arith, h, r.room);
-    }
-
--- There is room to read on.
-pub ready-room : {buf out : List ℕ} {to : ℕ} → Ready buf to out → to < length buf
-ready-room {buf} {to = to} r = omega (arith, length-take-le to buf r.within, r.short.below, r.size)
-
--- So they do where nothing is left over.
-pub ready-none : {buf buf' out out' : List ℕ} {to n : ℕ} → Ready buf to out → n ≡ 0 → length buf' ≡ length buf
-    → length out' ≡ length out → Ready buf' n out'
-ready-none {buf' = buf'} r z h g =
-    record {
-      short = short-eq (ap (λ (i : ℕ). take i buf') z) short_none;
-      within = omega (arith, z);
-      size = omega (arith, h, r.size);
-      room = omega (arith, h, g, r.room);
-    }
-
 -- ---- the end of the input
 
 -- No byte came.
 pub came-none : {i : ℕ} (r : ℕ) (l : List ℕ) → Came i (take r l) → r ≡ 0 → Came i []
 came-none {i} r l h z = subst (λ (n : ℕ). Came i (take n l)) z h
-
-module _ (w : World) (s : List ℕ) (w' : World) (s' : List ℕ) (o : List ℕ) (e : prints w s ≡ o) where
-  whole : o ≡ prints w (s ++ [])
-  whole = sym e ∙ ap (prints w) (sym (append-nil s))
-
-  end-stands : (done : Bool) → Stands (◌≡◌ {A = List ℕ} [] []) (cond done S.Ended S.Stuck) w (s ++ []) o w' s'
-  end-stands true = (refl, whole)
-  end-stands false = inl (refl, whole)
-
-end-done : (done : Bool) → done ≡ is_done (cond done S.Ended S.Stuck)
-end-done true = refl
-end-done false = refl
-
-not-reading : (done : Bool) → is_reading (cond done S.Ended S.Stuck) ≡ true → ⊥
-not-reading true e = false≢true e
-not-reading false e = false≢true e
-
--- The end of the input, after the bytes s, with r bytes printed.
-pub end-takes : {k : Watch} {s old out : List ℕ} {r at : ℕ} {done : Bool} → Finishes k s r old out
-    → Handed at (take r out) done → (n : Next)
-    → n.got ≡ 0 → n.shown ≡ r → n.stand ≡ cond done S.Ended S.Stuck
-    → (ps t c v : List ℕ) (w' : World) (s' : List ℕ) → Takes at [] (world_of k ps t c v) s n w' s' out
-end-takes {k} {s} {old} {out} {r} {at} {done} f d n g h e ps t c v w' s' =
-    let w = world_of k ps t c v in
-    record {
-      got = sym g;
-      more = λ z. absurd (not-reading done (ap is_reading (sym e) ∙ z));
-      shown = rw h f.room;
-      room = omega (arith, g);
-      handed = rw (h, e, sym (end-done done)) d;
-      stands = rw (h, e) (end-stands w s w' s' (take r out) (f.tells ps t c v) done);
-    }
 
 -- ---- a piece
 
@@ -132,10 +72,10 @@ pub piece-takes : {w w' : World} {buf buf' old out : List ℕ} {f : Turn} {at : 
     → Turns w buf (to + got) f w' buf' old out → Handed at (take f.filled out) done
     → to + got ≤ length buf → length buf ≤ length out → 0 < got
     → (n : Next) (over : Bool)
-    → n.to ≡ f.rest → n.got ≡ got → n.shown ≡ f.filled → over ≡ is_over w'.watch.stage.phase
+    → n.got ≡ got → n.shown ≡ f.filled → over ≡ is_over w'.watch.stage.phase
     → n.stand ≡ cond done (cond over S.Over S.Reading) S.Stuck
-    → Takes at (take got (drop to buf)) w (take to buf) n w' (take n.to buf') out
-piece-takes {w} {w'} {buf} {buf'} {old} {out} {f} {at} {done} to got t d h b p n over e g k o z =
+    → Takes at (take got (drop to buf)) w (take to buf) n w' (take f.rest buf') out
+piece-takes {w} {w'} {buf} {buf'} {old} {out} {f} {at} {done} to got t d h b p n over g k o z =
     let join : take (to + got) buf ≡ take to buf ++ take got (drop to buf) = take-add to got buf in
     record {
       got = length-take-le got (drop to buf) (omega (arith, length-drop to buf)) ∙ sym g;
@@ -144,7 +84,7 @@ piece-takes {w} {w'} {buf} {buf'} {old} {out} {f} {at} {done} to got t d h b p n
       room = omega (arith, g, h, b);
       handed = rw (k, z, sym (piece-done done over)) d;
       stands =
-          rw (e, k, z, sym join)
+          rw (k, z, sym join)
           (piece-stands t.goes t.world t.rest _ done over o);
     }
 

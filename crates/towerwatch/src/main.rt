@@ -7,20 +7,21 @@
 #![tactic(auto)]
 
 ghost use Rattle.std.specs.Prelude.{cond, List, [], ◌≡◌, ℕ, ◌+◌, ◌≤◌, ◌<◌, length, take, drop};
-ghost use Rattle.player.specs.Card.{World, world_of, start_world};
+ghost use Rattle.player.specs.Card.{World, world_of, start_world, held_by};
 ghost use Rattle.feeder.specs.Feed.{Ready};
-ghost use Rattle.towerwatch.specs.Run.{output_room, is_reading, Takes, Once, Whole};
+ghost use Rattle.towerwatch.specs.Run.{output_room, Takes, Once, Whole};
 ghost use Rattle.towerwatch.specs.Program.{Program};
 ghost use Rattle.towerwatch.specs.Turns.{Handed};
 
-use player::Watch;
+use feeder::Turn;
+use player::Player;
 use std::io::{Stdin, Stdout};
 
 // The bytes that the output has room for.
 const OUTPUT: usize = 65536;
 
 // How the program stands after a turn.
-#[derive(Clone, Copy)]
+#[derive(Clone, Copy, PartialEq, Eq)]
 enum Stand {
     // It reads on.
     Reading,
@@ -32,11 +33,20 @@ enum Stand {
     Stuck,
 }
 
-// What a turn leaves: `to` bytes are left over. In it `got` bytes came in, and `shown` were handed over.
+// What the program keeps between two turns: the player, the buffer that is read into, whose first `to` bytes are left
+// over, and the buffer that what is printed is put into.
+#[derive(Drop)]
+struct Memory<'a> {
+    player: Player<'a>,
+    buf: &'a mut [u8],
+    to: usize,
+    out: &'a mut [u8],
+    ghost ready: { Ready buf.now to out.now × (length out.now ≡ output_room) },
+}
+
+// A turn: so many bytes came in, and so many were handed over.
 #[derive(Clone, Copy)]
 struct Next {
-    watch: Watch,
-    to: usize,
     got: usize,
     shown: usize,
     stand: Stand,
@@ -78,154 +88,88 @@ fn ended(done: bool) -> Stand
 fn going(done: bool, over: bool) -> Stand
     ensures { result ≡ cond done (cond over Stand.Over Stand.Reading) Stand.Stuck }
 {
-    if done {
+    if !done {
+        Stand::Stuck
+    } else if over {
+        Stand::Over
+    } else {
+        Stand::Reading
+    }
+}
+
+impl Memory<'_> {
+    // The end of the input, where no byte came in: what the bytes that are left over print, whatever the lent arrays
+    // hold. `at` bytes of the output came before.
+    fn end(&mut self, stdout: Stdout, got: usize, at: u64) -> Next
+        requires { got ≡ 0 }
+        ensures { (ps t c v : List ℕ) (w : World) (s : List ℕ) →
+            Takes at [] (world_of self.old.player.watch ps t c v) (take self.old.to self.old.buf.now) result w s
+            self.new.out.now }
+    {
+        let watch = self.player.watch;
+        let to = self.to;
+        let buf = &mut *self.buf;
+        let out = &mut *self.out;
+        let shown = feeder::finish(watch, buf, to, out);
+        let done = hand(stdout, out, shown, at);
+        let stand = ended(done);
+        Next { got, shown, stand }
+    }
+
+    // A piece of `got` bytes, after those that were left over: what it prints. `at` bytes of the output came before.
+    fn piece(&mut self, stdout: Stdout, got: usize, at: u64) -> Next
+        requires { (self.old.to + got ≤ length self.old.buf.now) × (0 < got) }
+        ensures { Takes at (take got (drop self.old.to self.old.buf.now)) (held_by self.old.player)
+            (take self.old.to self.old.buf.now) result
+            (held_by self.new.player) (take self.new.to self.new.buf.now) self.new.out.now }
+    {
+        let to = self.to;
+        let buf = &mut *self.buf;
+        let out = &mut *self.out;
+        let Turn { rest, filled } = feeder::run_turn(&mut self.player, buf, to + got, out);
+        self.to = rest;
+        let done = hand(stdout, out, filled, at);
+        let over = player::is_over(self.player.watch);
+        let stand = going(done, over);
+        Next {
+            got,
+            shown: filled,
+            stand,
+        }
+    }
+
+    // One read, and what it prints. `before` bytes of the input came before, and `at` bytes of the output.
+    fn once(&mut self, stdin: Stdin, stdout: Stdout, before: u64, at: u64) -> Next
+        ensures { Once before at (held_by self.old.player) (take self.old.to self.old.buf.now) result
+            (held_by self.new.player) (take self.new.to self.new.buf.now) self.new.out.now }
+    {
+        let to = self.to;
+        let buf = &mut *self.buf;
+        let got = streams::read(stdin, buf, to, before);
+        let over = got == 0;
         if over {
-            return Stand::Over;
+            return self.end(stdout, got, at);
         }
-        return Stand::Reading;
+        self.piece(stdout, got, at)
     }
-    Stand::Stuck
-}
 
-fn reads_on(stand: Stand) -> bool
-    ensures { result ≡ is_reading stand }
-{
-    match stand {
-        Stand::Reading => true,
-        Stand::Ended => false,
-        Stand::Over => false,
-        Stand::Stuck => false,
-    }
-}
-
-// The end of the input, where no byte came in and the first `to` bytes of buf are left over: what they print, whatever
-// the lent arrays hold. `at` bytes of the output came before.
-fn end(
-    stdout: Stdout,
-    watch: Watch,
-    buf: &[u8],
-    to: usize,
-    got: usize,
-    out: &mut [u8],
-    at: u64,
-) -> Next
-    requires { Ready buf.now to out.old × (got ≡ 0) }
-    ensures { (result.to ≡ 0) × ((ps t c v : List ℕ) (w : World) (s : List ℕ) →
-        Takes at [] (world_of watch ps t c v) (take to buf.now) result w s out.new) }
-{
-    let last = feeder::finish(watch, buf, to, out);
-    let done = hand(stdout, out, last, at);
-    let stand = ended(done);
-    Next {
-        watch: watch,
-        to: 0,
-        got: got,
-        shown: last,
-        stand: stand,
-    }
-}
-
-// A piece of `got` bytes, after the first `to` bytes of buf, which were left over: what it prints. `at` bytes of the
-// output came before.
-fn piece(
-    stdout: Stdout,
-    watch: Watch,
-    buf: &mut [u8],
-    to: usize,
-    got: usize,
-    parameters: &mut [u32; limits::PARAMETERS],
-    table: &mut [u32],
-    state: &mut [u32],
-    values: &mut [u32],
-    out: &mut [u8],
-    at: u64,
-) -> Next
-    requires { Ready buf.old to out.old × (to + got ≤ length buf.old) × (0 < got) }
-    ensures ready { Ready buf.new result.to out.new }
-    ensures takes { Takes at (take got (drop to buf.old))
-        (world_of watch parameters.old table.old state.old values.old) (take to buf.old) result
-        (world_of result.watch parameters.new table.new state.new values.new) (take result.to buf.new) out.new }
-{
-    let f = feeder::run_turn(watch, buf, to + got, parameters, table, state, values, out);
-    let filled = f.filled;
-    let next = f.watch;
-    let rest = f.rest;
-    let done = hand(stdout, out, filled, at);
-    let over = player::is_over(next);
-    let stand = going(done, over);
-    Next {
-        watch: next,
-        to: rest,
-        got: got,
-        shown: filled,
-        stand: stand,
-    }
-}
-
-// One read, and what it prints. `before` bytes of the input came before, and `at` bytes of the output.
-fn once(
-    stdin: Stdin,
-    stdout: Stdout,
-    watch: Watch,
-    buf: &mut [u8],
-    to: usize,
-    parameters: &mut [u32; limits::PARAMETERS],
-    table: &mut [u32],
-    state: &mut [u32],
-    values: &mut [u32],
-    out: &mut [u8],
-    before: u64,
-    at: u64,
-) -> Next
-    requires { Ready buf.old to out.old }
-    ensures ready { Ready buf.new result.to out.new }
-    ensures once { Once before at
-        (world_of watch parameters.old table.old state.old values.old) (take to buf.old) result
-        (world_of result.watch parameters.new table.new state.new values.new) (take result.to buf.new) out.new }
-{
-    let got = streams::read(stdin, buf, to, before);
-    let over = got == 0;
-    if over {
-        return end(stdout, watch, buf, to, got, out, at);
-    }
-    piece(
-        stdout, watch, buf, to, got, parameters, table, state, values, out, at,
-    )
-}
-
-// Reads until the input ends, the card is over or a write fails. `ps` are the parameters.
-fn run(
-    stdin: Stdin,
-    stdout: Stdout,
-    buf: &mut [u8],
-    ps: &mut [u32; limits::PARAMETERS],
-    table: &mut [u32],
-    state: &mut [u32],
-    values: &mut [u32],
-    out: &mut [u8],
-) -> Total
-    requires ready { Ready buf.old 0 out.old × (length out.old ≡ output_room) }
-    requires values_value { world_of start_world.watch ps.old table.old state.old values.old ≡ start_world }
-    ensures whole { Whole result }
-    ensures program { Program result }
-{
-    let mut watch = player::begin();
-    let mut to = 0;
-    let mut got = 0u64;
-    let mut shown = 0u64;
-    loop {
-        let n = once(
-            stdin, stdout, watch, buf, to, ps, table, state, values, out, got, shown,
-        );
-        got += n.got as u64;
-        shown += n.shown as u64;
-        let stand = n.stand;
-        if !reads_on(stand) {
-            return Total { got, shown, stand };
+    // Reads until the input ends, the card is over or a write fails.
+    fn run(&mut self, stdin: Stdin, stdout: Stdout) -> Total
+        requires { (held_by self.old.player ≡ start_world) × (self.old.to ≡ 0) }
+        ensures whole { Whole result }
+        ensures program { Program result }
+    {
+        let mut got = 0u64;
+        let mut shown = 0u64;
+        loop {
+            let n = self.once(stdin, stdout, got, shown);
+            got += n.got as u64;
+            shown += n.shown as u64;
+            let stand = n.stand;
+            if stand != Stand::Reading {
+                return Total { got, shown, stand };
+            }
         }
-        let next = n.watch;
-        watch = next;
-        to = n.to;
     }
 }
 
@@ -234,18 +178,20 @@ fn run(
 fn main(rt: HostRuntime) {
     let mut buf = [0u8; 32768];
     let mut out = [0u8; OUTPUT];
-    let mut parameters = [0u32; limits::PARAMETERS];
     let mut table = [0u32; limits::TABLE];
     let mut state = [0u32; limits::EQUATIONS];
     let mut values = [0u32; limits::EQUATIONS];
-    run(
-        rt.stdin(),
-        rt.stdout(),
-        &mut buf,
-        &mut parameters,
-        &mut table,
-        &mut state,
-        &mut values,
-        &mut out,
-    );
+    let mut memory = Memory {
+        player: Player {
+            watch: player::begin(),
+            parameters: [0; limits::PARAMETERS],
+            table: &mut table,
+            state: &mut state,
+            values: &mut values,
+        },
+        buf: &mut buf,
+        to: 0,
+        out: &mut out,
+    };
+    memory.run(rt.stdin(), rt.stdout());
 }

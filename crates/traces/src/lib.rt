@@ -63,14 +63,7 @@ pub fn tick_of(
 pub fn parameters_fit(limit: u32, parameters: &[u32; limits::PARAMETERS]) -> bool
     ensures { result ≡ parameters_fit limit parameters.now }
 {
-    let mut j = 0;
-    while j < limits::PARAMETERS {
-        if limit <= parameters[j] {
-            return false;
-        }
-        j += 1;
-    }
-    true
+    parameters.iter().all(|parameter| *parameter < limit)
 }
 
 // The comparison of that number (SPEC 1.3). A number above 4 is that of no comparison, and a table with an equation

@@ -13,6 +13,8 @@ use borrow.Author.Tests.{ltb-true, leb-true, eqb-false, not-true}
 use Rattle.limits.specs.Limits.{word_limit, signal_count, parameter_count, last_literal}
 use Rattle.limits.specs.Context.{standard_context}
 use Rattle.limits.specs.declared.Context.{Context}
+use Rattle.limits.specs.declared.Refusal.{Refusal}
+use Rattle.limits.specs.Refusal.{number}
 use Rattle.lists.specs.Text.{byte}
 use Rattle.lists.specs.Number.{number_at}
 use Rattle.lists.specs.Same.{same}
@@ -28,8 +30,8 @@ use Rattle.words.specs.Split.{keyword_among, keyword_of, word_from, number_of, l
 use Rattle.words.specs.Split.{awaits_velocity, word_of, Out, add, words, wrong_size, split_of}
 use Rattle.words.specs.Split.Out.{refused, made}
 use Rattle.words.specs.Contract.{Ranged}
-use Rattle.words.specs.declared.Word.{Word}
-use Rattle.words.specs.declared.Word.TheVariants.{Made, Bad}
+use Rattle.words.specs.Split.{Word}
+use Rattle.std.specs.Prelude.{Ok, Err}
 
 -- The context of the specification has velocities with words of their own.
 pub standard-ranged : Ranged standard_context
@@ -42,19 +44,19 @@ pub record Fine (context : Context) (w : ℕ) : Type 0 where
   pub velocity : Ranged context → VELOCITY ≤ w → w < LITERAL → w < VELOCITY + context.velocities
 
 -- A refusal of the words is 1 to 4.
-abbrev pub Refusal : ℕ → Type 0
-Refusal n = (1 ≤ n) × (n ≤ 4)
+abbrev pub OfWords : Refusal → Type 0
+OfWords r = (1 ≤ number r) × (number r ≤ 4)
 
 abbrev pub FineWord : Context → Word → Type 0
-FineWord context (Made w) = Fine context w
-FineWord context (Bad n) = Refusal n
+FineWord context (Ok w) = Fine context w
+FineWord context (Err r) = OfWords r
 
 pub record FineList (context : Context) (ws : List ℕ) : Type 0 where
   pub few : length ws ≤ word_limit
   pub each : (i : ℕ) → i < length ws → Fine context (number_at ws i)
 
 abbrev pub FineOut : Context → Out → Type 0
-FineOut context (refused n) = Refusal n
+FineOut context (refused r) = OfWords r
 FineOut context (made ws) = FineList context ws
 
 -- A class is at most OTHER: the operators' words by a test over their table.
@@ -169,8 +171,8 @@ module _ (context : Context) where
   add-fine : (w : Word) (ws : List ℕ) (rest : List ℕ → Out) → FineWord context w → FineList context ws
       → (length ws ≡ word_limit → ⊥) → ((more : List ℕ) → FineList context more → FineOut context (rest more))
       → FineOut context (add w ws rest)
-  add-fine (Made w) ws rest f h n go = go (ws ++ w ∷ []) (more-fine ws w h n f)
-  add-fine (Bad k) ws rest f h n go = f
+  add-fine (Ok w) ws rest f h n go = go (ws ++ w ∷ []) (more-fine ws w h n f)
+  add-fine (Err k) ws rest f h n go = f
 
   words-fine : (l : List ℕ) (p : ℕ) (ws : List ℕ) → FineList context ws → FineOut context (words context l p ws)
   unfolding words
@@ -192,8 +194,8 @@ module _ (context : Context) where
       (λ _. words-fine text SPACE [] (record { few = omega arith; each = λ i h. absurd (omega arith) }))
 
   -- The theorems.
-  pub refusal-numbered : (text : List ℕ) (n : ℕ) → split_of context text ≡ refused n → Refusal n
-  refusal-numbered text n e = subst (FineOut context) e (split-fine text)
+  pub refusal-numbered : (text : List ℕ) (r : Refusal) → split_of context text ≡ refused r → OfWords r
+  refusal-numbered text r e = subst (FineOut context) e (split-fine text)
 
   module _ (text ws : List ℕ) (e : split_of context text ≡ made ws) where
     fine : FineList context ws

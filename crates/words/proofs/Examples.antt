@@ -6,6 +6,8 @@ use Prim.Native.Nat.{ℕ, ◌+◌, ◌-◌}
 use lib.ListN.{replicate}
 use Rattle.limits.specs.Limits.{text_limit, word_limit}
 use Rattle.limits.specs.Context.{standard_context}
+use Rattle.limits.specs.declared.Refusal.{Refusal}
+use Rattle.limits.specs.declared.Refusal.TheVariants.{TextSize, BadWord, NumberTooHigh, TooManyWords}
 use Rattle.lists.specs.Text.{byte, bytes}
 use Rattle.lists.specs.Text.{line_end}
 use Rattle.lists.specs.Decimal.{is_digit, digits_after, numeral}
@@ -24,8 +26,8 @@ pub record Example : Type 0 where
 abbrev splits : List ℕ → List ℕ → Example
 splits text ws = record { text = text; out = made ws }
 
-abbrev refuses : List ℕ → ℕ → Example
-refuses text n = record { text = text; out = refused n }
+abbrev refuses : List ℕ → Refusal → Example
+refuses text r = record { text = text; out = refused r }
 
 -- n words `(`, and n spaces.
 abbrev rounds : ℕ → List ℕ
@@ -73,19 +75,19 @@ examples =
     splits (bytes "lag[s0,1,s1]")
     (LAG ∷ SQUARE ∷ signal 0 ∷ COMMA ∷ literal 1 ∷ COMMA ∷ signal 1 ∷ SQUARE-END ∷ []) ∷
     splits (bytes ",lag,,") (COMMA ∷ LAG ∷ COMMA ∷ COMMA ∷ []) ∷
-    refuses (bytes "lag[s0,1000000,s1]") 3 ∷
-    refuses (bytes "lag[s0,01,s1]") 2 ∷
-    refuses (bytes "la") 2 ∷
-    refuses (bytes "lags") 2 ∷
+    refuses (bytes "lag[s0,1000000,s1]") NumberTooHigh ∷
+    refuses (bytes "lag[s0,01,s1]") BadWord ∷
+    refuses (bytes "la") BadWord ∷
+    refuses (bytes "lags") BadWord ∷
     -- the literal behind `v` and a comparison (SPEC 2.11), whatever stands around it
     splits (bytes "end[v>=90]") (END ∷ SQUARE ∷ VEL ∷ GE ∷ velocity 90 ∷ SQUARE-END ∷ []) ∷
     splits (bytes "v<0 v<=127") (VEL ∷ LT ∷ velocity 0 ∷ VEL ∷ LE ∷ velocity 127 ∷ []) ∷
-    refuses (bytes "v<200") 3 ∷
-    refuses (bytes "end[v>=128") 3 ∷
-    refuses (bytes "v>=0128") 2 ∷
-    refuses (bytes "v>=128x") 2 ∷
-    refuses (bytes "v5") 2 ∷
-    refuses (bytes "vv") 2 ∷
+    refuses (bytes "v<200") NumberTooHigh ∷
+    refuses (bytes "end[v>=128") NumberTooHigh ∷
+    refuses (bytes "v>=0128") BadWord ∷
+    refuses (bytes "v>=128x") BadWord ∷
+    refuses (bytes "v5") BadWord ∷
+    refuses (bytes "vv") BadWord ∷
     splits (bytes "v>=k0") (VEL ∷ GE ∷ parameter 0 ∷ []) ∷
     -- any other literal: the two words before are not these, or not in this order, or there are no two
     splits (bytes "v < = 200") (VEL ∷ LT ∷ EQ ∷ literal 200 ∷ []) ∷
@@ -96,33 +98,33 @@ examples =
     splits (bytes "<200") (LT ∷ literal 200 ∷ []) ∷
     splits (bytes "len<=200") (LEN ∷ LE ∷ literal 200 ∷ []) ∷
     -- how long a text is (SPEC 2.1)
-    refuses [] 1 ∷
-    refuses (spaces (text_limit + 1)) 1 ∷
+    refuses [] TextSize ∷
+    refuses (spaces (text_limit + 1)) TextSize ∷
     splits (spaces text_limit) [] ∷
     splits (bytes "   ") [] ∷
     -- numbers at the ends of their ranges (SPEC 7.3)
     splits (bytes "s0") (signal 0 ∷ []) ∷
     splits (bytes "s63") (signal 63 ∷ []) ∷
-    refuses (bytes "s64") 3 ∷
+    refuses (bytes "s64") NumberTooHigh ∷
     splits (bytes "k7") (parameter 7 ∷ []) ∷
-    refuses (bytes "k8") 3 ∷
+    refuses (bytes "k8") NumberTooHigh ∷
     splits (bytes "0") (literal 0 ∷ []) ∷
     splits (bytes "999999") (literal 999999 ∷ []) ∷
-    refuses (bytes "1000000") 3 ∷
+    refuses (bytes "1000000") NumberTooHigh ∷
     -- a first 0 with digits behind it (SPEC 2.8), also where the number is too high
-    refuses (bytes "s064") 2 ∷
-    refuses (bytes "k08") 2 ∷
-    refuses (bytes "00") 2 ∷
+    refuses (bytes "s064") BadWord ∷
+    refuses (bytes "k08") BadWord ∷
+    refuses (bytes "00") BadWord ∷
     -- runs that are no word
-    refuses (bytes "s") 2 ∷
-    refuses (bytes "x") 2 ∷
-    refuses (bytes "1a") 2 ∷
-    refuses (bytes "s1s2") 2 ∷
-    refuses (bytes "beginend") 2 ∷
+    refuses (bytes "s") BadWord ∷
+    refuses (bytes "x") BadWord ∷
+    refuses (bytes "1a") BadWord ∷
+    refuses (bytes "s1s2") BadWord ∷
+    refuses (bytes "beginend") BadWord ∷
     -- bytes that are in no word (SPEC 7.2): `B`, tab and line end
-    refuses (bytes "Begin") 2 ∷
-    refuses (9 ∷ []) 2 ∷
-    refuses (line_end ∷ []) 2 ∷
+    refuses (bytes "Begin") BadWord ∷
+    refuses (9 ∷ []) BadWord ∷
+    refuses (line_end ∷ []) BadWord ∷
     -- operators of one byte and of two (SPEC 2.3)
     splits (bytes "<=") (LE ∷ []) ∷
     splits (bytes ">=") (GE ∷ []) ∷
@@ -131,13 +133,13 @@ examples =
     splits (bytes "> =") (GT ∷ EQ ∷ []) ∷
     splits (bytes "len<=3") (LEN ∷ LE ∷ literal 3 ∷ []) ∷
     -- the first word that is refused decides (SPEC 8.1)
-    refuses (bytes "x 1000000") 2 ∷
-    refuses (bytes "1000000 x") 3 ∷
+    refuses (bytes "x 1000000") BadWord ∷
+    refuses (bytes "1000000 x") NumberTooHigh ∷
     -- one word too many, be it a word or not (SPEC 7.4), and a bad word before it
     splits (rounds word_limit) (replicate word_limit ROUND) ∷
-    refuses (rounds (word_limit + 1)) 4 ∷
-    refuses (rounds word_limit ++ bytes "x") 4 ∷
-    refuses (rounds (word_limit - 1) ++ bytes "x(") 2 ∷
+    refuses (rounds (word_limit + 1)) TooManyWords ∷
+    refuses (rounds word_limit ++ bytes "x") TooManyWords ∷
+    refuses (rounds (word_limit - 1) ++ bytes "x(") BadWord ∷
     []
 
 pub examples-hold : map (λ e. split_of standard_context e.text) examples ≡ map (λ e. e.out) examples

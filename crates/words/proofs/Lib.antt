@@ -1,6 +1,5 @@
--- Laws on bytes, runs, keywords, numbers and words, and what splitting a text gives.
+-- Laws on bytes, runs, numbers and words, and what splitting a text gives.
 pub mod Classes
-pub mod Keywords
 pub mod Numbers
 pub mod Runs
 pub mod Widths

@@ -2,22 +2,20 @@
 use mathlib.Core.Bool.{Bool, true, false, cond, ◌&&◌, ◌||◌, false≢true}
 use mathlib.Core.List.{List, [], ◌∷◌}
 use mathlib.Core.Path.{◌≡◌, refl, sym, ◌∙◌}
-use Prim.Native.Nat.{ℕ, ◌+◌, ◌<◌}
-use native.Mathlib.Numerals.{add-one}
+use Prim.Native.Nat.{ℕ, ◌≤◌, ◌<◌}
 use native.Mathlib.Omega.{arith}
 use lib.Dec.{eqb}
 use lib.ListN.{length, drop}
-use lib.Seq.{drop-cons, drop-drop}
 use borrow.Author.Tests.{eqb-true, eqb-false, ne_eqb}
 use Rattle.limits.specs.declared.Context.{Context}
 use Rattle.lists.specs.Text.{byte}
 use Rattle.lists.specs.Number.{number_at}
 use Rattle.lists.specs.Decimal.{is_digit}
 use Rattle.words.specs.Word.{LT, EQ, GT}
-use Rattle.words.specs.Split.{SPACE, RUN, OTHER, class_of, goes_on, run, words}
+use Rattle.words.specs.Split.{SPACE, RUN, class_of, goes_on, run, words}
 use Rattle.words.specs.Width.{operator_width, width_of}
 use Rattle.words.proofs.Classes.{no-equals}
-use Rattle.words.proofs.Runs.{run-some}
+use Rattle.words.proofs.Runs.{run_length, run_some}
 
 module _ (context : Context) where
   -- Where no word goes on.
@@ -63,38 +61,37 @@ module _ (context : Context) where
       rw (is-run, sym e ∙ is-run) (past-run l ws)
   word-past c b l ws e false t = operator-past c b (eqb-false c RUN t) l ws _ _ refl refl
 
-  -- The same at the byte i of a text.
-  pub text-past : (text : List ℕ) (i c : ℕ) (ws : List ℕ) → i < length text → c ≡ class_of (number_at text i)
-      → words context (drop (i + 1) text) c ws ≡ words context (drop (i + width_of c (drop i text)) text) SPACE ws
-  unfolding width_of
-  text-past text i c ws h e =
-      rw (← (drop-drop (width_of c (drop i text)) i text), drop-cons text i 0 h, add-one i)
-      (word-past c (number_at text i) _ ws e (eqb c RUN) refl)
+  -- The same after the first word of a text, of class c.
+  pub text-past : (c : ℕ) (text ws : List ℕ) → 0 < length text → c ≡ class_of (number_at text 0)
+      → words context (drop 1 text) c ws ≡ words context (drop (width_of c text) text) SPACE ws
+  text-past c [] ws h e = absurd (omega arith)
+  text-past c (b ∷ l) ws h e = word-past c b l ws e (eqb c RUN) refl
 
--- The width of a word, by the class of its first byte.
-module _ (l : List ℕ) (c : ℕ) where
-  pub width-run : c ≡ RUN → width_of c l ≡ length (run l)
-  unfolding width_of
-  width-run e = simp e
-
-  pub width-none : c ≡ OTHER → width_of c l ≡ 1
-  unfolding width_of
-  width-none e = simp e
-
-  pub width-operator : (c ≡ RUN → ⊥) → width_of c l ≡ operator_width c (number_at l 1)
-  unfolding width_of
-  width-operator r = simp (ne_eqb c RUN r)
-
--- A word takes a byte at least.
+-- A word takes a byte at least,
 some_at : (n : ℕ) (x y z : Bool) → (z ≡ true → 0 < n) → 0 < cond z n (cond (x && y) 2 1)
 some_at n x y true h = h refl
 some_at n true true false h = omega arith
 some_at n true false false h = omega arith
 some_at n false y false h = omega arith
 
-pub width_some : (text : List ℕ) (i c : ℕ) → i < length text → c ≡ class_of (number_at text i)
-    → 0 < width_of c (drop i text)
-unfolding width_of
-width_some text i c h e =
-    some_at _ (eqb c LT || eqb c GT) (eqb (number_at (drop i text) 1) (byte "=")) (eqb c RUN)
-    (λ t. run-some text i h (sym e ∙ eqb-true c RUN t))
+pub width_some : (c : ℕ) (text : List ℕ) → 0 < length text → c ≡ class_of (number_at text 0) → 0 < width_of c text
+width_some c text h e =
+    some_at _ (eqb c LT || eqb c GT) (eqb (number_at text 1) (byte "=")) (eqb c RUN)
+    (λ t. run_some text h (sym e ∙ eqb-true c RUN t))
+
+-- and no more than there are.
+fits_at : (n m : ℕ) (x y z : Bool) → n ≤ m → 0 < m → (y ≡ true → 1 < m) → cond z n (cond (x && y) 2 1) ≤ m
+fits_at n m x y true f h g = f
+fits_at n m true true false f h g = g refl
+fits_at n m true false false f h g = omega arith
+fits_at n m false y false f h g = omega arith
+
+second : (text : List ℕ) → eqb (number_at text 1) (byte "=") ≡ true → 1 < length text
+second [] e = absurd (false≢true e)
+second (b ∷ []) e = absurd (false≢true e)
+second (b ∷ d ∷ l) e = omega arith
+
+pub width_fits : (c : ℕ) (text : List ℕ) → 0 < length text → width_of c text ≤ length text
+width_fits c text h =
+    fits_at _ _ (eqb c LT || eqb c GT) (eqb (number_at text 1) (byte "=")) (eqb c RUN) (run_length text) h
+    (second text)

@@ -1,15 +1,14 @@
 -- What splitting a text asks of its context and of the buffer of words, what it answers, and what it leaves in the
 -- buffer. Definitions only.
-use Rattle.std.specs.Prelude.{◌≡◌, List, ℕ, ◌+◌, ◌≤◌, ◌<◌, length}
+use Rattle.std.specs.Prelude.{◌≡◌, List, ℕ, ◌+◌, ◌≤◌, ◌<◌, length, Result, Ok, Err}
 use Rattle.std.proofs.lemmas.List.Edits.{sets}
 use Rattle.limits.specs.Limits.{word_limit}
 use Rattle.limits.specs.declared.Context.{Context}
+use Rattle.limits.specs.declared.Refusal.{Refusal}
 use Rattle.lists.specs.Number.{number_at}
 use Rattle.words.specs.Word.{VELOCITY, LITERAL}
 use Rattle.words.specs.Split.{class_of, Out, split_of}
 use Rattle.words.specs.Split.Out.{refused, made}
-use Rattle.words.specs.declared.Split.{Split}
-use Rattle.words.specs.declared.Split.TheVariants.{Words, Refused}
 
 -- A context's velocities have words of their own: there is one, and the words of all are below those of other literals
 -- (SPEC 2.11).
@@ -22,16 +21,19 @@ pub record Splittable (context : Context) (out : List ℕ) : Type 0 where
   pub ranged : Ranged context
   pub room : word_limit ≤ length out
 
--- What reading the word at i asks: such a context, and a byte there whose class is c.
-pub record Begun (context : Context) (text : List ℕ) (i c : ℕ) : Type 0 where
+-- What reading the first word of a text asks: such a context, and a first byte, whose class is c.
+pub record Begun (context : Context) (text : List ℕ) (c : ℕ) : Type 0 where
   pub ranged : Ranged context
-  pub inside : i < length text
-  pub class : c ≡ class_of (number_at text i)
+  pub some : 0 < length text
+  pub class : c ≡ class_of (number_at text 0)
 
--- How many words there are, or the refusal's number.
+-- How many words a text has, or the refusal.
+abbrev pub Split : Type 0
+Split = Result ℕ Refusal
+
 abbrev pub split_answer : Out → Split
-split_answer (refused n) = Refused n
-split_answer (made ws) = Words (length ws)
+split_answer (refused r) = Err r
+split_answer (made ws) = Ok (length ws)
 
 -- The answer r for a text, and the buffer as it was lent, out₀, and as it is left, out: at its front stand the words,
 -- all else is kept.

@@ -1,9 +1,11 @@
 -- How a text is split into words (SPEC 2.1 to SPEC 2.9, SPEC 2.11), and refusals 1 to 4. Definitions only.
 use Rattle.std.specs.Prelude.{Bool, not, ◌&&◌, ◌||◌, cond, List, [], ◌∷◌, ◌++◌, reverse, ℕ, suc, ◌+◌, ◌-◌, eqb, ltb}
-use Rattle.std.specs.Prelude.{length, drop}
+use Rattle.std.specs.Prelude.{length, drop, Result, Ok, Err}
 use Prim.Native.String.{String}
 use Rattle.limits.specs.Limits.{text_limit, word_limit, signal_count, parameter_count, last_literal}
 use Rattle.limits.specs.declared.Context.{Context}
+use Rattle.limits.specs.declared.Refusal.{Refusal}
+use Rattle.limits.specs.declared.Refusal.TheVariants.{TextSize, BadWord, NumberTooHigh, TooManyWords}
 use Rattle.lists.specs.Text.{byte}
 use Rattle.lists.specs.Number.{number_at}
 use Rattle.lists.specs.Same.{same}
@@ -11,8 +13,6 @@ use Rattle.lists.specs.Decimal.{Numeral, is_digit, numeral}
 use Rattle.lists.specs.Decimal.Numeral.{is, above, missing}
 use Rattle.words.specs.Word.{ROUND, ROUND-END, SQUARE, SQUARE-END, NOT, AND, OR, LE, LT, EQ, GT, GE, COMMA}
 use Rattle.words.specs.Word.{BEGIN, VEL, PARAMETER, SIGNAL, VELOCITY, LITERAL, keywords, within, is_op}
-use Rattle.words.specs.declared.Word.{Word}
-use Rattle.words.specs.declared.Word.TheVariants.{Made, Bad}
 
 -- What class of byte stands in a text. SPEC 2.2: a space is in no word. SPEC 2.4: a letter or a digit belongs to a run.
 -- SPEC 2.3: an operator byte is the number of the word that it is by itself. SPEC 7.2: any other byte makes no word.
@@ -76,14 +76,18 @@ keyword_among (k ∷ ks) n r = let other = keyword_among ks (suc n) r in spelled
 unfoldable pub keyword_of : List ℕ → ℕ
 keyword_of r = keyword_among keywords BEGIN r
 
+-- One word: its number, or refusal 2 or 3 (SPEC 7.2, SPEC 7.3).
+abbrev pub Word : Type 0
+Word = Result ℕ Refusal
+
 -- The word of a number, base + n. SPEC 7.2: there is no number, or a byte is left behind it, as after a first 0 with
 -- digits behind it (SPEC 2.8). SPEC 7.3: the number is too high.
 abbrev pub word_from : ℕ → Numeral → Word
-word_from base (is n []) = Made (base + n)
-word_from base (is n (b ∷ l)) = Bad 2
-word_from base (above []) = Bad 3
-word_from base (above (b ∷ l)) = Bad 2
-word_from base missing = Bad 2
+word_from base (is n []) = Ok (base + n)
+word_from base (is n (b ∷ l)) = Err BadWord
+word_from base (above []) = Err NumberTooHigh
+word_from base (above (b ∷ l)) = Err BadWord
+word_from base missing = Err BadWord
 
 -- A number up to max.
 unfoldable pub number_of : ℕ → ℕ → List ℕ → Word
@@ -107,7 +111,7 @@ literal_of context awaited r =
 -- literal. Here and below `awaited` says whether the literal would be a velocity's.
 unfoldable pub run_of : Context → Bool → List ℕ → Word
 run_of context awaited r =
-    cond (ltb 0 (keyword_of r)) (Made (keyword_of r))
+    cond (ltb 0 (keyword_of r)) (Ok (keyword_of r))
     (cond (eqb (number_at r 0) (byte "s")) (number_of SIGNAL (signal_count - 1) (drop 1 r))
     (cond (eqb (number_at r 0) (byte "k")) (number_of PARAMETER (parameter_count - 1) (drop 1 r))
     (literal_of context awaited r)))
@@ -115,22 +119,22 @@ run_of context awaited r =
 -- SPEC 2.3: `<` and `>` take in a `=` behind them.
 abbrev pub longest : ℕ → ℕ → Word
 longest c next =
-    Made (cond (eqb c LT && eqb next (byte "=")) LE (cond (eqb c GT && eqb next (byte "=")) GE c))
+    Ok (cond (eqb c LT && eqb next (byte "=")) LE (cond (eqb c GT && eqb next (byte "=")) GE c))
 
 -- The word at the front of a text whose first byte is of class c; of some bytes none begins (SPEC 7.2).
 unfoldable pub word_of : Context → Bool → ℕ → List ℕ → Word
 word_of context awaited c l =
-    cond (eqb c RUN) (run_of context awaited (run l)) (cond (eqb c OTHER) (Bad 2) (longest c (number_at l 1)))
+    cond (eqb c RUN) (run_of context awaited (run l)) (cond (eqb c OTHER) (Err BadWord) (longest c (number_at l 1)))
 
 -- What splitting a text gives: its words, or the first refusal.
 pub data Out : Type 0 where
-  refused : ℕ → Out
+  refused : Refusal → Out
   made : List ℕ → Out
 
 -- The words so far and one more.
 abbrev pub add : Word → List ℕ → (List ℕ → Out) → Out
-add (Made w) ws rest = rest (ws ++ w ∷ [])
-add (Bad n) ws rest = refused n
+add (Ok w) ws rest = rest (ws ++ w ∷ [])
+add (Err r) ws rest = refused r
 
 -- SPEC 8.1: word by word, up to the first refusal. SPEC 7.4: after the last word that there is room for (SPEC 2.9), one
 -- more is not looked at. p is the class of the byte before, ws the words so far.
@@ -140,11 +144,11 @@ words context (b ∷ l) p ws =
     let word = word_of context (awaits_velocity ws) (class_of b) (b ∷ l) in
     let one = add word ws (λ more. words context l (class_of b) more) in
     let none = words context l (class_of b) ws in
-    cond (begins p (class_of b)) (cond (eqb (length ws) word_limit) (refused 4) one) none
+    cond (begins p (class_of b)) (cond (eqb (length ws) word_limit) (refused TooManyWords) one) none
 
 -- SPEC 7.1: there is no byte, or more than a text can have (SPEC 2.1).
 abbrev pub wrong_size : List ℕ → Bool
 wrong_size text = eqb (length text) 0 || ltb text_limit (length text)
 
 unfoldable pub split_of : Context → List ℕ → Out
-split_of context text = cond (wrong_size text) (refused 1) (words context text SPACE [])
+split_of context text = cond (wrong_size text) (refused TextSize) (words context text SPACE [])

@@ -11,5 +11,5 @@ abbrev pub operator_width : ℕ → ℕ → ℕ
 operator_width c next = cond ((eqb c LT || eqb c GT) && eqb next (byte "=")) 2 1
 
 -- The word at the front of a text whose first byte is of class c.
-unfoldable pub width_of : ℕ → List ℕ → ℕ
+abbrev pub width_of : ℕ → List ℕ → ℕ
 width_of c l = cond (eqb c RUN) (length (run l)) (operator_width c (number_at l 1))

@@ -1,17 +1,18 @@
 // The words of a rule text, as numbers (SPEC 2.3 to SPEC 2.7, SPEC 2.11). specs/Word.antt says which number is which
-// word, specs/Split.antt how a text is split.
+// word, specs/Split.antt how a text is split. They are numbers and no enum, since the grammar and its theorems are about
+// lists of numbers, and the words of one class are those of a range.
 #![tactic(auto)]
 
-ghost use Rattle.std.specs.Prelude.{◌≡◌, cond, ◌&&◌, ◌+◌, ◌≤◌, ◌<◌, ◌^◌, eqb, ltb, length, drop};
+ghost use Rattle.std.specs.Prelude.{◌≡◌, ◌&&◌, ◌+◌, ◌≤◌, ◌<◌, ◌^◌, eqb, length, drop, MatchOption, MatchResult};
 ghost use Rattle.limits.specs.Limits.{literal_count};
-ghost use Rattle.words.specs.Word.{VEL, LITERAL, within, is_op, is_signal, is_num, is_velocity, is_bit, is_test};
-ghost use Rattle.words.specs.Word.{is_count};
-ghost use Rattle.words.specs.Split.{RUN, class_of, run, spelled_or, keyword_of, number_of, literal_of, run_of};
-ghost use Rattle.words.specs.Split.{longest, word_of, wrong_size};
+ghost use Rattle.lists.specs.Number.{number_at};
+ghost use Rattle.words.specs.Word.{VEL, LITERAL, is_op, is_signal, is_num, is_velocity, is_bit, is_test, is_count};
+ghost use Rattle.words.specs.Split.{RUN, class_of, run, keyword_of, number_of, literal_of, run_of, longest, word_of};
+ghost use Rattle.words.specs.Split.{wrong_size};
 ghost use Rattle.words.specs.Width.{operator_width, width_of};
 ghost use Rattle.words.specs.Contract.{Ranged, Splittable, Begun, Splits};
 
-use limits::Context;
+use limits::{Context, Refusal};
 use lists::Decimal;
 
 pub const ROUND: u32 = 1;
@@ -86,28 +87,15 @@ const RUN: u32 = 40;
 
 const OTHER: u32 = 50;
 
-// One word: its number, or refusal 2 or 3 (SPEC 7.2, SPEC 7.3).
-#[derive(Clone, Copy)]
-enum Word {
-    Made(u32),
-    Bad(u32),
-}
-
-// A word and the place after it in its text.
+// A word, and how many bytes it takes.
 #[derive(Clone, Copy)]
 struct Token {
-    pub word: Word,
-    pub end: usize,
-}
-
-// A text's words, or the refusal's number.
-#[derive(Clone, Copy)]
-pub enum Split {
-    Words(usize),
-    Refused(u32),
+    word: u32,
+    width: usize,
 }
 
 // The class of a byte, by one match (SPEC 12.5): it decides which words the byte can be part of.
+#[tactic(auto, unfolding(crate::specs::Split::class_of, lists::specs::Decimal::is_digit))]
 fn class(b: u8) -> u32
     ensures { result ≡ class_of b }
 {
@@ -131,276 +119,215 @@ fn class(b: u8) -> u32
 
 // Whether a byte is part of a run. It has the ranges of `class` once more, so that `class` keeps one caller and is
 // inlined there.
+#[tactic(auto, unfolding(crate::specs::Split::class_of, lists::specs::Decimal::is_digit))]
 fn in_run(b: u8) -> bool
     ensures { result ≡ eqb (class_of b) RUN }
 {
-    match b {
-        b'a'..=b'z' | b'0'..=b'9' => true,
-        _ => false,
-    }
+    matches!(b, b'a'..=b'z' | b'0'..=b'9')
 }
 
-// The end of the run that starts at i.
-fn run_end(text: &[u8], i: usize) -> usize
-    requires { i ≤ length text.now }
-    ensures { result ≡ i + length (run (drop i text.now)) }
+// How many bytes the run has that begins at a text's first byte.
+fn run_length(text: &[u8]) -> usize
+    requires { (0 < length text.now) × (class_of (number_at text.now 0) ≡ RUN) }
+    ensures { result ≡ length (run text.now) }
 {
-    let mut end = i;
-    while end < text.len() {
-        if !in_run(text[end]) {
-            return end;
-        }
-        end += 1;
-    }
-    end
+    let rest = &text[1..];
+    1 + rest.iter().position(|b| !in_run(*b)).unwrap_or(rest.len())
 }
 
-// The word of a keyword, if the run spells it; else the other number.
-fn spelled_or(run: &[u8], spelling: &[u8], word: u32, other: u32) -> u32
-    ensures { result ≡ spelled_or run.now spelling.now word other }
+// The keyword that a run spells, if it is one. The first byte leaves one keyword to compare with, or two.
+#[tactic(auto, unfolding(crate::specs::Split::keyword_of, crate::specs::Split::keyword_among))]
+fn keyword(run: &[u8]) -> Option<u32>
+    requires { 0 < length run.now }
+    ensures { MatchOption result (keyword_of run.now ≡ 0) (λ word. (word ≡ keyword_of run.now) × (0 < word)) }
 {
-    if lists::same_bytes(run, spelling) {
-        word
-    } else {
-        other
-    }
-}
-
-// The keyword that a run spells, 0 if it is none. The first byte leaves one keyword to compare with, or two.
-fn keyword(run: &[u8]) -> u32
-    ensures { result ≡ keyword_of run.now }
-{
-    match lists::byte_at(run, 0) {
-        b'b' => spelled_or(run, b"begin", BEGIN, 0),
-        b'e' => spelled_or(run, b"end", END, spelled_or(run, b"exists", EXISTS, 0)),
-        b'p' => spelled_or(run, b"point", POINT, 0),
-        b'h' => spelled_or(run, b"held", HELD, 0),
-        b'k' => spelled_or(run, b"kept", KEPT, 0),
-        b'l' => spelled_or(run, b"len", LEN, spelled_or(run, b"lag", LAG, 0)),
-        b's' => spelled_or(run, b"sum", SUM, 0),
-        b'a' => spelled_or(run, b"age", AGE, 0),
-        b't' => spelled_or(run, b"then", THEN, 0),
-        b'c' => spelled_or(run, b"chop", CHOP, 0),
-        b'v' => spelled_or(run, b"v", VEL, 0),
-        _ => 0,
-    }
-}
-
-// The word, if the digits end at that place; else bytes are left that belong to no number.
-fn if_ended(digits: &[u8], end: usize, word: Word) -> Word
-    ensures { result ≡ cond (ltb end (length digits.now)) (Word.Bad 2) word }
-{
-    if end < digits.len() {
-        Word::Bad(2)
-    } else {
-        word
+    match run[0] {
+        b'b' if run == b"begin".as_slice() => Some(BEGIN),
+        b'e' if run == b"end".as_slice() => Some(END),
+        b'e' if run == b"exists".as_slice() => Some(EXISTS),
+        b'p' if run == b"point".as_slice() => Some(POINT),
+        b'h' if run == b"held".as_slice() => Some(HELD),
+        b'k' if run == b"kept".as_slice() => Some(KEPT),
+        b'l' if run == b"len".as_slice() => Some(LEN),
+        b'l' if run == b"lag".as_slice() => Some(LAG),
+        b's' if run == b"sum".as_slice() => Some(SUM),
+        b'a' if run == b"age".as_slice() => Some(AGE),
+        b't' if run == b"then".as_slice() => Some(THEN),
+        b'c' if run == b"chop".as_slice() => Some(CHOP),
+        b'v' if run == b"v".as_slice() => Some(VEL),
+        _ => None,
     }
 }
 
 // A number up to max, as the word base + n. It has to be all of the digits.
-fn number(digits: &[u8], base: u32, max: u32) -> Word
+#[tactic(auto, unfolding(crate::specs::Split::number_of))]
+fn number(digits: &[u8], base: u32, max: u32) -> Result<u32, Refusal>
     requires { (base ≤ LITERAL) × (max < literal_count) }
     ensures { result ≡ number_of base max digits.now }
 {
     match lists::read_decimal(digits, 0, max) {
-        Decimal::Is { value, next } => if_ended(digits, next, Word::Made(base + value)),
-        Decimal::Above { next } => if_ended(digits, next, Word::Bad(3)),
-        Decimal::Missing => Word::Bad(2),
+        Decimal::Is { value, next } if next >= digits.len() => Ok(base + value),
+        Decimal::Above { next } if next >= digits.len() => Err(Refusal::NumberTooHigh),
+        _ => Err(Refusal::BadWord),
     }
 }
 
 // A literal: up to the last velocity where one is awaited (SPEC 2.11), else up to the last literal (SPEC 2.7).
-fn literal_word(context: Context, awaited: bool, run: &[u8]) -> Word
+fn literal_word(context: Context, awaited: bool, run: &[u8]) -> Result<u32, Refusal>
     requires { Ranged context }
     ensures { result ≡ literal_of context awaited run.now }
 {
     if awaited {
-        return number(run, VELOCITY, context.velocities - 1);
+        number(run, VELOCITY, context.velocities - 1)
+    } else {
+        number(run, LITERAL, limits::LAST_LITERAL)
     }
-    number(run, LITERAL, limits::LAST_LITERAL)
 }
 
 // The word that a run is.
-fn run_word(context: Context, awaited: bool, run: &[u8]) -> Word
+#[tactic(auto, unfolding(crate::specs::Split::run_of))]
+fn run_word(context: Context, awaited: bool, run: &[u8]) -> Result<u32, Refusal>
     requires { Ranged context × (0 < length run.now) }
     ensures { result ≡ run_of context awaited run.now }
 {
-    let word = keyword(run);
-    if word > 0 {
-        return Word::Made(word);
+    if let Some(word) = keyword(run) {
+        return Ok(word);
     }
-    match run[0] {
-        b's' => number(&run[1..], SIGNAL, LAST_SIGNAL),
-        b'k' => number(&run[1..], PARAMETER, LAST_PARAMETER),
+    match run {
+        [b's', digits @ ..] => number(digits, SIGNAL, LAST_SIGNAL),
+        [b'k', digits @ ..] => number(digits, PARAMETER, LAST_PARAMETER),
         _ => literal_word(context, awaited, run),
     }
 }
 
-// The word of an operator byte of class c, at i before the byte next.
-fn operator_at(c: u32, next: u8, i: usize) -> Token
-    requires { i < 2 ^ 63 }
-    ensures { (result.word ≡ longest c next) × (result.end ≡ i + operator_width c next) }
+// The word of an operator byte of class c before the byte next.
+fn operator(c: u32, next: u8) -> Token
+    ensures { (Ok result.word ≡ longest c next) × (result.width ≡ operator_width c next) }
 {
-    if next != b'=' {
-        return Token {
-            word: Word::Made(c),
-            end: i + 1,
-        };
-    }
-    match c {
-        LT => Token {
-            word: Word::Made(LE),
-            end: i + 2,
-        },
-        GT => Token {
-            word: Word::Made(GE),
-            end: i + 2,
-        },
-        _ => Token {
-            word: Word::Made(c),
-            end: i + 1,
-        },
+    match (c, next) {
+        (LT, b'=') => Token { word: LE, width: 2 },
+        (GT, b'=') => Token { word: GE, width: 2 },
+        _ => Token { word: c, width: 1 },
     }
 }
 
-// The word that begins at i with a byte of class c; `awaited` says whether a literal here is a velocity's.
-fn word_at(context: Context, awaited: bool, text: &[u8], i: usize, c: u32) -> Token
-    requires { Begun context text.now i c }
-    ensures { (result.word ≡ word_of context awaited c (drop i text.now))
-        × (result.end ≡ i + width_of c (drop i text.now)) }
+// The word that begins at a text's first byte, of class c; `awaited` says whether a literal here is a velocity's.
+#[tactic(auto, unfolding(crate::specs::Split::word_of), using(crate::proofs::Runs::front))]
+fn first_word(context: Context, awaited: bool, text: &[u8], c: u32) -> Result<Token, Refusal>
+    requires { Begun context text.now c }
+    ensures { MatchResult result
+        (λ token. (Ok token.word ≡ word_of context awaited c text.now) × (token.width ≡ width_of c text.now))
+        (λ refusal. Err refusal ≡ word_of context awaited c text.now) }
 {
-    if c == RUN {
-        let end = run_end(text, i + 1);
-        let word = run_word(context, awaited, &text[i..end]);
-        return Token { word, end };
+    match c {
+        RUN => {
+            let width = run_length(text);
+            let word = run_word(context, awaited, &text[..width])?;
+            Ok(Token { word, width })
+        }
+        OTHER => Err(Refusal::BadWord),
+        _ => Ok(operator(c, text.get(1).copied().unwrap_or(0))),
     }
-    if c == OTHER {
-        return Token {
-            word: Word::Bad(2),
-            end: i + 1,
-        };
-    }
-    operator_at(c, lists::byte_at(text, i + 1), i)
 }
 
 // Whether a text has no byte, or more than a text can have (SPEC 2.1).
 fn wrong_size(text: &[u8]) -> bool
     ensures { result ≡ wrong_size text.now }
 {
-    if text.len() == 0 {
-        return true;
-    }
-    text.len() > limits::TEXT
+    text.is_empty() || text.len() > limits::TEXT
 }
 
 // Whether a velocity is awaited behind two words: `v` and a comparison (SPEC 2.11).
 fn awaits_velocity(before: u32, last: u32) -> bool
     ensures { result ≡ (eqb before VEL && is_op last) }
 {
-    if before != VEL {
-        return false;
-    }
-    is_op(last)
+    before == VEL && is_op(last)
 }
 
-// The words of a text, stored at the front of out; refusals 1 to 4 (SPEC 8.1). Of the words so far, `last` is the last
-// one and `before` the one before it, 0 where there is none.
-pub fn split_text(context: Context, text: &[u8], out: &mut [u32]) -> Split
+// The words of a text, stored at the front of out, and how many there are; refusals 1 to 4 (SPEC 8.1). Of the words so
+// far, `last` is the last one and `before` the one before it, 0 where there is none.
+pub fn split_text(context: Context, text: &[u8], out: &mut [u32]) -> Result<usize, Refusal>
     requires { Splittable context out.old }
     ensures { Splits context text.now out.old result out.new }
 {
     if wrong_size(text) {
-        return Split::Refused(1);
+        return Err(Refusal::TextSize);
     }
     let mut before: u32 = 0;
     let mut last: u32 = 0;
     let mut count: usize = 0;
-    let mut i: usize = 0;
-    while i < text.len() {
-        let c = class(text[i]);
+    let mut rest = text;
+    while let [first, after @ ..] = rest {
+        let c = class(*first);
         if c == SPACE {
-            i += 1;
-        } else {
-            if count == limits::WORDS {
-                return Split::Refused(4);
-            }
-            let token = word_at(context, awaits_velocity(before, last), text, i, c);
-            let made = token.word;
-            match made {
-                Word::Made(word) => {
-                    out[count] = word;
-                    count += 1;
-                    before = last;
-                    last = word;
-                    i = token.end;
-                }
-                Word::Bad(n) => {
-                    return Split::Refused(n);
-                }
-            }
+            rest = after;
+            continue;
         }
+        if count == limits::WORDS {
+            return Err(Refusal::TooManyWords);
+        }
+        let token = first_word(context, awaits_velocity(before, last), rest, c)?;
+        out[count] = token.word;
+        count += 1;
+        before = last;
+        last = token.word;
+        rest = &rest[token.width..];
     }
-    Split::Words(count)
-}
-
-// Whether w is a number from lo to hi.
-fn is_within(lo: u32, hi: u32, w: u32) -> bool
-    ensures { result ≡ within lo hi w }
-{
-    if w < lo {
-        return false;
-    }
-    w <= hi
+    Ok(count)
 }
 
 // A comparison.
+#[tactic(auto, unfolding(crate::specs::Word::is_op))]
 pub fn is_op(w: u32) -> bool
     ensures { result ≡ is_op w }
 {
-    is_within(LE, GE, w)
+    matches!(w, LE..=GE)
 }
 
 // A signal.
+#[tactic(auto, unfolding(crate::specs::Word::is_signal))]
 pub fn is_signal(w: u32) -> bool
     ensures { result ≡ is_signal w }
 {
-    is_within(SIGNAL, SIGNAL + LAST_SIGNAL, w)
+    (SIGNAL..=SIGNAL + LAST_SIGNAL).contains(&w)
 }
 
 // A parameter or a literal.
+#[tactic(auto, unfolding(crate::specs::Word::is_num))]
 pub fn is_num(w: u32) -> bool
     ensures { result ≡ is_num w }
 {
-    if is_within(PARAMETER, PARAMETER + LAST_PARAMETER, w) {
-        return true;
-    }
-    w >= LITERAL
+    (PARAMETER..=PARAMETER + LAST_PARAMETER).contains(&w) || w >= LITERAL
 }
 
 // The literal of a velocity test.
+#[tactic(auto, unfolding(crate::specs::Word::is_velocity))]
 pub fn is_velocity(w: u32) -> bool
     ensures { result ≡ is_velocity w }
 {
-    is_within(VELOCITY, LITERAL - 1, w)
+    (VELOCITY..LITERAL).contains(&w)
 }
 
 // The literal 0 or 1.
+#[tactic(auto, unfolding(crate::specs::Word::is_bit))]
 pub fn is_bit(w: u32) -> bool
     ensures { result ≡ is_bit w }
 {
-    is_within(LITERAL, LITERAL + 1, w)
+    (LITERAL..=LITERAL + 1).contains(&w)
 }
 
 // `begin`, `end`, `point`, `held` or `kept`.
+#[tactic(auto, unfolding(crate::specs::Word::is_test))]
 pub fn is_test(w: u32) -> bool
     ensures { result ≡ is_test w }
 {
-    is_within(BEGIN, KEPT, w)
+    matches!(w, BEGIN..=KEPT)
 }
 
 // `sum` or `age`.
+#[tactic(auto, unfolding(crate::specs::Word::is_count))]
 pub fn is_count(w: u32) -> bool
     ensures { result ≡ is_count w }
 {
-    is_within(SUM, AGE, w)
+    matches!(w, SUM | AGE)
 }

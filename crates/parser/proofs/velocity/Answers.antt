@@ -16,7 +16,7 @@ use Rattle.grammar.proofs.Words.{op-number}
 use Rattle.facts.specs.Facts.{leaf_facts}
 use Rattle.facts.specs.declared.Facts.{Facts}
 use Rattle.parser.specs.Contract.{ParsesVelocity, Pushed}
-use Rattle.parser.specs.declared.Parsed.TheVariants.{At}
+use Rattle.parser.specs.Contract.{parsed}
 use Rattle.parser.proofs.Stored.{to-tree, reads-to, pushed, stored-as}
 use Rattle.parser.proofs.velocity.Goals as goal
 
@@ -25,7 +25,7 @@ a_test : {ws : List ℕ} {i : ℕ} {before : List ℕ} {top : ℕ} {after : List
     → word ws i ≡ VEL → is_op (word ws (i + 1)) ≡ true → is_velocity (word ws (i + 2)) ≡ true
     → a ≡ op_number (op_word (word ws (i + 1))) → b ≡ velocity_word (word ws (i + 2))
     → Pushed before top Arena.VELOCITY a b 0 e after → f ≡ leaf_facts
-    → ParsesVelocity ws i before top (At (i + 3) e f) after
+    → ParsesVelocity ws i before top (parsed (i + 3) e f) after
 a_test {ws} {i} w o n ea eb u facts =
     reads-to (to-tree (velocity (op_word (word ws (i + 1))) (velocity_word (word ws (i + 2))))
     (simp (eq-eqb _ _ w, o, n))
@@ -48,4 +48,4 @@ returns c =
     a_test (sym c.number_at.ensures ∙ c.if-number_at-ne-VEL.false) (ap is_op (sym o.ensures) ∙ is-op)
     (ap is_velocity (sym n.ensures) ∙ is-literal)
     (sym (op-number o.result is-op) ∙ ap (λ (x : ℕ). op_number (op_word x)) o.ensures)
-    (ap velocity_word n.ensures) c.push-end.ensures c.leaf_facts.ensures
+    (ap velocity_word n.ensures) c.push.ensures c.leaf_facts.ensures
