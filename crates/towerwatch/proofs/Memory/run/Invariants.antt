@@ -1,5 +1,5 @@
--- `towerwatch::Memory::run`: from the start the turns have come to what the memory holds (`Reached`), and the bytes that
--- may still come fall.
+-- `towerwatch::Memory::run`: from the start the turns have come to what the memory holds (`Reached`), and the bytes
+-- that may still come fall.
 use Rattle.std.proofs.Common.{length, take}
 use Rattle.player.specs.Card.{held_by}
 use Rattle.towerwatch.proofs.Progress.{Reached, budget}
