@@ -12,7 +12,6 @@ use Rattle.tables.specs.Table.{all, kind_of, shape_of, same_sort, is_flow, opera
 use Rattle.tables.specs.Table.{equations_fit, closes, checked}
 use Rattle.limits.specs.Limits.{parameter_count, standard_cap, velocity_count}
 use Rattle.limits.specs.Reply.{Reply, gives, refused}
-use Rattle.limits.specs.Refusal.{number}
 use Rattle.tables.specs.Reply.{checked_reply}
 use Rattle.tables.specs.Table.{Checked}
 use Rattle.flows.specs.Flow.{increased, value_of, flows, answer_of, memories_set, initial, in_range}
@@ -22,9 +21,6 @@ use Rattle.flows.specs.Step.{cell_fits, fresh_checked, step_checked, freshened, 
 use Rattle.flows.specs.Step.{stepped}
 use Rattle.flows.specs.Run.{Call, steps, answered}
 use Rattle.std.specs.Prelude.{Ok}
-use Rattle.limits.specs.declared.Refusal.{Refusal}
-use Rattle.limits.specs.declared.Refusal.TheVariants.{BadEquation, CellOutOfRange, EquationCount, ParameterTooHigh}
-use Rattle.limits.specs.declared.Refusal.TheVariants.{ShortState, VelocityTooHigh}
 
 -- f0=s5; f1=b; f2=true; f3=not f0; f4=f0 and f1; f5=f0 or f1; f6=true->pre(f0); f7=0->pre(f8); f8=cap(f7,f0);
 -- f9=if f6 then f8 else 0; f10=f8>1; f11=f8<=k0;
@@ -50,10 +46,6 @@ fresh = replicate 6 9 ++ (1 ∷ 0 ∷ replicate 6 9)
 abbrev call : ℕ → ℕ → ℕ → ℕ → Call
 call s g x room = record { tick = tick s g x; values = replicate room 7 }
 
--- The reply with that refusal.
-abbrev refuses : Refusal → Reply
-refuses r = refused (number r)
-
 -- What the specification's check answers.
 abbrev check : List ℕ → ℕ → Checked
 check = checked velocity_count
@@ -67,8 +59,8 @@ told xs = map step_reply (answered (steps standard_cap velocity_count table 12 f
 check-rows : map checked_reply
     (check table 12 ∷ check table 0 ∷ check table 13 ∷ check table 4097 ∷ check (drop 4 table) 11
     ∷ check table 10 ∷ check table 11 ∷ check table 1 ∷ check table 2 ∷ [])
-    ≡ gives 0 ∷ refuses EquationCount ∷ refuses EquationCount ∷ refuses EquationCount ∷ refuses BadEquation
-    ∷ refuses BadEquation ∷ refuses BadEquation ∷ refuses BadEquation ∷ gives 0 ∷ []
+    ≡ gives 0 ∷ refused 10 ∷ refused 10 ∷ refused 10 ∷ refused 11
+    ∷ refused 11 ∷ refused 11 ∷ refused 11 ∷ gives 0 ∷ []
 unfolding checked length_fits equations_fit closes all shape_fits shape_of kind_of operand_fits is_flow same_sort
 check-rows = refl
 
@@ -78,7 +70,7 @@ unfolding freshened fresh_checked length_fits equations_fit closes all shape_fit
     memories_set is_memory initial
 fresh-row = refl
 
-fresh-short : fresh_reply (freshened velocity_count table 12 (replicate 11 9)).answer ≡ refuses ShortState
+fresh-short : fresh_reply (freshened velocity_count table 12 (replicate 11 9)).answer ≡ refused 12
 unfolding freshened fresh_checked length_fits equations_fit closes all shape_fits shape_of kind_of operand_fits is_flow
     same_sort
 fresh-short = refl
@@ -86,7 +78,7 @@ fresh-short = refl
 -- One equation alone, and a count last but one: 11, before all that a fresh state and a step refuse by 12 and 13.
 fresh-unclosed : map fresh_reply
     ((freshened velocity_count table 1 []).answer ∷ (freshened velocity_count table 11 []).answer ∷ [])
-    ≡ refuses BadEquation ∷ refuses BadEquation ∷ []
+    ≡ refused 11 ∷ refused 11 ∷ []
 unfolding freshened fresh_checked length_fits equations_fit closes all shape_fits shape_of kind_of operand_fits is_flow
     same_sort
 fresh-unclosed = refl
@@ -94,7 +86,7 @@ fresh-unclosed = refl
 step-unclosed : map step_reply
     ((stepped standard_cap velocity_count table 1 [] [] (tick 1 32 1000000)).answer
     ∷ (stepped standard_cap velocity_count table 11 [] [] (tick 1 32 1000000)).answer ∷ [])
-    ≡ refuses BadEquation ∷ refuses BadEquation ∷ []
+    ≡ refused 11 ∷ refused 11 ∷ []
 unfolding stepped step_checked length_fits equations_fit closes all shape_fits shape_of kind_of operand_fits is_flow
     same_sort
 step-unclosed = refl
@@ -103,7 +95,7 @@ step-unclosed = refl
 -- started flow, f10, is 0 at the first tick.
 step-rows : told
     (call 1 32 1 12 ∷ call 1 32 1 11 ∷ call 0 32 1 13 ∷ call 0 0 1000000 12 ∷ call 0 0 1 12 ∷ [])
-    ≡ gives 2 ∷ refuses ShortState ∷ gives 0 ∷ refuses ParameterTooHigh ∷ gives 0 ∷ []
+    ≡ gives 2 ∷ refused 12 ∷ gives 0 ∷ refused 13 ∷ gives 0 ∷ []
 unfolding steps stepped step_checked length_fits equations_fit closes all shape_fits shape_of kind_of operand_fits
     is_flow
     same_sort memories_set is_memory after_tick answer_of flows value_of increased parameter_fits cell_fits in_range
@@ -138,7 +130,7 @@ cell_row :
     step_reply
     (stepped standard_cap velocity_count table 12
     (replicate 7 1 ++ (1000001 ∷ replicate 4 0)) (replicate 12 7) (tick 0 0 1)).answer
-    ≡ refuses CellOutOfRange
+    ≡ refused 14
 unfolding stepped step_checked length_fits equations_fit closes all shape_fits shape_of kind_of operand_fits is_flow
     same_sort
     parameter_fits cell_fits in_range is_memory
@@ -171,7 +163,7 @@ stroke a b c = 12 ∷ a ∷ b ∷ c ∷ 2 ∷ 1 ∷ 0 ∷ 0 ∷ []
 
 literal-rows : map checked_reply
     (check (stroke 4 127 0) 2 ∷ check (stroke 4 128 0) 2 ∷ check (stroke 5 127 0) 2 ∷ check (stroke 4 127 1) 2 ∷ [])
-    ≡ gives 0 ∷ refuses BadEquation ∷ refuses BadEquation ∷ refuses BadEquation ∷ []
+    ≡ gives 0 ∷ refused 11 ∷ refused 11 ∷ refused 11 ∷ []
 unfolding checked length_fits equations_fit closes all shape_fits shape_of kind_of operand_fits is_flow same_sort
 literal-rows = refl
 
@@ -184,7 +176,7 @@ refusal_of room x cell v =
 velocity-rows : (
     refusal_of 12 1 0 127 ∷ refusal_of 12 1 0 128 ∷ refusal_of 11 1 0 128 ∷ refusal_of 12 1000000 0 128
     ∷ refusal_of 12 1 1000001 128 ∷ [])
-    ≡ gives 2 ∷ refuses VelocityTooHigh ∷ refuses ShortState ∷ refuses ParameterTooHigh ∷ refuses CellOutOfRange ∷ []
+    ≡ gives 2 ∷ refused 19 ∷ refused 12 ∷ refused 13 ∷ refused 14 ∷ []
 unfolding stepped step_checked length_fits equations_fit closes all shape_fits shape_of kind_of operand_fits is_flow
     same_sort
     memories_set is_memory after_tick answer_of flows value_of increased parameter_fits cell_fits in_range

@@ -2,15 +2,15 @@
 -- Assumes nothing.
 use mathlib.Core.Path.{◌≡◌, refl, ◌∙◌}
 use mathlib.Core.Bool.{false, not, ◌&&◌, cond}
-use mathlib.Core.List.{map}
+use mathlib.Core.List.{[], ◌∷◌, map}
 use Prim.Native.Nat.{ℕ, ◌≤◌}
 use native.Mathlib.Omega.{arith}
 use native.Mathlib.Decide.{dec_lt}
 use lib.Dec.{leb}
 use lib.ListN.{get_or-eq_default}
 use borrow.Author.Tests.{lt-leb, le-leb}
-use Rattle.tables.specs.Kind.{BOOLEAN-PRE, COUNT-PRE, IF}
-use Rattle.tables.specs.Kind.{kind_count}
+use Rattle.tables.specs.Kind.{SIGNAL, START, CONSTANT, NOT, AND, OR, BOOLEAN-PRE, COUNT-PRE, CAPPED, IF}
+use Rattle.tables.specs.Kind.{COMPARE-LITERAL, COMPARE-PARAMETER, VELOCITY, kind_count}
 use Rattle.tables.specs.Table.{kinds, kind_of, shape_of, sort_of, same_sort, all}
 use Rattle.tables.specs.declared.Kind.{Kind}
 use Rattle.tables.specs.Table.{is_memory}
@@ -18,6 +18,15 @@ use Rattle.tables.specs.declared.Sort.{Sort}
 use Rattle.tables.specs.declared.Sort.TheVariants.{Boolean, Count}
 use Rattle.std.specs.Prelude.{Option, Some, None}
 use Rattle.tables.proofs.Tests.{agrees}
+
+-- The numbers by name are those of the list of kinds, in its order.
+numbered :
+    map kind_of
+    (SIGNAL ∷ START ∷ CONSTANT ∷ NOT ∷ AND ∷ OR ∷ BOOLEAN-PRE ∷ COUNT-PRE ∷ CAPPED ∷ IF ∷ COMPARE-LITERAL
+    ∷ COMPARE-PARAMETER ∷ VELOCITY ∷ [])
+    ≡ map Some kinds
+unfolding kind_of
+numbered = refl
 
 -- The numbers after the last kind are no kinds.
 pub kind_beyond : (k : ℕ) → kind_count ≤ k → kind_of k ≡ None
