@@ -26,7 +26,7 @@ const TICK_LINE: usize = 20;
 const DIGITS: usize = 4;
 
 // How many values a byte has.
-const BYTES: usize = 256;
+pub const BYTES: usize = 256;
 
 // The edition of a stage where none is known: before the first line, and once the card is over. No line is read by it.
 // It is a number and no Option: with one, whoever reads tick lines would need a case for a stage that no card reaches.
@@ -176,7 +176,7 @@ fn count_of(s: &[u8]) -> Option<u32>
 // The value of each byte as a hexadecimal digit of SPEC 10.6, 16 where it is none: bytes and no options, which would
 // take more room. It is made once for all tick lines that are run together, or for one line by itself, and lent to the
 // functions that read them.
-#[derive(Drop)]
+#[derive(Clone, Copy)]
 pub struct HexDigits {
     values: [u8; BYTES],
 }
@@ -189,10 +189,27 @@ impl Model for HexDigits {
 
     ghost view = { λ h. h.values };
 
+    ghost inverse = { λ values. record { values = values } };
+
     ghost invariant = { λ h. h.values ≡ hex_table };
 }
 
 impl HexDigits {
+    // The table that an array is, where it has the value of each byte.
+    pub fn from_values(values: [u8; BYTES]) -> HexDigits
+        requires { values ≡ hex_table }
+        ensures { result ≡ hex_table }
+    {
+        HexDigits { values }
+    }
+
+    // The value of each byte, in the order of the bytes.
+    pub fn values(&self) -> &[u8; BYTES]
+        ensures { result.now ≡ hex_table }
+    {
+        &self.values
+    }
+
     // The value of a byte that is a digit.
     #[tactic(auto, using(crate::proofs::Hex::table_at))]
     fn value(&self, b: u8) -> Option<u64>

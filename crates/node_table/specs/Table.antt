@@ -1,5 +1,5 @@
 -- What the code's nodes are of the observer scheme (scheme, specs/Scheme.antt). Definitions only.
-use Rattle.std.specs.Prelude.{List, [], ◌∷◌, ◌++◌, ℕ, Option, Some, None}
+use Rattle.std.specs.Prelude.{List, [], ◌∷◌, ◌++◌, map, ℕ, zero, suc, Option, Some, None, option_map}
 use Rattle.scheme.specs.Scheme.{Name as SchemeName, RowKind as SchemeRowKind, Row as SchemeRow, Node as SchemeNode}
 use Rattle.scheme.specs.Scheme.{node_list, no_node}
 use Rattle.scheme.specs.Scheme.Name.{Nought as nought, Negated as negated, Start as start, Last as last}
@@ -58,6 +58,16 @@ scheme_node d =
       result = scheme_name d.result;
       negated = scheme_name d.negated;
     }
+
+-- What stands at each place for a row of a node: a row, or None.
+abbrev pub row_places : Node → List (Option SchemeRow)
+row_places d = map (option_map scheme_row) d.rows
+
+-- The first n rows, each at its place, with None at each place past the last.
+abbrev pub padded_rows : ℕ → List SchemeRow → List (Option SchemeRow)
+padded_rows zero rs = []
+padded_rows (suc n) [] = None ∷ padded_rows n []
+padded_rows (suc n) (r ∷ rs) = Some r ∷ padded_rows n rs
 
 -- Every node, and none past the last kind.
 unfoldable pub node_table : List SchemeNode

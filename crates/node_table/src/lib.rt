@@ -2,8 +2,8 @@
 #![tactic(auto)]
 
 ghost use Rattle.std.specs.Prelude.{◌≡◌, map, min};
-ghost use Rattle.scheme.specs.Scheme.{node_count, comparison_of};
-ghost use Rattle.node_table.specs.Table.{scheme_node, node_table, kind_by};
+ghost use Rattle.scheme.specs.Scheme.{widest, node_count, comparison_of};
+ghost use Rattle.node_table.specs.Table.{scheme_node, row_places, padded_rows, node_table, kind_by};
 
 use formulas::RecordKind;
 
@@ -376,7 +376,9 @@ const NODES: [Node; PLACES] = [
 
 // All of them: a copy, of which a pass takes one.
 pub fn all_nodes() -> [Node; PLACES]
-    ensures { map scheme_node result ≡ node_table }
+    ensures nodes { map scheme_node result ≡ node_table }
+    // In each the rows stand first and in order, and only None follows them.
+    ensures rows { map row_places result ≡ map (λ d. padded_rows widest d.rows) node_table }
 {
     NODES
 }

@@ -4,6 +4,9 @@
 // (SPEC 7.13). The lines of `stdin` and `stdout` are written by hand from the specification.
 #![tactic(auto)]
 
+ghost use Rattle.std.specs.Prelude.{◌≤◌, length};
+ghost use Rattle.std.specs.Option.{IfSome};
+
 use lists::Decimal;
 use std::io::Read;
 
@@ -12,7 +15,9 @@ use std::io::Read;
 fn read_parameters<'a>(
     line: &'a [u8],
     parameters: &mut [u32; limits::PARAMETERS],
-) -> Option<&'a [u8]> {
+) -> Option<&'a [u8]>
+    ensures { IfSome result (λ text. length text.now ≤ length line.now) }
+{
     let mut text = line;
     for parameter in parameters.iter_mut() {
         let Decimal::Is { value, next } = lists::read_decimal(text, 0, u32::MAX) else {
@@ -30,7 +35,9 @@ fn read_line<'a>(
     rt: &impl Print,
     line: &'a [u8],
     parameters: &mut [u32; limits::PARAMETERS],
-) -> &'a [u8] {
+) -> &'a [u8]
+    ensures { length result.now ≤ length line.now }
+{
     if let Some(text) = read_parameters(line, parameters) {
         return text;
     }

@@ -12,7 +12,7 @@ enter-m-requires c =
     record {
       room = record { near = omega arith; tested = omega arith; low = omega arith };
       node =
-          node-found _ c.record_of-x.result.kind c.place_of.result _ c.all_nodes-nodes.ensures c.place_of.ensures;
+          node-found _ c.record_of-x.result.kind c.place_of.result _ c.all_nodes-nodes.ensures.nodes c.place_of.ensures;
     }
 
 pub loop-numbers-preserved : goal.loop-numbers-preserved
@@ -23,7 +23,7 @@ pub enter-requires : goal.enter-requires
 enter-requires c =
     record {
       room = record { near = omega arith; tested = omega arith; low = omega arith };
-      node = node-found _ _ c.place_of-2.result _ c.all_nodes-nodes.ensures c.place_of-2.ensures;
+      node = node-found _ _ c.place_of-2.result _ c.all_nodes-nodes.ensures.nodes c.place_of-2.ensures;
     }
 
 pub returns : goal.returns

@@ -5,4 +5,4 @@ use Rattle.node_table.proofs.all_nodes.Goals as goal
 
 pub returns : goal.returns
 unfolding node_table
-returns c = refl
+returns c = record { nodes = refl; rows = refl }
