@@ -2,6 +2,7 @@
 pub mod Classes
 pub mod Numbers
 pub mod Runs
+pub mod Spelling
 pub mod Widths
 pub mod Splitting
 pub mod Bounds

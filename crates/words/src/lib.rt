@@ -6,6 +6,7 @@
 ghost use Rattle.std.specs.Prelude.{◌≡◌, ◌&&◌, ◌+◌, ◌≤◌, ◌<◌, ◌^◌, eqb, length, drop, MatchOption, MatchResult};
 ghost use Rattle.limits.specs.Limits.{literal_count};
 ghost use Rattle.lists.specs.Number.{number_at};
+ghost use Rattle.lists.specs.Same.{same};
 ghost use Rattle.words.specs.Word.{VEL, LITERAL, is_op, is_signal, is_num, is_velocity, is_bit, is_test, is_count};
 ghost use Rattle.words.specs.Split.{RUN, class_of, run, keyword_of, number_of, literal_of, run_of, longest, word_of};
 ghost use Rattle.words.specs.Split.{wrong_size};
@@ -135,6 +136,14 @@ fn run_length(text: &[u8]) -> usize
     1 + rest.iter().position(|b| !in_run(*b)).unwrap_or(rest.len())
 }
 
+// Whether a run is that word. `==` at slices calls a function from four bytes on, where this is inlined.
+#[tactic(auto, using(crate::proofs::Spelling::spelling))]
+fn spells(run: &[u8], word: &[u8]) -> bool
+    ensures { result ≡ same run.now word.now }
+{
+    run.len() == word.len() && run.starts_with(word)
+}
+
 // The keyword that a run spells, if it is one. The first byte leaves one keyword to compare with, or two.
 #[tactic(auto, unfolding(crate::specs::Split::keyword_of, crate::specs::Split::keyword_among))]
 fn keyword(run: &[u8]) -> Option<u32>
@@ -142,19 +151,19 @@ fn keyword(run: &[u8]) -> Option<u32>
     ensures { MatchOption result (keyword_of run.now ≡ 0) (λ word. (word ≡ keyword_of run.now) × (0 < word)) }
 {
     match run[0] {
-        b'b' if run == b"begin".as_slice() => Some(BEGIN),
-        b'e' if run == b"end".as_slice() => Some(END),
-        b'e' if run == b"exists".as_slice() => Some(EXISTS),
-        b'p' if run == b"point".as_slice() => Some(POINT),
-        b'h' if run == b"held".as_slice() => Some(HELD),
-        b'k' if run == b"kept".as_slice() => Some(KEPT),
-        b'l' if run == b"len".as_slice() => Some(LEN),
-        b'l' if run == b"lag".as_slice() => Some(LAG),
-        b's' if run == b"sum".as_slice() => Some(SUM),
-        b'a' if run == b"age".as_slice() => Some(AGE),
-        b't' if run == b"then".as_slice() => Some(THEN),
-        b'c' if run == b"chop".as_slice() => Some(CHOP),
-        b'v' if run == b"v".as_slice() => Some(VEL),
+        b'b' if spells(run, b"begin") => Some(BEGIN),
+        b'e' if spells(run, b"end") => Some(END),
+        b'e' if spells(run, b"exists") => Some(EXISTS),
+        b'p' if spells(run, b"point") => Some(POINT),
+        b'h' if spells(run, b"held") => Some(HELD),
+        b'k' if spells(run, b"kept") => Some(KEPT),
+        b'l' if spells(run, b"len") => Some(LEN),
+        b'l' if spells(run, b"lag") => Some(LAG),
+        b's' if spells(run, b"sum") => Some(SUM),
+        b'a' if spells(run, b"age") => Some(AGE),
+        b't' if spells(run, b"then") => Some(THEN),
+        b'c' if spells(run, b"chop") => Some(CHOP),
+        b'v' if spells(run, b"v") => Some(VEL),
         _ => None,
     }
 }
@@ -184,19 +193,20 @@ fn literal_word(context: Context, awaited: bool, run: &[u8]) -> Result<u32, Refu
     }
 }
 
-// The word that a run is.
+// The word that a run is, behind the words `before` and `last`.
 #[tactic(auto, unfolding(crate::specs::Split::run_of))]
-fn run_word(context: Context, awaited: bool, run: &[u8]) -> Result<u32, Refusal>
+fn run_word(context: Context, before: u32, last: u32, run: &[u8]) -> Result<u32, Refusal>
     requires { Ranged context × (0 < length run.now) }
-    ensures { result ≡ run_of context awaited run.now }
+    ensures { result ≡ run_of context (eqb before VEL && is_op last) run.now }
 {
     if let Some(word) = keyword(run) {
         return Ok(word);
     }
-    match run {
-        [b's', digits @ ..] => number(digits, SIGNAL, LAST_SIGNAL),
-        [b'k', digits @ ..] => number(digits, PARAMETER, LAST_PARAMETER),
-        _ => literal_word(context, awaited, run),
+    let digits = &run[1..];
+    match run[0] {
+        b's' => number(digits, SIGNAL, LAST_SIGNAL),
+        b'k' => number(digits, PARAMETER, LAST_PARAMETER),
+        _ => literal_word(context, awaits_velocity(before, last), run),
     }
 }
 
@@ -204,25 +214,32 @@ fn run_word(context: Context, awaited: bool, run: &[u8]) -> Result<u32, Refusal>
 fn operator(c: u32, next: u8) -> Token
     ensures { (Ok result.word ≡ longest c next) × (result.width ≡ operator_width c next) }
 {
-    match (c, next) {
-        (LT, b'=') => Token { word: LE, width: 2 },
-        (GT, b'=') => Token { word: GE, width: 2 },
+    match (next, c) {
+        (b'=', LT) => Token { word: LE, width: 2 },
+        (b'=', GT) => Token { word: GE, width: 2 },
         _ => Token { word: c, width: 1 },
     }
 }
 
-// The word that begins at a text's first byte, of class c; `awaited` says whether a literal here is a velocity's.
+// The word that begins at a text's first byte, of class c, behind the words `before` and `last`.
 #[tactic(auto, unfolding(crate::specs::Split::word_of), using(crate::proofs::Runs::front))]
-fn first_word(context: Context, awaited: bool, text: &[u8], c: u32) -> Result<Token, Refusal>
+fn first_word(
+    context: Context,
+    before: u32,
+    last: u32,
+    text: &[u8],
+    c: u32,
+) -> Result<Token, Refusal>
     requires { Begun context text.now c }
     ensures { MatchResult result
-        (λ token. (Ok token.word ≡ word_of context awaited c text.now) × (token.width ≡ width_of c text.now))
-        (λ refusal. Err refusal ≡ word_of context awaited c text.now) }
+        (λ token. (Ok token.word ≡ word_of context (eqb before VEL && is_op last) c text.now)
+        × (token.width ≡ width_of c text.now))
+        (λ refusal. Err refusal ≡ word_of context (eqb before VEL && is_op last) c text.now) }
 {
     match c {
         RUN => {
             let width = run_length(text);
-            let word = run_word(context, awaited, &text[..width])?;
+            let word = run_word(context, before, last, &text[..width])?;
             Ok(Token { word, width })
         }
         OTHER => Err(Refusal::BadWord),
@@ -266,7 +283,7 @@ pub fn split_text(context: Context, text: &[u8], out: &mut [u32]) -> Result<usiz
         if count == limits::WORDS {
             return Err(Refusal::TooManyWords);
         }
-        let token = first_word(context, awaits_velocity(before, last), rest, c)?;
+        let token = first_word(context, before, last, rest, c)?;
         out[count] = token.word;
         count += 1;
         before = last;

@@ -1,6 +1,6 @@
 -- The first refusal decides. A space leaves the words as they are, and any other byte begins one word more, which takes
 -- a byte at least and no more than there are.
-use Rattle.std.proofs.Common.{sym, ◌∙◌, length-drop, arith}
+use Rattle.std.proofs.Common.{sym, ◌∙◌, refl, length-drop, arith}
 use Rattle.std.proofs.lemmas.Result.{err_from_is_err_and}
 use borrow.Author.Rules.{part_to_end}
 use Rattle.words.proofs.Widths.{width_some, width_fits}
@@ -28,7 +28,7 @@ returns-in_err-token c =
     rw (p.1, p.2)
     (refuses _ _ _ _ _
     (split-words _ _ (sym c.wrong_size.ensures ∙ c.if-wrong_size.false)
-    ∙ breaks c.loop-rest.invariant (omega arith) c.class-c.result c.class-c.ensures _ c.awaits_velocity.ensures
+    ∙ breaks c.loop-rest.invariant (omega arith) c.class-c.result c.class-c.ensures _ refl
     c.if-c-eq-SPACE.false c.if-count-eq-WORDS.false _ c.in_err-token.ensures))
 
 pub slice_bounds-rest-count : goal.slice_bounds-rest-count
@@ -52,7 +52,7 @@ loop-rest-smaller c =
 pub loop-rest-preserved : goal.loop-rest-preserved
 loop-rest-preserved c =
     rw (part_to_end c.loop-rest.rest.now c.in_ok-token.token.width)
-    (adds c.loop-rest.invariant (omega arith) c.class-c.result c.class-c.ensures _ c.awaits_velocity.ensures
+    (adds c.loop-rest.invariant (omega arith) c.class-c.result c.class-c.ensures _ refl
     c.if-c-eq-SPACE.false c.if-count-eq-WORDS.false _ _ c.in_ok-token.ensures.0 c.in_ok-token.ensures.1)
 
 pub returns : goal.returns
