@@ -1,4 +1,5 @@
--- What the four calls gave, put together.
+-- What the four calls gave, put together: the signals that are named, their equations and those of the tests, and
+-- then the records' equations, from the first record of the arena on.
 use Rattle.emitter.proofs.Whole.{emitted}
 use Rattle.emitter.proofs.emit_observer.Goals as goal
 
