@@ -3,8 +3,8 @@
 #![tactic(auto)]
 
 ghost use Rattle.std.specs.Prelude.{◌≡◌, ◌&&◌, ◌+◌, ◌*◌, ◌≤◌, ◌<◌, length};
-ghost use Rattle.tables.specs.Table.{all, kind_of, shape_of, sort_of, same_sort, is_memory, is_flow, operand_fits, row, shape_fits};
-ghost use Rattle.tables.specs.Table.{equation_at, equation_fits, closes, checked};
+ghost use Rattle.tables.specs.Table.{all, kind_of, shape_of, sort_of, same_sort, is_memory, is_flow, operand_fits};
+ghost use Rattle.tables.specs.Table.{row, shape_fits, equation_at, equation_fits, closes, checked};
 
 use Operand::{Anywhere, Below, Earlier, Unused};
 use Sort::{Boolean, Count};
@@ -169,14 +169,27 @@ impl Kind {
     }
 }
 
-// The row for every number; one that is no kind's gets a row whose A nothing fits.
-#[tactic(auto, unfolding(crate::specs::Table::shape_of))]
+// The row for every number; one that is no kind's gets a row whose A nothing fits. Packing asks for a row again and
+// again: in each arm the row is known as the program is compiled, and to make a kind first takes a jump table.
+#[tactic(auto, unfolding(crate::specs::Table::shape_of, crate::specs::Table::kind_of))]
 pub fn row_of(k: u32) -> Shape
     ensures { result ≡ shape_of (kind_of k) }
 {
-    match Kind::try_from(k) {
-        Ok(kind) => kind.shape(),
-        Err(_) => row(
+    match k {
+        0 => Kind::Signal.shape(),
+        1 => Kind::Start.shape(),
+        2 => Kind::Constant.shape(),
+        3 => Kind::Not.shape(),
+        4 => Kind::And.shape(),
+        5 => Kind::Or.shape(),
+        6 => Kind::BooleanPre.shape(),
+        7 => Kind::CountPre.shape(),
+        8 => Kind::Capped.shape(),
+        9 => Kind::If.shape(),
+        10 => Kind::CompareLiteral.shape(),
+        11 => Kind::CompareParameter.shape(),
+        12 => Kind::Velocity.shape(),
+        _ => row(
             Operand::Below(0),
             Operand::Unused,
             Operand::Unused,
@@ -268,7 +281,8 @@ impl Table<'_> {
     #[tactic(auto, unfolding(crate::specs::Table::shape_fits))]
     fn shape_fits(self, velocities: u32, i: usize, shape: Shape) -> bool
         requires { i < self.n }
-        ensures { result ≡ shape_fits velocities self.entry.numbers.now self.entry.n i shape (equation_at self.entry.numbers.now i) }
+        ensures { result ≡ shape_fits velocities self.entry.numbers.now self.entry.n i shape
+            (equation_at self.entry.numbers.now i) }
     {
         let e = self.equation(i);
         self.operand_fits(velocities, i, shape.a, e.a)
