@@ -40,8 +40,15 @@ fn reads_into(rt: &impl Print, name: &str, text: &[u8], table: &mut [u32]) {
     }
 }
 
+#[inline(never)]
 fn reads(rt: &impl Print, name: &str, text: &[u8]) {
     reads_into(rt, name, text, &mut [NUMBER; limits::TABLE]);
+}
+
+// The same, into a table that is one number too short. A call of its own, so that no caller has two tables at once.
+#[inline(never)]
+fn reads_short(rt: &impl Print, name: &str, text: &[u8]) {
+    reads_into(rt, name, text, &mut [NUMBER; SHORT]);
 }
 
 // Compares what was written with the text, and what it is read back as with the table (SPEC 12.2).
@@ -327,18 +334,12 @@ fn read_room(rt: &impl Print) {
         "velocity 127",
         b"let\nf0=v>=127;\nf1=b;\nw=f0;\na=f1;\ntel\n",
     );
-    reads_into(
+    reads_short(
         rt,
         "one number short",
         b"let\nf0=b;\nf1=b;\nw=f0;\na=f1;\ntel\n",
-        &mut [NUMBER; SHORT],
     );
-    reads_into(
-        rt,
-        "16 before 9",
-        b"let\nf0=b;\nf1=b;\nw=f0;\na=f1;\ntel",
-        &mut [NUMBER; SHORT],
-    );
+    reads_short(rt, "16 before 9", b"let\nf0=b;\nf1=b;\nw=f0;\na=f1;\ntel");
 }
 
 // Texts that no well-formed table has (SPEC 7.16): a number with a 0 in front (SPEC 2.8),
