@@ -2,10 +2,10 @@
 use mathlib.Core.Path.{◌≡◌, refl}
 use mathlib.Core.List.{[], ◌∷◌}
 use Rattle.limits.specs.Refusal.{number}
-use Rattle.limits.specs.declared.Refusal.TheVariants.{TextSize, BadWord, NumberTooHigh, TooManyWords, OverLimits, NoRule}
-use Rattle.limits.specs.declared.Refusal.TheVariants.{BeyondFragment, NoLead, ShortTable, EquationCount, BadEquation}
-use Rattle.limits.specs.declared.Refusal.TheVariants.{ShortState, ParameterTooHigh, CellOutOfRange, ShortText, NoTable}
-use Rattle.limits.specs.declared.Refusal.TheVariants.{BadHead, BadTick, VelocityTooHigh}
+use Rattle.limits.specs.declared.Refusal.TheVariants.{TextSize, BadWord, NumberTooHigh, TooManyWords, OverLimits}
+use Rattle.limits.specs.declared.Refusal.TheVariants.{NoRule, BeyondFragment, NoLead, ShortTable, EquationCount}
+use Rattle.limits.specs.declared.Refusal.TheVariants.{BadEquation, ShortState, ParameterTooHigh, CellOutOfRange}
+use Rattle.limits.specs.declared.Refusal.TheVariants.{ShortText, NoTable, BadHead, BadTick, VelocityTooHigh}
 
 -- SPEC 7.1 to SPEC 7.8, of a rule text.
 of-texts :
